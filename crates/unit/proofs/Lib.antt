@@ -1,0 +1,4 @@
+pub mod Laws
+pub mod SoundLaws
+pub mod EditLaws
+pub mod ColumnLaws

@@ -1,0 +1,5 @@
+pub mod Numbers
+pub mod Table
+pub mod Unit
+pub mod Calls
+pub mod Inner

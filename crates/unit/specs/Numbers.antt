@@ -1,0 +1,30 @@
+-- The number of each refusal.
+use Prim.Native.Nat.{ℕ}
+use Rattle.unit.specs.declared.Refusal.{Refusal}
+use Rattle.unit.specs.declared.Refusal.the-variants.{NotSound, NoSuchTag, NoSuchSegment, NoSuchColumn, ShortWork, ShortOutput, TooManyStates, NoPlan, BadCycle, NotGranted, BadLength, BadHeader, MarkBeyondColumns}
+
+abbrev pub numberOf : Refusal → ℕ
+-- a count outside its range, a mark outside the counts, or a plan whose K is 0 or above 256
+numberOf NotSound = 1
+-- tag, segment, column not in the unit
+numberOf NoSuchTag = 2
+numberOf NoSuchSegment = 3
+numberOf NoSuchColumn = 4
+-- working words fewer than 16,000
+numberOf ShortWork = 5
+-- output too short
+numberOf ShortOutput = 6
+-- more than 256 states
+numberOf TooManyStates = 7
+-- read without a plan
+numberOf NoPlan = 8
+-- an empty list of latencies, one above 256, or a latency 0
+numberOf BadCycle = 9
+-- start not granted
+numberOf NotGranted = 10
+-- a file of fewer than 4 bytes, or of a wrong length
+numberOf BadLength = 11
+-- byte 3 or an offset of a file wrong
+numberOf BadHeader = 12
+-- a mark of a file beyond the columns
+numberOf MarkBeyondColumns = 13

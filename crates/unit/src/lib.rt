@@ -1,0 +1,355 @@
+// A function unit: which segments a task of a function occupies in which column, and the plan that was last searched for.
+// Every function here is proved, total and without a `requires`. Only this crate knows how the marks are laid out: the
+// crates above go by `marked` (specs/Unit.antt) and by the columns that `columns_of` hands out.
+ghost use mathlib.Core.Path.{_≡_};
+ghost use Prim.Native.Nat.{_-_, _^_, _≤_, _<_};
+ghost use Rattle.words.specs.Bits.{setBit, clearBit};
+ghost use Rattle.unit.specs.Inner.{cleanWord, Tested, Somewhere};
+ghost use Rattle.unit.specs.Numbers.{numberOf};
+ghost use Rattle.unit.specs.Unit.{inside, goodCounts, soundPlan, soundOf, place, wordAt, columnsOf};
+ghost use Rattle.unit.specs.Calls.{noPlan, withWord, tagAnswer, spotAnswer, freshOf, markOf, unmarkOf};
+
+// The number of a function, 1 to 4.
+pub struct Tag(pub u8);
+
+// The number of a segment, 1 to 16.
+pub struct Segment(pub u8);
+
+// A cycle of latencies for the function of the tag: count of them, their sum, and the latencies, after which all bytes
+// are 0. A tag of 0 means no plan, whatever the other fields hold.
+pub struct Plan {
+    pub tag: u8,
+    pub count: u16,
+    pub sum: u16,
+    pub latencies: [u8; 256],
+}
+
+// Word (tag - 1) * 32 + (column - 1) holds the marks of a tag in a column, bit r - 1 for segment r.
+pub struct FunctionUnit {
+    pub functions: u8,
+    pub segments: u8,
+    pub columns: u8,
+    pub marks: [u16; 128],
+    pub plan: Plan,
+}
+
+// Why a call is refused: a case for each number, in the numbers' order.
+pub enum Refusal {
+    NotSound,
+    NoSuchTag,
+    NoSuchSegment,
+    NoSuchColumn,
+    ShortWork,
+    ShortOutput,
+    TooManyStates,
+    NoPlan,
+    BadCycle,
+    NotGranted,
+    BadLength,
+    BadHeader,
+    MarkBeyondColumns,
+}
+
+pub enum Answer {
+    Done,
+    Refused(Refusal),
+}
+
+// The answer to a call that makes a unit, and the unit that it leaves.
+pub struct Outcome {
+    pub answer: Answer,
+    pub unit: FunctionUnit,
+}
+
+// The number that whoever is refused is told.
+pub fn number(why: Refusal) -> u8
+    ensures { λ r. ⌜ r ≡ numberOf why ⌝ }
+{
+    match why {
+        Refusal::NotSound => 1,
+        Refusal::NoSuchTag => 2,
+        Refusal::NoSuchSegment => 3,
+        Refusal::NoSuchColumn => 4,
+        Refusal::ShortWork => 5,
+        Refusal::ShortOutput => 6,
+        Refusal::TooManyStates => 7,
+        Refusal::NoPlan => 8,
+        Refusal::BadCycle => 9,
+        Refusal::NotGranted => 10,
+        Refusal::BadLength => 11,
+        Refusal::BadHeader => 12,
+        Refusal::MarkBeyondColumns => 13,
+    }
+}
+
+// Whether x is one of 1 to n.
+fn is_inside(x: u8, n: u8) -> bool
+    ensures { λ r. ⌜ r ≡ inside x n ⌝ }
+{
+    if 1 <= x {
+        if x <= n {
+            return true;
+        }
+    }
+    false
+}
+
+fn no_plan() -> Plan
+    ensures { λ r. ⌜ r ≡ noPlan ⌝ }
+{
+    Plan {
+        tag: 0,
+        count: 0,
+        sum: 0,
+        latencies: [0; 256],
+    }
+}
+
+fn plan_is_sound(tag: u8, count: u16) -> bool
+    ensures { λ r. ⌜ r ≡ soundPlan tag count ⌝ }
+{
+    if tag == 0 {
+        return true;
+    }
+    if count < 1 {
+        return false;
+    }
+    if 256 < count {
+        return false;
+    }
+    true
+}
+
+// Whether the word at i has no mark outside the counts.
+fn clean_word(functions: u8, segments: u8, columns: u8, i: usize, w: u16) -> bool
+    requires { ⌜ segments ≤ 16 ⌝ }
+    ensures { λ r. ⌜ (r ≡ cleanWord functions segments columns i w) × (w < 2 ^ 16) ⌝ }
+{
+    if w == 0 {
+        return true;
+    }
+    if (functions as usize) <= i / 32 {
+        return false;
+    }
+    if (columns as usize) <= i % 32 {
+        return false;
+    }
+    let top: u32 = 1 << segments;
+    if top <= (w as u32) {
+        return false;
+    }
+    true
+}
+
+fn clean_marks(functions: u8, segments: u8, columns: u8, marks: [u16; 128]) -> bool
+    requires { ⌜ segments ≤ 16 ⌝ }
+    ensures { λ r. ⌜ Tested functions segments columns marks r ⌝ }
+{
+    let mut i: usize = 0;
+    while i < 128 {
+        let w = marks[i];
+        if !clean_word(functions, segments, columns, i, w) {
+            return false;
+        }
+        i += 1;
+    }
+    true
+}
+
+fn counts(functions: u8, segments: u8, columns: u8) -> bool
+    ensures { λ r. ⌜ r ≡ goodCounts functions segments columns ⌝ }
+{
+    if !is_inside(functions, 4) {
+        return false;
+    }
+    if !is_inside(segments, 16) {
+        return false;
+    }
+    is_inside(columns, 32)
+}
+
+// Whether the counts are in their ranges, every mark lies within them, and the plan, if there is one, has 1 to 256 latencies.
+pub fn sound(u: FunctionUnit) -> bool
+    ensures { λ r. ⌜ r ≡ soundOf u ⌝ }
+{
+    if !counts(u.functions, u.segments, u.columns) {
+        return false;
+    }
+    if !plan_is_sound(u.plan.tag, u.plan.count) {
+        return false;
+    }
+    let marks = u.marks;
+    clean_marks(u.functions, u.segments, u.columns, marks)
+}
+
+// What every question about one function tries first: the unit, then the tag.
+pub fn check_tag(u: FunctionUnit, tag: Tag) -> Answer
+    ensures { λ r. ⌜ r ≡ tagAnswer u (tag .0) ⌝ }
+{
+    if !sound(u) {
+        return Answer::Refused(Refusal::NotSound);
+    }
+    if !is_inside(tag.0, u.functions) {
+        return Answer::Refused(Refusal::NoSuchTag);
+    }
+    Answer::Done
+}
+
+// Whether the mark of a tag at a segment in a column can be edited.
+fn check_spot(u: FunctionUnit, tag: Tag, segment: Segment, column: u8) -> Answer
+    ensures { λ r. ⌜ r ≡ spotAnswer u (tag .0) (segment .0) column ⌝ }
+{
+    let first = check_tag(u, tag);
+    match first {
+        Answer::Refused(why) => Answer::Refused(why),
+        Answer::Done => {
+            if !is_inside(segment.0, u.segments) {
+                return Answer::Refused(Refusal::NoSuchSegment);
+            }
+            if !is_inside(column, u.columns) {
+                return Answer::Refused(Refusal::NoSuchColumn);
+            }
+            Answer::Done
+        }
+    }
+}
+
+// The index of the word of a tag in a column.
+fn place_of(tag: u8, column: u8) -> usize
+    requires { ⌜ Somewhere tag column ⌝ }
+    ensures { λ r. ⌜ r ≡ place tag column ⌝ }
+{
+    (tag as usize - 1) * 32 + (column as usize - 1)
+}
+
+fn word_at(u: FunctionUnit, tag: u8, column: u8) -> u16
+    requires { ⌜ Somewhere tag column ⌝ }
+    ensures { λ r. ⌜ r ≡ wordAt u tag column ⌝ }
+{
+    let i = place_of(tag, column);
+    u.marks[i]
+}
+
+// The unit with another word for a tag in a column, and without plan.
+fn with_word(u: FunctionUnit, tag: u8, column: u8, word: u16) -> FunctionUnit
+    requires { ⌜ Somewhere tag column ⌝ }
+    ensures { λ r. ⌜ r ≡ withWord u tag column word ⌝ }
+{
+    let i = place_of(tag, column);
+    let mut marks = u.marks;
+    marks[i] = word;
+    let kept = no_plan();
+    FunctionUnit {
+        functions: u.functions,
+        segments: u.segments,
+        columns: u.columns,
+        marks,
+        plan: kept,
+    }
+}
+
+// A column's word with the mark of a segment.
+fn with_mark(word: u16, segment: u8) -> u16
+    requires { ⌜ (1 ≤ segment) × (segment ≤ 16) ⌝ }
+    ensures { λ r. ⌜ r ≡ setBit word (segment - 1) ⌝ }
+{
+    words::set(word as u32, segment as u32 - 1) as u16
+}
+
+// A column's word without the mark of a segment.
+fn without_mark(word: u16, segment: u8) -> u16
+    requires { ⌜ (1 ≤ segment) × (segment ≤ 16) ⌝ }
+    ensures { λ r. ⌜ r ≡ clearBit word (segment - 1) ⌝ }
+{
+    words::clear(word as u32, segment as u32 - 1) as u16
+}
+
+// The unit of the three counts, without marks or plan. Where a count is outside its range the unit that is handed out has
+// the same counts, so that every call on it is refused.
+pub fn fresh(functions: u8, segments: u8, columns: u8) -> Outcome
+    ensures { λ r. ⌜ r ≡ freshOf functions segments columns ⌝ }
+{
+    let plan = no_plan();
+    let marks = [0u16; 128];
+    let unit = FunctionUnit {
+        functions,
+        segments,
+        columns,
+        marks,
+        plan,
+    };
+    if counts(functions, segments, columns) {
+        Outcome {
+            answer: Answer::Done,
+            unit,
+        }
+    } else {
+        Outcome {
+            answer: Answer::Refused(Refusal::NotSound),
+            unit,
+        }
+    }
+}
+
+// Sets one mark and drops the plan.
+pub fn mark(u: FunctionUnit, tag: Tag, segment: Segment, column: u8) -> Outcome
+    ensures { λ r. ⌜ r ≡ markOf u (tag .0) (segment .0) column ⌝ }
+{
+    let answer = check_spot(u, tag, segment, column);
+    match answer {
+        Answer::Refused(why) => Outcome {
+            answer: Answer::Refused(why),
+            unit: u,
+        },
+        Answer::Done => {
+            let old = word_at(u, tag.0, column);
+            let word = with_mark(old, segment.0);
+            let unit = with_word(u, tag.0, column, word);
+            Outcome {
+                answer: Answer::Done,
+                unit,
+            }
+        }
+    }
+}
+
+// Clears one mark and drops the plan.
+pub fn unmark(u: FunctionUnit, tag: Tag, segment: Segment, column: u8) -> Outcome
+    ensures { λ r. ⌜ r ≡ unmarkOf u (tag .0) (segment .0) column ⌝ }
+{
+    let answer = check_spot(u, tag, segment, column);
+    match answer {
+        Answer::Refused(why) => Outcome {
+            answer: Answer::Refused(why),
+            unit: u,
+        },
+        Answer::Done => {
+            let before = word_at(u, tag.0, column);
+            let after = without_mark(before, segment.0);
+            let unit = with_word(u, tag.0, column, after);
+            Outcome {
+                answer: Answer::Done,
+                unit,
+            }
+        }
+    }
+}
+
+// The marks of a function by column: word column - 1 holds the column's marks, bit r - 1 for segment r. A tag outside 1 to 4
+// has none.
+pub fn columns_of(u: FunctionUnit, tag: Tag) -> [u16; 32]
+    ensures { λ r. ⌜ r ≡ columnsOf u (tag .0) ⌝ }
+{
+    let mut columns = [0u16; 32];
+    if !is_inside(tag.0, 4) {
+        return columns;
+    }
+    let marks = u.marks;
+    let first = (tag.0 as usize - 1) * 32;
+    let mut i: usize = 0;
+    while i < 32 {
+        columns[i] = marks[first + i];
+        i += 1;
+    }
+    columns
+}

@@ -1,0 +1,33 @@
+-- Tests on the numbers below a bound: whether one passes, how many do, the last that does, and the word that notes which.
+use mathlib.Core.Bool.{Bool, false, cond, _||_}
+use Prim.Native.Nat.{ℕ, zero, suc, _+_, _^_, max}
+
+-- some number below n passes the test
+unfoldable pub someBelow : ℕ → (ℕ → Bool) → Bool
+someBelow zero f = false
+someBelow (suc n) f = f n || someBelow n f
+
+-- how many numbers below n pass the test
+unfoldable pub countBelow : ℕ → (ℕ → Bool) → ℕ
+countBelow zero f = 0
+countBelow (suc n) f = cond (f n) 1 0 + countBelow n f
+
+-- one more than the largest number below n that passes the test, or 0
+unfoldable pub spanBelow : ℕ → (ℕ → Bool) → ℕ
+spanBelow zero f = 0
+spanBelow (suc n) f = cond (f n) (suc n) (spanBelow n f)
+
+-- the largest value of f at the numbers below n, or 0
+unfoldable pub maxBelow : ℕ → (ℕ → ℕ) → ℕ
+maxBelow zero f = 0
+maxBelow (suc n) f = max (f n) (maxBelow n f)
+
+-- the least of the numbers m, m + 1, .. that passes the test, if one of these n does; else m + n
+unfoldable pub leastFrom : ℕ → ℕ → (ℕ → Bool) → ℕ
+leastFrom zero m f = m
+leastFrom (suc n) m f = cond (f m) m (leastFrom n (suc m) f)
+
+-- the word of n bits whose bit k is 1 where k passes the test
+unfoldable pub wordBelow : ℕ → (ℕ → Bool) → ℕ
+wordBelow zero f = 0
+wordBelow (suc n) f = cond (f n) (2 ^ n) 0 + wordBelow n f

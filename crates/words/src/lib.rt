@@ -1,0 +1,51 @@
+// Bits of 32-bit words: test, set and clear one, shift, count. Bit 0 is the lowest.
+// Every function here is proved, total and without a `requires`; the crate assumes nothing of its own.
+ghost use mathlib.Core.Path.{_≡_};
+ghost use Prim.Native.Nat.{_/_, _%_, _^_};
+ghost use Rattle.words.specs.Bits.{isSet, setBit, clearBit};
+ghost use Rattle.words.specs.Below.{countBelow};
+
+// Whether the bit at the index is 1. A word has no 1 from index 32 on.
+pub fn test(word: u32, index: u32) -> bool
+    ensures { λ r. ⌜ r ≡ isSet word index ⌝ }
+{
+    if 32 <= index {
+        return false;
+    }
+    (word >> index) % 2 == 1
+}
+
+// The word with a 1 at the index. From index 32 on there is no bit to set, and the word stays.
+pub fn set(word: u32, index: u32) -> u32
+    ensures { λ r. ⌜ r ≡ setBit word index ⌝ }
+{
+    if 32 <= index {
+        return word;
+    }
+    word | (1 << index)
+}
+
+// The word with a 0 at the index.
+pub fn clear(word: u32, index: u32) -> u32
+    ensures { λ r. ⌜ r ≡ clearBit word index ⌝ }
+{
+    if 32 <= index {
+        return word;
+    }
+    word ^ (word & (1 << index))
+}
+
+// The word shifted right, zeros entering: one step without a branch, also by the whole width of 32,
+// because it is done on a word of 64 bits. That word takes the number of places modulo 64.
+pub fn shift(word: u32, places: u32) -> u32
+    ensures { λ r. ⌜ r ≡ word / 2 ^ (places % 64) ⌝ }
+{
+    ((word as u64) >> (places % 64)) as u32
+}
+
+// How many bits of the word are 1.
+pub fn ones(word: u32) -> u32
+    ensures { λ r. ⌜ r ≡ countBelow 32 (isSet word) ⌝ }
+{
+    u32::count_ones(word)
+}
