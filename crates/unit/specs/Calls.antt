@@ -17,6 +17,11 @@ use Rattle.unit.specs.Unit.{inside, place, wordAt, goodCounts, soundOf}
 abbrev pub check : Bool → Refusal → Answer → Answer
 check ok why next = cond ok next (Refused why)
 
+-- further tests, where those before passed
+abbrev pub andThen : Answer → Answer → Answer
+andThen Done next = next
+andThen (Refused why) next = Refused why
+
 -- what every question about one function tries first
 unfoldable pub tagAnswer : FunctionUnit → ℕ → Answer
 tagAnswer u q =

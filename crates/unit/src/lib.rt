@@ -94,7 +94,8 @@ fn is_inside(x: u8, n: u8) -> bool
     false
 }
 
-fn no_plan() -> Plan
+// No plan: tag, count, sum and all 256 bytes are 0.
+pub fn no_plan() -> Plan
     ensures { λ r. ⌜ r ≡ noPlan ⌝ }
 {
     Plan {

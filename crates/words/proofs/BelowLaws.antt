@@ -2,16 +2,19 @@
 use mathlib.Core.Path.{_≡_, refl, sym, ap, ap₂, _∙_, subst}
 use mathlib.Core.Logic.{_⊎_, inl, inr}
 use mathlib.Core.Bool.{Bool, true, false, cond, _||_}
-use Prim.Native.Nat.{ℕ, zero, suc, _+_, _-_, _*_, _/_, _%_, _^_, _≤_, _<_, max}
+use Prim.Native.Nat.{ℕ, zero, suc, _+_, _*_, _/_, _%_, _^_, _≤_, _<_, max}
 use native.Mathlib.Nat.{le-of-suc-le-suc, not-suc-le-zero, eq-or-lt-of-le, zero-lt-suc, two-pow-succ, mul-add-div-right, mul-add-mod-self-right, le-dest, one-mul, zero-add, pow-suc, div-eq-of-lt, mod-lt, mod-eq-of-lt, mod-one}
+use native.Mathlib.Decide.{decLt}
+use native.Mathlib.Numerals.{add-one}
 use native.Mathlib.Omega.{arith}
+use lib.Bits.{bitOr, or-shifted-r}
 use lib.Count.{ones, ones-cat}
 use lib.Dec.{eqb}
 use lib.Pow.{pow-pos, pow-add, high, mod-pow-add}
-use borrow.Author.Tests.{eq-eqb}
-use Rattle.words.specs.Bits.{bit, isSet}
+use borrow.Author.Tests.{lt-ltb}
+use Rattle.words.specs.Bits.{bit, isSet, setBit}
 use Rattle.words.specs.Below.{someBelow, countBelow, spanBelow, maxBelow, leastFrom, wordBelow}
-use Rattle.words.proofs.Tests.{nowhere, or-cases, or-true-left, or-true-right, by-test}
+use Rattle.words.proofs.Tests.{nowhere, or-cases, or-true-left, or-true-right, not-passed}
 use Rattle.words.proofs.BitLaws.{bit-above, bit-small, set-value}
 
 -- Some number passes
@@ -38,6 +41,16 @@ some-elim (suc m) f h = pick (or-cases (f m) (someBelow m f) h) (some-elim m f)
     pick : (f m ≡ true) ⊎ (someBelow m f ≡ true) → (someBelow m f ≡ true → Passes m f) → Passes (suc m) f
     pick (inl e) r = record { at = m; inside = omega arith; passed = e }
     pick (inr o) r = let p = r o in record { at = p .at; inside = omega arith; passed = p .passed }
+
+-- none below m passes
+pub some-none : (m : ℕ) (f : ℕ → Bool) → ((k : ℕ) → k < m → f k ≡ false) → someBelow m f ≡ false
+some-none m f h = not-passed (someBelow m f) (λ e. let p = some-elim m f e in nowhere (sym (h (p .at) (p .inside)) ∙ p .passed))
+
+-- tests that agree below m
+pub some-same : (m : ℕ) (f h : ℕ → Bool) → ((k : ℕ) → k < m → f k ≡ h k) → someBelow m f ≡ someBelow m h
+unfolding someBelow
+some-same zero f h e = refl
+some-same (suc m) f h e = ap₂ (λ (a b : Bool). a || b) (e m (omega arith)) (some-same m f h (λ k l. e k (omega arith)))
 
 -- The last that passes
 
@@ -98,6 +111,36 @@ unfolding maxBelow
 max-same zero f h e = refl
 max-same (suc n) f h e = ap₂ (λ (a b : ℕ). max a b) (e n (omega arith)) (max-same n f h (λ k l. e k (omega arith)))
 
+-- the largest of one value or more is one of them
+pub record Reached (n : ℕ) (f : ℕ → ℕ) : Type 0 where
+  pub at : ℕ
+  pub inside : at < n
+  pub value : f at ≡ maxBelow n f
+
+pub max-reached : (n : ℕ) (f : ℕ → ℕ) → Reached (suc n) f
+unfolding maxBelow
+max-reached zero f = record { at = 0; inside = omega arith; value = omega arith }
+max-reached (suc n) f = go (max-reached n f) (decLt (maxBelow (suc n) f) (f (suc n)))
+  where
+    go : Reached (suc n) f → Dec (maxBelow (suc n) f < f (suc n)) → Reached (suc (suc n)) f
+    go r (yes h) = record { at = suc n; inside = omega arith; value = omega arith }
+    go r (no h) = record { at = r .at; inside = omega arith; value = r .value ∙ omega arith }
+
+-- one number more, at the end or at the start
+pub max-more : (n : ℕ) (f : ℕ → ℕ) → maxBelow (n + 1) f ≡ max (f n) (maxBelow n f)
+unfolding maxBelow
+max-more n f = ap (λ m. maxBelow m f) (add-one n)
+
+pub max-start : (n : ℕ) (f : ℕ → ℕ) → maxBelow (n + 1) f ≡ max (f 0) (maxBelow n (λ k. f (k + 1)))
+unfolding maxBelow
+max-start zero f = refl
+max-start (suc n) f =
+    let e : n + 1 ≡ suc n = omega arith in
+    let r : maxBelow (suc n) f ≡ max (f 0) (maxBelow n (λ k. f (k + 1))) = ap (λ m. maxBelow m f) (sym e) ∙ max-start n f in
+    max-more (suc n) f
+    ∙ ap₂ (λ (a b : ℕ). max a b) (ap f (sym e)) r
+    ∙ omega arith
+
 -- The least that passes
 
 pub least-first : (n m : ℕ) (f : ℕ → Bool) → m ≤ leastFrom n m f
@@ -130,6 +173,17 @@ least-passes (suc n) m f k h l p = go (f m) refl (eq-or-lt-of-le h) (λ o. least
     go true e o r = e
     go false e (inl q) r = nowhere (sym e ∙ (rw (← q) at p))
     go false e (inr o) r = r o
+
+-- a number that the numbers before it do not pass is the least, where it passes or all n were tried
+pub least-is : (n m : ℕ) (f : ℕ → Bool) (k : ℕ) → m ≤ k → k ≤ m + n → ((j : ℕ) → m ≤ j → j < k → f j ≡ false)
+    → (k < m + n → f k ≡ true) → leastFrom n m f ≡ k
+unfolding leastFrom
+least-is zero m f k h l s p = omega arith
+least-is (suc n) m f k h l s p = go (eq-or-lt-of-le h) (λ o. least-is n (suc m) f k o (omega arith) (λ j a. s j (omega arith)) (λ a. p (omega arith)))
+  where
+    go : (m ≡ k) ⊎ (m < k) → (m < k → leastFrom n (suc m) f ≡ k) → cond (f m) m (leastFrom n (suc m) f) ≡ k
+    go (inl e) r = let t : f m ≡ true = ap f e ∙ p (omega arith) in rw t e
+    go (inr o) r = let t : f m ≡ false = s m (omega arith) o in rw t (r o)
 
 -- The word of a test
 
@@ -179,6 +233,38 @@ word-set n f k h = ap (λ x. eqb x 1) (word-bit n f k h) ∙ go (f k)
     go true = refl
     go false = refl
 
+-- tests that agree below n give one word
+pub word-same : (n : ℕ) (f h : ℕ → Bool) → ((k : ℕ) → k < n → f k ≡ h k) → wordBelow n f ≡ wordBelow n h
+unfolding wordBelow
+word-same zero f h e = refl
+word-same (suc n) f h e =
+    ap₂ (λ (b : Bool) (m : ℕ). cond b (2 ^ n) 0 + m) (e n (omega arith)) (word-same n f h (λ k l. e k (omega arith)))
+
+-- the word has no bit from the span on
+pub word-span : (n : ℕ) (f : ℕ → Bool) → wordBelow n f < 2 ^ spanBelow n f
+unfolding wordBelow spanBelow
+word-span zero f = zero-lt-suc 0
+word-span (suc n) f = go (f n) refl (word-span n f)
+  where
+    go : (b : Bool) → f n ≡ b → wordBelow n f < 2 ^ spanBelow n f → cond b (2 ^ n) 0 + wordBelow n f < 2 ^ cond b (suc n) (spanBelow n f)
+    go true e h = let d = two-pow-succ n in let l = word-lt n f in omega arith
+    go false e h = rw (zero-add (wordBelow n f)) h
+
+-- one bit more: a 1 that is set, or a 0
+pub word-one : (n : ℕ) (f : ℕ → Bool) → n < 32 → f n ≡ true → setBit (wordBelow n f) n ≡ wordBelow (n + 1) f
+unfolding wordBelow setBit
+word-one n f h e =
+    ap (λ b. cond b (bitOr (wordBelow n f) (2 ^ n)) (wordBelow n f)) (lt-ltb n 32 h)
+    ∙ ap (bitOr (wordBelow n f)) (sym (one-mul (2 ^ n)))
+    ∙ or-shifted-r 1 n (wordBelow n f) (word-lt n f)
+    ∙ ap (λ x. x + wordBelow n f) (one-mul (2 ^ n))
+    ∙ sym (ap (λ m. wordBelow m f) (add-one n) ∙ ap (λ b. cond b (2 ^ n) 0 + wordBelow n f) e)
+
+pub word-none : (n : ℕ) (f : ℕ → Bool) → f n ≡ false → wordBelow n f ≡ wordBelow (n + 1) f
+unfolding wordBelow
+word-none n f e =
+    sym (ap (λ m. wordBelow m f) (add-one n) ∙ ap (λ b. cond b (2 ^ n) 0 + wordBelow n f) e ∙ zero-add (wordBelow n f))
+
 -- How many pass
 
 -- tests that agree below n count alike
@@ -187,6 +273,35 @@ unfolding countBelow
 count-same zero f h e = refl
 count-same (suc n) f h e =
     ap₂ (λ (b : Bool) (m : ℕ). cond b 1 0 + m) (e n (omega arith)) (count-same n f h (λ k l. e k (omega arith)))
+
+pub count-none : (n : ℕ) (f : ℕ → Bool) → ((k : ℕ) → k < n → f k ≡ false) → countBelow n f ≡ 0
+unfolding countBelow
+count-none zero f e = refl
+count-none (suc n) f e = ap₂ (λ (b : Bool) (m : ℕ). cond b 1 0 + m) (e n (omega arith)) (count-none n f (λ k l. e k (omega arith)))
+
+pub count-most : (n : ℕ) (f : ℕ → Bool) → countBelow n f ≤ n
+unfolding countBelow
+count-most zero f = omega arith
+count-most (suc n) f = go (f n) (count-most n f)
+  where
+    go : (b : Bool) → countBelow n f ≤ n → cond b 1 0 + countBelow n f ≤ suc n
+    go true h = omega arith
+    go false h = omega arith
+
+-- one number more, at the end or at the start
+pub count-more : (n : ℕ) (f : ℕ → Bool) → countBelow (n + 1) f ≡ cond (f n) 1 0 + countBelow n f
+unfolding countBelow
+count-more n f = ap (λ m. countBelow m f) (add-one n)
+
+pub count-start : (n : ℕ) (f : ℕ → Bool) → countBelow (n + 1) f ≡ cond (f 0) 1 0 + countBelow n (λ k. f (k + 1))
+unfolding countBelow
+count-start zero f = refl
+count-start (suc n) f =
+    let e : n + 1 ≡ suc n = omega arith in
+    let r : countBelow (suc n) f ≡ cond (f 0) 1 0 + countBelow n (λ k. f (k + 1)) = ap (λ m. countBelow m f) (sym e) ∙ count-start n f in
+    count-more (suc n) f
+    ∙ ap₂ (λ (a : Bool) (b : ℕ). cond a 1 0 + b) (ap f (sym e)) r
+    ∙ omega arith
 
 pub count-word : (n : ℕ) (f : ℕ → Bool) → countBelow n (isSet (wordBelow n f)) ≡ countBelow n f
 count-word n f = count-same n (isSet (wordBelow n f)) f (λ k h. word-set n f k h)

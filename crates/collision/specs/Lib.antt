@@ -1,0 +1,6 @@
+pub mod Pipeline
+pub mod Vector
+pub mod Meaning
+pub mod Answers
+pub mod Judge
+pub mod Inner

@@ -1,0 +1,4 @@
+pub mod StepLaws
+pub mod BankLaws
+pub mod Demand2
+pub mod Examples
