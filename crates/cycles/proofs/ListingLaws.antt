@@ -1,0 +1,104 @@
+-- The listed diagram in the words: it stands over words that changed elsewhere, and every arc leads to a listed state. Assumes nothing.
+use mathlib.Core.Path.{_≡_, sym, ap, subst, _∙_}
+use mathlib.Core.List.{List, [], _∷_}
+use Prim.Native.Nat.{ℕ, _+_, _-_, _≤_, _<_}
+use native.Mathlib.Decide.{decLt}
+use native.Mathlib.Omega.{arith}
+use lib.ListN.{length, getD, take}
+use lib.Seq.{getD-take, length-take-le, ext-getD}
+use Rattle.diagram.specs.Diagram.{width, next, Permits}
+use Rattle.diagram.specs.States.{states}
+use Rattle.diagram.specs.Work.{stateIn, headIn, linkIn, bucket, placeIn, Indexed}
+use Rattle.diagram.proofs.IndexLaws.{place-some, place-listed}
+use Rattle.diagram.proofs.Listing.{list-extends, states-distinct, states-closed}
+use Rattle.cycles.specs.Inner.{Walkable}
+
+-- Words that changed elsewhere
+
+index-kept : {w w′ : List ℕ} (k : ℕ) → length w′ ≡ length w → ((i : ℕ) → i < 768 → getD w′ i 0 ≡ getD w i 0) → Indexed w k → Indexed w′ k
+index-kept {w} {w′} k size same h = record {
+  room = omega (arith, size, h .room);
+  few = h .few;
+  head-low = λ b l. subst (λ (x : ℕ). x ≤ k) (sym (same (256 + b) (omega arith))) (h .head-low b l);
+  head-in = λ b l m.
+      let e = same (256 + b) (omega arith) in
+      let r : 0 < headIn w b = omega arith in
+      ap bucket (ap (λ (x : ℕ). stateIn w′ (x - 1)) e ∙ same (headIn w b - 1) (omega (arith, h .head-low b l, h .few))) ∙ h .head-in b l r;
+  head-last = λ b l j m o e.
+      h .head-last b l j (subst (λ (x : ℕ). x ≤ j) (same (256 + b) (omega arith)) m) o
+      (ap bucket (sym (same j (omega (arith, h .few)))) ∙ e);
+  link-low = λ i l. subst (λ (x : ℕ). x ≤ i) (sym (same (512 + i) (omega (arith, h .few)))) (h .link-low i l);
+  link-in = λ i l m.
+      let e = same (512 + i) (omega (arith, h .few)) in
+      let r : 0 < linkIn w i = omega arith in
+      ap bucket (ap (λ (x : ℕ). stateIn w′ (x - 1)) e ∙ same (linkIn w i - 1) (omega (arith, h .link-low i l, h .few)))
+      ∙ h .link-in i l r
+      ∙ ap bucket (sym (same i (omega (arith, h .few))));
+  link-last = λ i l j m o e.
+      h .link-last i l j (subst (λ (x : ℕ). x ≤ j) (same (512 + i) (omega (arith, h .few))) m) o
+      (ap bucket (sym (same j (omega (arith, h .few)))) ∙ e ∙ ap bucket (same i (omega (arith, h .few))));
+}
+
+pub walkable-kept : {w w′ : List ℕ} {cv k : ℕ} → length w′ ≡ length w → ((i : ℕ) → i < 768 → getD w′ i 0 ≡ getD w i 0)
+    → Walkable w cv k → Walkable w′ cv k
+walkable-kept {w} {w′} {cv} {k} size same h =
+    let few = h .index .few in
+    let room = h .room in
+    let n : length (take k w) ≡ k = length-take-le k w (omega arith) in
+    let n′ : length (take k w′) ≡ k = length-take-le k w′ (omega arith) in
+    record {
+      room = omega arith;
+      some = h .some;
+      listed =
+          ext-getD 0 (take k w′) (take k w) (n′ ∙ sym n)
+          (λ i l.
+          let low : i < k = omega arith in
+          getD-take k w′ i 0 low ∙ same i (omega arith) ∙ sym (getD-take k w i 0 low))
+          ∙ h .listed;
+      index = index-kept k size same (h .index);
+    }
+
+-- The states
+
+-- r is the place of the state to which the latency t leads from the state at a place
+pub record Landed (w : List ℕ) (cv k at t r : ℕ) : Type 0 where
+  pub inside : r < k
+  pub state : stateIn w r ≡ next cv (stateIn w at) t
+
+module _ {w : List ℕ} {cv k : ℕ} (h : Walkable w cv k) where
+  pub listed-number : length (states 256 1 (width cv) cv) ≡ k
+  listed-number =
+      let few = h .index .few in
+      let room = h .room in
+      sym (ap length (h .listed)) ∙ length-take-le k w (omega arith)
+
+  pub listed-few : length (states 256 1 (width cv) cv) ≤ 256
+  listed-few = omega (arith, listed-number, h .index .few)
+
+  pub listed-at : (i : ℕ) → i < k → getD (states 256 1 (width cv) cv) i 0 ≡ stateIn w i
+  listed-at i l = ap (λ s. getD s i 0) (sym (h .listed)) ∙ getD-take k w i 0 l
+
+  pub listed-first : stateIn w 0 ≡ cv
+  listed-first = sym (listed-at 0 (h .some)) ∙ list-extends 1 (width cv) cv 257 0 (cv ∷ []) .same 0 (omega arith)
+
+  pub listed-apart : (i j : ℕ) → i < k → j < k → stateIn w i ≡ stateIn w j → i ≡ j
+  listed-apart i j l m e = go (decLt i j) (decLt j i)
+    where
+      same : getD (states 256 1 (width cv) cv) i 0 ≡ getD (states 256 1 (width cv) cv) j 0
+      same = listed-at i l ∙ e ∙ sym (listed-at j m)
+
+      go : Dec (i < j) → Dec (j < i) → i ≡ j
+      go (yes a) b = absurd (states-distinct 1 (width cv) cv 256 i j a (omega (arith, listed-number)) same)
+      go (no a) (yes b) = absurd (states-distinct 1 (width cv) cv 256 j i b (omega (arith, listed-number)) (sym same))
+      go (no a) (no b) = omega arith
+
+  pub arc-lands : (at t r : ℕ) → at < k → Permits 1 (width cv) (stateIn w at) t → r ≡ placeIn w k (next cv (stateIn w at) t)
+      → Landed w cv k at t r
+  arc-lands at t r l p e =
+      let x : ℕ = next cv (stateIn w at) t in
+      let q = subst (λ s. Permits 1 (width cv) s t) (sym (listed-at at l)) p in
+      let f = states-closed 1 (width cv) cv 256 listed-few at (omega (arith, listed-number)) t q in
+      let low : f .index < k = omega (arith, listed-number, f .inside) in
+      let here : stateIn w (f .index) ≡ x = sym (listed-at (f .index) low) ∙ f .found ∙ ap (λ s. next cv s t) (listed-at at l) in
+      let some = place-some w k (h .index) x (f .index) low here in
+      record { inside = omega (arith, some); state = ap (stateIn w) e ∙ place-listed w k (h .index) x some }

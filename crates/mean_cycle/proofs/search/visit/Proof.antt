@@ -1,0 +1,114 @@
+-- `mean_cycle::search::visit` meets its contract: the latencies below t are done. Assumes nothing.
+use Prim.Native.Nat.{_+_, _-_}
+use native.Mathlib.Omega.{arith}
+use Rattle.mean_cycle.proofs.Frames.{ready-cost, ready-held}
+use Rattle.mean_cycle.proofs.Rounds.{Visiting, visit-start, visit-more, visit-found, visit-stop, visit-end}
+use Rattle.mean_cycle.proofs.search.visit.Statement.{statement}
+use Rattle.mean_cycle.proofs.search.visit.Tie as tie
+
+abbrev Inv-loop : tie.InvT-loop
+Inv-loop work₀ graph best v count sum last t₀ moved₀ work t moved = Visiting work₀ work graph best v t moved
+
+abbrev μ-loop : tie.MeasureT-loop
+μ-loop work₀ graph best v count sum last t₀ moved₀ work t moved = last + 1 - t
+
+cast-last : tie.Need-cast-last Inv-loop μ-loop
+cast-last c = omega (arith, c .before .before .pre .0 .listing .narrow)
+
+add-last : tie.Need-add-last Inv-loop μ-loop
+add-last c = omega (arith, c .before .before .pre .0 .listing .narrow)
+
+loop-holds : tie.Need-loop-holds Inv-loop μ-loop
+loop-holds c = visit-start _ (c .before .before .pre .0) (c .before .before .pre .1 .0)
+
+add-up : tie.Need-add-up Inv-loop μ-loop
+add-up c =
+    let h = ready-held (c .before .loop .inv .ready) (c .before .before .before .before .pre .1 .1) in
+    omega arith
+
+mul-up : tie.Need-mul-up Inv-loop μ-loop
+mul-up c =
+    let h = ready-held (c .before .loop .inv .ready) (c .before .before .before .before .pre .1 .1) in
+    omega arith
+
+slice-read-up : tie.Need-slice-read-up Inv-loop μ-loop
+slice-read-up c =
+    let h = ready-held (c .before .before .loop .inv .ready) (c .before .before .before .before .before .pre .1 .1) in
+    omega arith
+
+cast-up : tie.Need-cast-up Inv-loop μ-loop
+cast-up c = omega (arith, c .slice-known2 .given (768 + c .before .before .before .before .before .args .v))
+
+add-up-2 : tie.Need-add-up-2 Inv-loop μ-loop
+add-up-2 c =
+    let h = ready-held (c .before .before .loop .inv .ready) (c .before .before .before .before .before .pre .1 .1) in
+    omega (arith, c .slice-known2 .given (768 + c .before .before .before .before .before .args .v))
+
+mul-if1 : tie.Need-mul-if1 Inv-loop μ-loop
+mul-if1 c = omega (arith, ready-cost _ (c .before .before .loop .inv .ready) (c .before .loop-test .taken))
+
+same-length : tie.Need-same-length Inv-loop μ-loop
+same-length c = c .before .before .before .loop .inv .frame .size
+
+returns : tie.Need-returns Inv-loop μ-loop
+returns c = visit-stop (c .before .before .before .loop .inv) (c .before .before .loop-test .taken) (c .if1 .taken)
+
+step-requires : tie.Need-step-requires Inv-loop μ-loop
+step-requires c κs =
+    let i = c .before .before .before .before .loop .inv in
+    (i .ready, (i .tree, (c .before .before .before .before .before .before .before .pre .1 .1, (i .some, c .before .before .before .loop-test .taken))))
+
+same-length-2 : tie.Need-same-length-2 Inv-loop μ-loop
+same-length-2 c = visit-found (c .before .before .before .before .before .before .before .before .loop .inv) (c .before .before .before .step .ensures) (c .if2 .taken) .frame .size
+
+returns-2 : tie.Need-returns-2 Inv-loop μ-loop
+returns-2 c = visit-found (c .before .before .before .before .before .before .before .before .loop .inv) (c .before .before .before .step .ensures) (c .if2 .taken)
+
+add-moved : tie.Need-add-moved Inv-loop μ-loop
+add-moved c =
+    let i = c .before .before .before .before .before .before .before .before .before .loop .inv in
+    omega (arith, c .before .before .before .before .step .ensures .one, i .few, i .upto, i .ready .listing .narrow)
+
+add-t : tie.Need-add-t Inv-loop μ-loop
+add-t c =
+    let i = c .before .before .before .before .before .before .before .before .before .loop .inv in
+    omega (arith, i .upto, i .ready .listing .narrow)
+
+loop-less : tie.Need-loop-less Inv-loop μ-loop
+loop-less c = omega (arith, c .before .before .before .before .before .before .before .before .loop-test .taken)
+
+loop-again : tie.Need-loop-again Inv-loop μ-loop
+loop-again c = visit-more (c .before .before .before .before .before .before .before .before .before .loop .inv) (c .before .before .before .before .before .before .before .before .loop-test .taken) (c .before .before .before .before .step .ensures) (c .before .if2 .left)
+
+same-length-3 : tie.Need-same-length-3 Inv-loop μ-loop
+same-length-3 c = c .before .loop .inv .frame .size
+
+returns-3 : tie.Need-returns-3 Inv-loop μ-loop
+returns-3 c = visit-end (c .before .loop .inv) (c .loop-test .left)
+
+pub visit-spec : {M : Type 1} → statement M
+visit-spec =
+    tie.close
+    (tie.spec
+    Inv-loop
+    μ-loop
+    cast-last
+    add-last
+    loop-holds
+    add-up
+    mul-up
+    slice-read-up
+    cast-up
+    add-up-2
+    mul-if1
+    same-length
+    returns
+    step-requires
+    same-length-2
+    returns-2
+    add-moved
+    add-t
+    loop-less
+    loop-again
+    same-length-3
+    returns-3)

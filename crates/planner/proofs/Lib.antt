@@ -1,0 +1,4 @@
+pub mod EveryList
+pub mod PlanLaws
+pub mod BestLaws
+pub mod SearchLaws

@@ -1,0 +1,3 @@
+pub mod Plans
+pub mod Sheet
+pub mod Inner
