@@ -4,18 +4,17 @@ use mathlib.Core.Bool.{true, false, cond}
 use mathlib.Core.List.{List, [], _∷_, _++_}
 use Prim.Native.Nat.{ℕ, zero, suc, _+_, _≤_, _<_}
 use native.Mathlib.Nat.{not-suc-le-zero}
-use native.Mathlib.Decide.{decLt, decLe}
 use native.Mathlib.Omega.{arith}
-use lib.Dec.{T, eqb}
+use lib.Dec.{eqb}
 use lib.ListN.{length, getD, take, drop, length-append, length-drop}
 use lib.Seq.{getD-drop}
 use borrow.Author.Tests.{eqb-true, eq-eqb, ne-eqb, lt-ltb, le-leb}
-use Rattle.words.proofs.Tests.{nowhere, T-true, true-T, by-test}
-use Rattle.words.proofs.BelowLaws.{least-first, least-skips, least-passes, least-is}
+use Rattle.words.proofs.Tests.{T-true, true-T, by-test}
+use Rattle.words.proofs.BelowLaws.{least-first, least-passes, least-is, least-le}
 use Rattle.unit.specs.Table.{Table}
 use Rattle.collision.specs.Pipeline.{NeverCollides}
 use Rattle.diagram.specs.Diagram.{next, longest, Permits, Walk, stay, step, Reachable}
-use Rattle.diagram.specs.States.{Listed, Each, Distinct, has, arc, states}
+use Rattle.diagram.specs.States.{Each, Distinct, has, arc, states}
 use Rattle.diagram.proofs.ListLaws.{has-listed, add-distinct}
 use Rattle.diagram.proofs.Listing.{arc-permits, permits-arc, states-complete}
 use Rattle.diagram.proofs.Pigeon.{distinct-fits}
@@ -33,13 +32,7 @@ longest-arc g n s = rw (le-leb g (longest g n) (omega arith), lt-ltb n (longest 
 
 pub least-most : (g n s : ℕ) → leastLatency g n s ≤ longest g n
 unfolding leastLatency
-least-most g n s = go (decLe (leastLatency g n s) (longest g n))
-  where
-    go : Dec (leastLatency g n s ≤ longest g n) → leastLatency g n s ≤ longest g n
-    go (yes h) = h
-    go (no h) =
-        nowhere
-        (sym (least-skips (longest g n) 1 (arc g n s) (longest g n) (omega arith) (omega arith)) ∙ longest-arc g n s)
+least-most g n s = least-le (longest g n) 1 (arc g n s) (longest g n) (omega arith) (longest-arc g n s)
 
 pub least-permits : (g n s : ℕ) → Permits g n s (leastLatency g n s)
 unfolding leastLatency
@@ -50,26 +43,16 @@ least-permits g n s =
 -- no smaller latency is permitted
 pub least-least : (g n s t : ℕ) → Permits g n s t → leastLatency g n s ≤ t
 unfolding leastLatency
-least-least g n s t p = go (decLe (leastLatency g n s) t)
-  where
-    go : Dec (leastLatency g n s ≤ t) → leastLatency g n s ≤ t
-    go (yes h) = h
-    go (no h) =
-        nowhere
-        (sym (least-skips (longest g n) 1 (arc g n s) t (p .positive) (omega arith)) ∙ T-true (arc g n s t) (permits-arc g n s t p))
+least-least g n s t p = least-le (longest g n) 1 (arc g n s) t (p .positive) (T-true (arc g n s t) (permits-arc g n s t p))
 
 -- The first place
 
 pub place-inside : (s : ℕ) (l : List ℕ) → has s l ≡ true → firstPlace s l < length l
 unfolding firstPlace
-place-inside s l e = go (decLt (firstPlace s l) (length l)) (has-listed s l (true-T e))
-  where
-    go : Dec (firstPlace s l < length l) → Listed s l → firstPlace s l < length l
-    go (yes h) r = h
-    go (no h) r =
-        let inside = r .inside in
-        nowhere
-        (sym (least-skips (length l) 0 (λ i. eqb (getD l i 0) s) (r .index) (omega arith) (omega arith)) ∙ eq-eqb (getD l (r .index) 0) s (r .found))
+place-inside s l e =
+    let r = has-listed s l (true-T e) in
+    let inside = r .inside in
+    omega (arith, least-le (length l) 0 (λ i. eqb (getD l i 0) s) (r .index) (omega arith) (eq-eqb (getD l (r .index) 0) s (r .found)))
 
 pub place-holds : (s : ℕ) (l : List ℕ) → has s l ≡ true → getD l (firstPlace s l) 0 ≡ s
 unfolding firstPlace

@@ -24,7 +24,7 @@ pub record Trying (s n t : ℕ) : Type 0 where
 pub try-start : (s n : ℕ) → Trying s n 1
 try-start s n = record { least = omega arith; most = omega arith; skipped = λ k h l. absurd (omega arith) }
 
-module _ (s n t : ℕ) (r : Trying s n t) where
+module _ {s n t : ℕ} (r : Trying s n t) where
   pub try-more : t ≤ n → isSet s (t - 1) ≡ true → Trying s n (t + 1)
   try-more h e = record {
     least = omega arith;

@@ -29,8 +29,8 @@ clear-start w h = record {
   above = λ i l. refl;
 }
 
-pub clear-more : (before w : List ℕ) (slot : ℕ) → Clearing before w slot → slot < 1024 → Clearing before (set w slot 0) (slot + 1)
-clear-more before w slot r h = record {
+pub clear-more : {before w : List ℕ} {slot : ℕ} → Clearing before w slot → slot < 1024 → Clearing before (set w slot 0) (slot + 1)
+clear-more {before} {w} {slot} r h = record {
   room = r .room;
   least = omega (arith, r .least);
   most = omega arith;
@@ -44,8 +44,8 @@ clear-more before w slot r h = record {
     go i l m (yes e) = rw e (getD-set-same w slot 0 0 (omega (arith, r .size, r .room)))
     go i l m (no e) = getD-set-other w slot i 0 0 e ∙ r .none i l (omega arith)
 
-pub clear-end : (before w : List ℕ) (slot : ℕ) → Clearing before w slot → 1024 ≤ slot → Unmarked before w
-clear-end before w slot r h = record {
+pub clear-end : {before w : List ℕ} {slot : ℕ} → Clearing before w slot → 1024 ≤ slot → Unmarked before w
+clear-end r h = record {
   size = r .size;
   none = λ v l. r .none (768 + v) (omega arith) (omega arith);
   below = r .below;

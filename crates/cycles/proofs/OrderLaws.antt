@@ -126,7 +126,7 @@ lead-start l = record {
   before = λ k h. absurd (not-suc-le-zero h);
 }
 
-module _ (l : List ℕ) (best r : ℕ) (p : Leading l best r) where
+module _ {l : List ℕ} {best r : ℕ} (p : Leading l best r) where
   pub lead-keep : comesFirst (rotate l best) (rotate l r) ≡ true → Leading l best (r + 1)
   lead-keep e = record {
     below = omega (arith, p .below);
@@ -175,15 +175,15 @@ lead-some l (suc m) h = go (lead-some l m (omega arith))
     go q =
         let p : Leading l (q .0) (suc m) = subst (Leading l (q .0)) (add-one m) (q .1) in
         by-test (comesFirst (rotate l (q .0)) (rotate l (suc m)))
-        (λ e. (q .0, lead-keep l (q .0) (suc m) p e))
-        (λ e. (suc m, lead-change l (q .0) (suc m) p h e))
+        (λ e. (q .0, lead-keep p e))
+        (λ e. (suc m, lead-change p h e))
 
 pub lead-all : (l : List ℕ) → 0 < length l → Leading l (firstRotation l) (length l)
 lead-all l h =
     let q = lead-some l (length l - 1) (omega arith) in
     let e : length l - 1 + 1 ≡ length l = omega arith in
     let p : Leading l (q .0) (length l) = subst (Leading l (q .0)) e (q .1) in
-    subst (λ b. Leading l b (length l)) (lead-end l (q .0) (length l) p (le-refl (length l))) p
+    subst (λ b. Leading l b (length l)) (lead-end p (le-refl (length l))) p
 
 pub first-inside : (l : List ℕ) → 0 < length l → firstRotation l < length l
 first-inside l h = lead-all l h .below

@@ -68,6 +68,11 @@ has-more x y (z ∷ l) e ne = go (eqb z x) e (λ f. has-more x y l f ne)
     go true f r = f
     go false f r = r f
 
+-- the mark of state v tells the step at which the walk left it
+pub record Left (before w seen : List ℕ) (i v : ℕ) : Type 0 where
+  pub most : markIn w v ≤ i
+  pub state : getD seen (markIn w v - 1) 0 ≡ stateIn before v
+
 -- i steps from the first state to the state at a place. The calculation goes on from here to the same cycle.
 pub record Walking (before w : List ℕ) (cv k at i : ℕ) : Type 0 where
   pub listing : Walkable before cv k
@@ -79,7 +84,7 @@ pub record Walking (before w : List ℕ) (cv k at i : ℕ) : Type 0 where
   pub count : length latencies ≡ i
   pub noted : (j : ℕ) → j < i → stepIn w j ≡ getD latencies j 0
   pub unmarked : (v : ℕ) → v < k → markIn w v ≡ 0 → has (stateIn before v) seen ≡ false
-  pub marked : (v : ℕ) → v < k → 0 < markIn w v → (markIn w v ≤ i) × (getD seen (markIn w v - 1) 0 ≡ stateIn before v)
+  pub marked : (v : ℕ) → v < k → 0 < markIn w v → Left before w seen i v
   pub rest : greedyFrom 1 (width cv) cv (257 - i) seen latencies (stateIn before at) ≡ greedyCycle 1 (width cv) cv
 
 -- the least latency of the state at a place, and the words after a step by it
@@ -89,9 +94,9 @@ least cv w at = leastLatency 1 (width cv) (stateIn w at)
 abbrev onward : ℕ → List ℕ → List ℕ → ℕ → ℕ → List ℕ
 onward cv before w at i = stepped w at i (least cv before at)
 
-pub walk-start : (before w : List ℕ) (cv k : ℕ) → Walkable before cv k → Unmarked before w → Walking w w cv k 0 0
+pub walk-start : {before w : List ℕ} {cv k : ℕ} → Walkable before cv k → Unmarked before w → Walking w w cv k 0 0
 unfolding greedyCycle
-walk-start before w cv k h c =
+walk-start {before} {w} {cv} {k} h c =
     let kept : Walkable w cv k = walkable-kept (c .size) (c .below) h in
     let few = h .index .few in
     let first : stateIn w 0 ≡ cv = listed-first kept in
@@ -109,7 +114,7 @@ walk-start before w cv k h c =
       rest = ap (greedyFrom 1 (width cv) cv 257 [] []) first;
     }
 
-module _ (before w : List ℕ) (cv k at i : ℕ) (r : Walking before w cv k at i) where
+module _ {before w : List ℕ} {cv k at i : ℕ} (r : Walking before w cv k at i) where
   seen-length : length (r .seen) ≡ i
   seen-length = trail-length (r .trail) ∙ r .count
 
@@ -147,7 +152,7 @@ module _ (before w : List ℕ) (cv k at i : ℕ) (r : Walking before w cv k at i
       few = omega (arith, walk-fewer, r .listing .index .few);
     }
 
-    module _ (after : List ℕ) (n to : ℕ) (wide : n ≡ width cv) (p : Stepped w after cv n k at i to) where
+    module _ {after : List ℕ} {n to : ℕ} (wide : n ≡ width cv) (p : Stepped w after cv n k at i to) where
       state-kept : stateIn w at ≡ stateIn before at
       state-kept = r .frame .low at (omega (arith, walk-place))
 
@@ -172,26 +177,28 @@ module _ (before w : List ℕ) (cv k at i : ℕ) (r : Walking before w cv k at i
           }
 
       next-marked : (v : ℕ) → v < k → 0 < markIn (onward cv before w at i) v
-          → (markIn (onward cv before w at i) v ≤ i + 1)
-          × (getD (r .seen ++ (stateIn before at ∷ [])) (markIn (onward cv before w at i) v - 1) 0 ≡ stateIn before v)
+          → Left before (onward cv before w at i) (r .seen ++ (stateIn before at ∷ [])) (i + 1) v
       next-marked v l pos = go (ℕ-discrete v at)
         where
-          go : Dec (v ≡ at)
-              → (markIn (onward cv before w at i) v ≤ i + 1)
-              × (getD (r .seen ++ (stateIn before at ∷ [])) (markIn (onward cv before w at i) v - 1) 0 ≡ stateIn before v)
+          go : Dec (v ≡ at) → Left before (onward cv before w at i) (r .seen ++ (stateIn before at ∷ [])) (i + 1) v
           go (yes e) =
               let m : markIn (onward cv before w at i) v ≡ i + 1 =
               ap (markIn (onward cv before w at i)) e ∙ mark-here w at i (least cv before at) walk-room walk-place few in
-              (omega arith, getD-at (r .seen) (stateIn before at) [] 0 _ (omega (arith, seen-length)) ∙ ap (stateIn before) (sym e))
+              record {
+                most = omega arith;
+                state = getD-at (r .seen) (stateIn before at) [] 0 _ (omega (arith, seen-length)) ∙ ap (stateIn before) (sym e);
+              }
           go (no e) =
               let m : markIn (onward cv before w at i) v ≡ markIn w v =
               mark-other w at i (least cv before at) walk-room walk-place few v (omega (arith, r .listing .index .few)) e in
               let q = r .marked v l (omega arith) in
-              let top : markIn w v ≤ i = q .0 in (
-                omega arith,
-                ap (λ x. getD (r .seen ++ (stateIn before at ∷ [])) (x - 1) 0) m
-                    ∙ List·getD-append (r .seen) (stateIn before at ∷ []) 0 (markIn w v - 1) (omega (arith, seen-length)) ∙ q .1,
-              )
+              let top = q .most in
+              record {
+                most = omega arith;
+                state =
+                    ap (λ x. getD (r .seen ++ (stateIn before at ∷ [])) (x - 1) 0) m
+                    ∙ List·getD-append (r .seen) (stateIn before at ∷ []) 0 (markIn w v - 1) (omega (arith, seen-length)) ∙ q .state;
+              }
 
       next-unmarked : (v : ℕ) → v < k → markIn (onward cv before w at i) v ≡ 0 → has (stateIn before v) (r .seen ++ (stateIn before at ∷ [])) ≡ false
       next-unmarked v l z = go (ℕ-discrete v at)
@@ -245,10 +252,10 @@ module _ (before w : List ℕ) (cv k at i : ℕ) (r : Walking before w cv k at i
   -- the state at the place has a mark: it was left at that step, and the latencies from there on are the cycle
   module _ (old : markIn w at ≡ 0 → ⊥) where
     pub walk-back : (0 < markIn w at) × (markIn w at ≤ i)
-    walk-back = let p : 0 < markIn w at = omega arith in (p, r .marked at (r .inside) p .0)
+    walk-back = let p : 0 < markIn w at = omega arith in (p, r .marked at (r .inside) p .most)
 
     again : getD (r .seen) (markIn w at - 1) 0 ≡ stateIn before at
-    again = r .marked at (r .inside) (walk-back .0) .1
+    again = r .marked at (r .inside) (walk-back .0) .state
 
     cycle : drop (markIn w at - 1) (r .latencies) ≡ greedyCycle 1 (width cv) cv
     cycle =
@@ -280,8 +287,8 @@ module _ (before w : List ℕ) (cv k at i : ℕ) (r : Walking before w cv k at i
         getD-take count (drop from w) j 0 low ∙ getD-drop from w j 0 ∙ noted-at j low ∙ sym (getD-drop (markIn w at - 1) (r .latencies) j 0))
         ∙ cycle
 
-    pub walk-end : (entry : List ℕ) → Unmarked entry before → Walked entry w cv (record { from = 1024 + (markIn w at - 1); count = i - (markIn w at - 1) })
-    walk-end entry c = record {
+    pub walk-end : {entry : List ℕ} → Unmarked entry before → Walked entry w cv (record { from = 1024 + (markIn w at - 1); count = i - (markIn w at - 1) })
+    walk-end c = record {
       size = r .frame .size ∙ c .size;
       beyond = λ j l. r .frame .high j (omega arith) ∙ c .above j (omega arith);
       inside = omega (arith, walk-back .1, walk-few, r .listing .index .few);

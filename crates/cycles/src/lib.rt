@@ -63,24 +63,24 @@ fn take_step(
     work: &mut [u32],
     vector: u32,
     columns: u32,
-    count: usize,
+    states: usize,
     at: usize,
     step: usize,
 ) -> usize
     requires { ⌜ Ready (now work) columns at step ⌝ }
-    ensures { λ r. ⌜ Stepped (now (work .entry)) (now (work .exit)) vector columns count at step r ⌝ }
+    ensures { λ r. ⌜ Stepped (now (work .entry)) (now (work .exit)) vector columns states at step r ⌝ }
 {
     let state = work[at];
     let latency = least_latency(state, columns);
-    let next = diagram::place(work, count, words::shift(state, latency) | vector);
+    let next = diagram::place(work, states, words::shift(state, latency) | vector);
     work[768 + at] = (step + 1) as u32;
     work[1024 + step] = latency;
     next
 }
 
 // Walks from the first state by least latencies until a state occurs again, and answers where the latencies from that state on are noted.
-fn walk(work: &mut [u32], vector: u32, count: usize) -> Noted
-    requires { ⌜ Walkable (now work) vector count ⌝ }
+fn walk(work: &mut [u32], vector: u32, states: usize) -> Noted
+    requires { ⌜ Walkable (now work) vector states ⌝ }
     ensures { λ r. ⌜ Walked (now (work .entry)) (now (work .exit)) vector r ⌝ }
 {
     clear_marks(work);
@@ -88,14 +88,13 @@ fn walk(work: &mut [u32], vector: u32, count: usize) -> Noted
     let mut at = 0;
     let mut step = 0;
     while work[768 + at] == 0 {
-        at = take_step(work, vector, columns, count, at, step);
+        at = take_step(work, vector, columns, states, at, step);
         step += 1;
     }
     let first = work[768 + at] as usize - 1;
-    Noted {
-        from: 1024 + first,
-        count: step - first,
-    }
+    let from = 1024 + first;
+    let count = step - first;
+    Noted { from, count }
 }
 
 // Copies latencies to the front of the bytes, and answers their sum.
@@ -139,8 +138,9 @@ pub fn greedy(u: FunctionUnit, tag: Tag, work: &mut [u32], out: &mut [u8]) -> Gr
             let from = cycle.from;
             let count = cycle.count;
             let sum = copy_latencies(work, from, count, out);
+            let latencies = count as u32;
             GreedyAnswer::Cycle(Counted {
-                count: count as u32,
+                count: latencies,
                 sum,
             })
         }

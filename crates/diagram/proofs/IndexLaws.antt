@@ -1,11 +1,11 @@
 -- The index finds a listed state at its place and no other. Assumes nothing.
-use mathlib.Core.Path.{_≡_, refl, sym, ap, _∙_}
+use mathlib.Core.Path.{_≡_, refl, sym, ap, _∙_, subst}
 use mathlib.Core.List.{List}
-use Prim.Native.Nat.{ℕ, zero, suc, _-_, _≤_, _<_}
+use Prim.Native.Nat.{ℕ, zero, suc, _+_, _-_, _≤_, _<_}
 use native.Mathlib.Nat.{not-suc-le-zero}
 use native.Mathlib.Decide.{decLt, ℕ-discrete}
 use native.Mathlib.Omega.{arith}
-use lib.ListN.{take}
+use lib.ListN.{length, getD, take}
 use lib.Seq.{getD-take, length-take-le}
 use Rattle.diagram.specs.States.{Distinct}
 use Rattle.diagram.specs.Work.{stateIn, headIn, linkIn, bucket, along, placeIn, Indexed}
@@ -112,3 +112,29 @@ module _ (w : List ℕ) (k : ℕ) (index : Indexed w k) (x : ℕ) where
         go (yes l) m = absurd (apart (placeIn w k x) i l inside (place-listed place-some) here)
         go (no l) (yes m) = absurd (apart i (placeIn w k x) m place-some here (place-listed place-some))
         go (no l) (no m) = omega arith
+
+-- The index stays right where only words behind it change
+
+pub index-kept : {w w′ : List ℕ} (k : ℕ) → length w′ ≡ length w → ((i : ℕ) → i < 768 → getD w′ i 0 ≡ getD w i 0) → Indexed w k → Indexed w′ k
+index-kept {w} {w′} k size same h = record {
+  room = omega (arith, size, h .room);
+  few = h .few;
+  head-low = λ b l. subst (λ (x : ℕ). x ≤ k) (sym (same (256 + b) (omega arith))) (h .head-low b l);
+  head-in = λ b l m.
+      let e = same (256 + b) (omega arith) in
+      let r : 0 < headIn w b = omega arith in
+      ap bucket (ap (λ (x : ℕ). stateIn w′ (x - 1)) e ∙ same (headIn w b - 1) (omega (arith, h .head-low b l, h .few))) ∙ h .head-in b l r;
+  head-last = λ b l j m o e.
+      h .head-last b l j (subst (λ (x : ℕ). x ≤ j) (same (256 + b) (omega arith)) m) o
+      (ap bucket (sym (same j (omega (arith, h .few)))) ∙ e);
+  link-low = λ i l. subst (λ (x : ℕ). x ≤ i) (sym (same (512 + i) (omega (arith, h .few)))) (h .link-low i l);
+  link-in = λ i l m.
+      let e = same (512 + i) (omega (arith, h .few)) in
+      let r : 0 < linkIn w i = omega arith in
+      ap bucket (ap (λ (x : ℕ). stateIn w′ (x - 1)) e ∙ same (linkIn w i - 1) (omega (arith, h .link-low i l, h .few)))
+      ∙ h .link-in i l r
+      ∙ ap bucket (sym (same i (omega (arith, h .few))));
+  link-last = λ i l j m o e.
+      h .link-last i l j (subst (λ (x : ℕ). x ≤ j) (same (512 + i) (omega (arith, h .few))) m) o
+      (ap bucket (sym (same j (omega (arith, h .few)))) ∙ e ∙ ap bucket (same i (omega (arith, h .few))));
+}

@@ -6,6 +6,7 @@ use native.Mathlib.Nat.{mul-le-mul, mul-le-mul-right}
 use native.Mathlib.Omega.{arith}
 use lib.ListN.{length}
 use Rattle.diagram.specs.Diagram.{next, Permits}
+use Rattle.diagram.proofs.IndexLaws.{index-kept}
 use Rattle.diagram.specs.Work.{stateIn, headIn, linkIn, bucket, Indexed}
 use Rattle.mean_cycle.specs.declared.Cycle.{Cycle}
 use Rattle.mean_cycle.specs.declared.search.Graph.{Graph}
@@ -38,37 +39,12 @@ within-frame lo hi a b h =
 pub listing-few : {w : List ℕ} {G : Graph} → Listing w G → G .nodes ≤ 256
 listing-few h = h .index .few
 
-index-kept : {w w′ : List ℕ} (k : ℕ) → Frame w w′ → Indexed w k → Indexed w′ k
-index-kept {w} {w′} k f h =
-    record {
-      room = omega (arith, f .size, h .room);
-      few = h .few;
-      head-low = λ b l. subst (λ (x : ℕ). x ≤ k) (sym (f .low (256 + b) (omega arith))) (h .head-low b l);
-      head-in = λ b l m.
-          let e = f .low (256 + b) (omega arith) in
-          let r : 0 < headIn w b = omega arith in
-          ap bucket (ap (λ (x : ℕ). stateIn w′ (x - 1)) e ∙ f .low (headIn w b - 1) (omega (arith, h .head-low b l, h .few))) ∙ h .head-in b l r;
-      head-last = λ b l j m o e.
-          h .head-last b l j (subst (λ (x : ℕ). x ≤ j) (f .low (256 + b) (omega arith)) m) o
-          (ap bucket (sym (f .low j (omega (arith, h .few)))) ∙ e);
-      link-low = λ i l. subst (λ (x : ℕ). x ≤ i) (sym (f .low (512 + i) (omega (arith, h .few)))) (h .link-low i l);
-      link-in = λ i l m.
-          let e = f .low (512 + i) (omega (arith, h .few)) in
-          let r : 0 < linkIn w i = omega arith in
-          ap bucket (ap (λ (x : ℕ). stateIn w′ (x - 1)) e ∙ f .low (linkIn w i - 1) (omega (arith, h .link-low i l, h .few)))
-          ∙ h .link-in i l r
-          ∙ ap bucket (sym (f .low i (omega (arith, h .few))));
-      link-last = λ i l j m o e.
-          h .link-last i l j (subst (λ (x : ℕ). x ≤ j) (f .low (512 + i) (omega (arith, h .few))) m) o
-          (ap bucket (sym (f .low j (omega (arith, h .few)))) ∙ e ∙ ap bucket (f .low i (omega (arith, h .few))));
-    }
-
 pub listing-kept : {w w′ : List ℕ} {G : Graph} → Frame w w′ → Listing w G → Listing w′ G
 listing-kept {w} {w′} {G} f h =
     let few : G .nodes ≤ 256 = h .index .few in
     let same : (i : ℕ) → i < G .nodes → stateIn w′ i ≡ stateIn w i = λ i l. f .low i (omega arith) in
     record {
-      index = index-kept (G .nodes) f (h .index);
+      index = index-kept (G .nodes) (f .size) (f .low) (h .index);
       room = omega (arith, f .size, h .room);
       some = h .some;
       narrow = h .narrow;

@@ -57,7 +57,7 @@ fn copy(work: &mut [u32], from: usize, to: usize) -> Cycle
     Cycle { count, sum }
 }
 
-// The greedy cycle: no round less is needed with the arc n + 1 of the first state, since no latency of this cycle is above n + 1.
+// The greedy cycle. None of its latencies is above n + 1, so it is never worse than the arc n + 1 of the first state to itself.
 pub fn first_cycle(work: &mut [u32], graph: Graph) -> Cycle
     requires { ⌜ Listing (now work) graph ⌝ }
     ensures { λ r. ⌜ Begun (now (work .entry)) (now (work .exit)) graph r ⌝ }

@@ -6,6 +6,7 @@ use Prim.Native.Nat.{ℕ, zero, suc, _+_, _*_, _/_, _%_, _^_, _≤_, _<_, max}
 use native.Mathlib.Nat.{le-of-suc-le-suc, not-suc-le-zero, eq-or-lt-of-le, zero-lt-suc, two-pow-succ, mul-add-div-right, mul-add-mod-self-right, le-dest, one-mul, zero-add, pow-suc, div-eq-of-lt, mod-lt, mod-eq-of-lt, mod-one}
 use native.Mathlib.Decide.{decLt}
 use native.Mathlib.Numerals.{add-one}
+use native.Mathlib.Decide.{decLe}
 use native.Mathlib.Omega.{arith}
 use lib.Bits.{bitOr, or-shifted-r}
 use lib.Count.{ones, ones-cat}
@@ -162,6 +163,14 @@ least-skips (suc n) m f k h l = go (f m) refl l (eq-or-lt-of-le h) (λ o. least-
     go true e x o r = absurd (omega arith)
     go false e x (inl q) r = rw q at e
     go false e x (inr o) r = r o x
+
+-- and so the least is at most any that passes
+pub least-le : (n m : ℕ) (f : ℕ → Bool) (k : ℕ) → m ≤ k → f k ≡ true → leastFrom n m f ≤ k
+least-le n m f k h e = go (decLe (leastFrom n m f) k)
+  where
+    go : Dec (leastFrom n m f ≤ k) → leastFrom n m f ≤ k
+    go (yes l) = l
+    go (no l) = nowhere (sym (least-skips n m f k h (omega arith)) ∙ e)
 
 -- where one of the n numbers passes, the least does
 pub least-passes : (n m : ℕ) (f : ℕ → Bool) (k : ℕ) → m ≤ k → k < m + n → f k ≡ true → f (leastFrom n m f) ≡ true

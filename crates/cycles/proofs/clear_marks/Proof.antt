@@ -27,13 +27,13 @@ loop-less : tie.Need-loop-less Inv-loop μ-loop
 loop-less c = omega arith
 
 loop-again : tie.Need-loop-again Inv-loop μ-loop
-loop-again c = clear-more _ _ _ (c .before .loop .inv) (omega (arith, c .loop-test .taken))
+loop-again c = clear-more (c .before .loop .inv) (omega (arith, c .loop-test .taken))
 
 same-length : tie.Need-same-length Inv-loop μ-loop
 same-length c = omega arith
 
 returns : tie.Need-returns Inv-loop μ-loop
-returns c = clear-end _ _ _ (c .before .loop .inv) (omega (arith, c .loop-test .left))
+returns c = clear-end (c .before .loop .inv) (omega (arith, c .loop-test .left))
 
 pub clear-marks-spec : {M : Type 1} → statement M
 clear-marks-spec =

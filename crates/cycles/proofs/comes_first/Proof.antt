@@ -1,9 +1,9 @@
 -- `cycles::comes_first` meets its contract: so far the rotations agree, and what is left of them decides. Assumes nothing.
 use Prim.Native.Nat.{_-_, _≤_}
+use mathlib.Core.Path.{refl}
 use native.Mathlib.Nat.{mod-lt}
 use native.Mathlib.Omega.{arith}
 use lib.ListN.{length}
-use mathlib.Core.Path.{refl}
 use Rattle.cycles.proofs.OrderLaws.{Comparing, compare-end, compare-less, compare-more, compare-on}
 use Rattle.cycles.proofs.comes_first.Statement.{statement}
 use Rattle.cycles.proofs.comes_first.Tie as tie

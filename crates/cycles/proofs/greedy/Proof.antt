@@ -1,9 +1,9 @@
 -- `cycles::greedy` meets its contract: each way that it ends is a law of the answer, the bytes and the working words. Assumes nothing.
 use mathlib.Core.Path.{sym, _∙_}
-use Rattle.diagram.proofs.StatesLaws.{Vector, vector-value, vector-refused, enlist-few, enlist-many}
-use Rattle.cycles.proofs.EndLaws.{listed-walkable, walked-copyable, ends-refused, ends-short-work, ends-short-out, ends-many, ends-cycle}
 use native.Mathlib.Omega.{arith}
 use borrow.Author.Needs.{needs}
+use Rattle.diagram.proofs.StatesLaws.{Vector, vector-value, vector-refused, enlist-few, enlist-many}
+use Rattle.cycles.proofs.EndLaws.{listed-walkable, walked-copyable, ends-refused, ends-short-work, ends-short-out, ends-many, ends-cycle}
 use Rattle.cycles.proofs.greedy.Statement.{statement}
 use Rattle.cycles.proofs.greedy.Tie as tie
 
@@ -16,24 +16,25 @@ enum-known-vector c = search needs
 enum-known-vector-2 : tie.Need-enum-known-vector-2
 enum-known-vector-2 c = search needs
 
+abbrev start : tie.After-known-told2 → tie.Start
+start c = c .before .before .before .before .before .before
+
 -- the vector was handed out: the unit and the tag pass, and this is its word
-known : (c : tie.After-known-told2) → Vector (c .before .before .before .before .before .before .args .u) (c .before .before .before .before .before .before .args .tag .0) (c .before .vector3 .given .0 .0)
+known : (c : tie.After-known-told2) → Vector (start c .args .u) (start c .args .tag .0) (c .before .vector3 .given .0 .0)
 known c =
-    let b = c .before .before .before in
-    let a = b .before .before .before .args in
-    vector-value (a .u) (a .tag .0) (c .before .vector3 .given .0 .0) (sym (b .vector .ensures) ∙ c .before .vector3 .given .1)
+    let a = start c .args in
+    vector-value (a .u) (a .tag .0) (c .before .vector3 .given .0 .0) (sym (c .before .before .before .vector .ensures) ∙ c .before .vector3 .given .1)
 
 returns : tie.Need-returns
 returns c =
-    let b = c .before in
-    let a = b .before .before .before .before .before .before .args in
-    ends-short-work (a .u) (a .tag .0) (a .work .now) (a .out .now) _ (known b) (c .if1 .taken)
+    let a = start (c .before) .args in
+    ends-short-work (a .u) (a .tag .0) (a .work .now) (a .out .now) _ (known (c .before)) (omega (arith, c .if1 .taken))
 
 returns-2 : tie.Need-returns-2
 returns-2 c =
-    let b = c .before .before in
-    let a = b .before .before .before .before .before .before .args in
-    ends-short-out (a .u) (a .tag .0) (a .work .now) (a .out .now) _ (known b) (c .before .if1 .left) (c .if2 .taken)
+    let enough = c .before in
+    let a = start (enough .before) .args in
+    ends-short-out (a .u) (a .tag .0) (a .work .now) (a .out .now) _ (known (enough .before)) (omega (arith, enough .if1 .left)) (omega (arith, c .if2 .taken))
 
 enlist-requires : tie.Need-enlist-requires
 enlist-requires c κs = search needs
@@ -43,34 +44,36 @@ same-length c = search needs
 
 returns-3 : tie.Need-returns-3
 returns-3 c =
-    let d = c .before .before .before in
-    let f = d .before .before in
-    let b = f .before .before in
-    let a = b .before .before .before .before .before .before .args in
-    ends-many (a .u) (a .tag .0) (a .work .now) (a .out .now) _ (known b) (f .before .if1 .left) (f .if2 .left) _ _ (d .enlist .ensures)
-    (enlist-many _ 1 _ (d .enlist .result) (omega (arith, f .before .if1 .left)) (d .enlist .ensures .answer) (c .if3 .taken))
+    let listed = c .before .before .before in
+    let fits = listed .before .before in
+    let enough = fits .before in
+    let a = start (enough .before) .args in
+    ends-many (a .u) (a .tag .0) (a .work .now) (a .out .now) _ (known (enough .before)) (omega (arith, enough .if1 .left)) (omega (arith, fits .if2 .left)) _ _ (listed .enlist .ensures)
+    (enlist-many _ 1 _ (listed .enlist .result) (omega (arith, enough .if1 .left)) (listed .enlist .ensures .answer) (c .if3 .taken))
 
 walk-requires : tie.Need-walk-requires
 walk-requires c κs =
-    let d = c .before .before .before .before in
-    listed-walkable _ _ _ _ (d .before .before .before .if1 .left) (c .before .if3 .left) (d .enlist .ensures)
+    let listed = c .before .before .before .before in
+    let enough = listed .before .before .before in
+    listed-walkable _ _ _ _ (omega (arith, enough .if1 .left)) (c .before .if3 .left) (listed .enlist .ensures)
 
 copy-latencies-requires : tie.Need-copy-latencies-requires
 copy-latencies-requires c κs =
     let walked = c .before .before .before .before in
-    let d = walked .before .before .before .before .before in
-    let f = d .before .before in
-    walked-copyable _ _ _ _ _ (omega (arith, d .enlist .ensures .size, f .before .if1 .left)) (f .if2 .left) (walked .walk .ensures)
+    let listed = walked .before .before .before .before .before in
+    let fits = listed .before .before in
+    walked-copyable _ _ _ _ _ (omega (arith, listed .enlist .ensures .size, fits .before .if1 .left)) (omega (arith, fits .if2 .left)) (walked .walk .ensures)
 
-cast-t27 : tie.Need-cast-t27
-cast-t27 c =
-    omega (arith, c .before .before .before .before .before .before .before .walk .ensures .few)
+cast-latencies : tie.Need-cast-latencies
+cast-latencies c =
+    let walked = c .before .before .before .before .before .before .before in
+    omega (arith, walked .walk .ensures .few)
 
 returns-4 : tie.Need-returns-4
 returns-4 c =
-    let b = c .before .before .before in
-    let a = b .before .before .before .args in
-    ends-refused (a .u) (a .tag .0) (a .work .now) (a .out .now) _ (vector-refused (a .u) (a .tag .0) _ (sym (b .vector .ensures) ∙ c .before .vector2 .given .1))
+    let asked = c .before .before .before in
+    let a = asked .before .before .before .args in
+    ends-refused (a .u) (a .tag .0) (a .work .now) (a .out .now) _ (vector-refused (a .u) (a .tag .0) _ (sym (asked .vector .ensures) ∙ c .before .vector2 .given .1))
 
 same-length-2 : tie.Need-same-length-2
 same-length-2 c = search needs
@@ -82,12 +85,12 @@ returns-5 : tie.Need-returns-5
 returns-5 c =
     let copied = c .before .before in
     let walked = copied .before .before .before .before .before in
-    let d = walked .before .before .before .before .before in
-    let f = d .before .before in
-    let b = f .before .before in
-    let a = b .before .before .before .before .before .before .args in
-    ends-cycle (a .u) (a .tag .0) (a .work .now) (a .out .now) _ (known b) (f .before .if1 .left) (f .if2 .left) _ _ (d .enlist .ensures)
-    (enlist-few _ 1 _ (d .enlist .result) (d .enlist .ensures .answer) (walked .before .before .if3 .left))
+    let listed = walked .before .before .before .before .before in
+    let fits = listed .before .before in
+    let enough = fits .before in
+    let a = start (enough .before) .args in
+    ends-cycle (a .u) (a .tag .0) (a .work .now) (a .out .now) _ (known (enough .before)) (omega (arith, enough .if1 .left)) (omega (arith, fits .if2 .left)) _ _ (listed .enlist .ensures)
+    (enlist-few _ 1 _ (listed .enlist .result) (listed .enlist .ensures .answer) (walked .before .before .if3 .left))
     _ (walked .walk .result) _ _ (walked .walk .ensures) (copied .copy-latencies .ensures)
 
 pub greedy-spec : {M : Type 1} → statement M
@@ -104,7 +107,7 @@ greedy-spec =
     returns-3
     walk-requires
     copy-latencies-requires
-    cast-t27
+    cast-latencies
     returns-4
     same-length-2
     same-length-3

@@ -25,7 +25,7 @@ test-requires c κs = search needs
 returns : tie.Need-returns Inv-loop μ-loop
 returns c =
     let turn = c .before .before in
-    try-found _ _ _ (turn .before .loop .inv) (turn .loop-test .taken) (off (c .if1 .taken) (c .before .test .ensures))
+    try-found (turn .before .loop .inv) (turn .loop-test .taken) (off (c .if1 .taken) (c .before .test .ensures))
 
 add-latency : tie.Need-add-latency Inv-loop μ-loop
 add-latency c = omega arith
@@ -36,10 +36,10 @@ loop-less c = omega arith
 loop-again : tie.Need-loop-again Inv-loop μ-loop
 loop-again c =
     let turn = c .before .before in
-    try-more _ _ _ (turn .before .loop .inv) (turn .loop-test .taken) (on (c .if1 .left) (c .before .test .ensures))
+    try-more (turn .before .loop .inv) (turn .loop-test .taken) (on (c .if1 .left) (c .before .test .ensures))
 
 returns-2 : tie.Need-returns-2 Inv-loop μ-loop
-returns-2 c = try-last _ _ _ (c .before .loop .inv) (c .loop-test .left)
+returns-2 c = try-last (c .before .loop .inv) (c .loop-test .left)
 
 pub least-latency-spec : {M : Type 1} → statement M
 least-latency-spec =

@@ -1,11 +1,11 @@
--- `cycles::take_step` meets its contract. Assumes nothing.
+-- `cycles::take_step` meets its contract: what it writes and where it leads are those of the least latency. Assumes nothing.
 use Prim.Native.Nat.{_+_}
 use mathlib.Core.Path.{ap, _∙_}
+use native.Mathlib.Omega.{arith}
 use lib.ListN.{set, length-set}
+use borrow.Author.Needs.{needs}
 use Rattle.diagram.specs.Work.{placeIn}
 use Rattle.cycles.proofs.LatencyLaws.{step-state}
-use native.Mathlib.Omega.{arith}
-use borrow.Author.Needs.{needs}
 use Rattle.cycles.proofs.take_step.Statement.{statement}
 use Rattle.cycles.proofs.take_step.Tie as tie
 
@@ -54,12 +54,13 @@ same-length c = search needs
 returns : tie.Need-returns
 returns c =
     let found = c .before .before .before in
-    let a = c .before .before .before .before .before .before in
-    let w = a .args .work .now in
+    let entry = c .before .before .before .before .before .before in
+    let a = entry .args in
+    let w = a .work .now in
     let latency = found .least-latency .ensures in
     record {
-      words = ap (set (set w (768 + a .args .at) (a .args .step + 1)) (1024 + a .args .step)) latency;
-      place = c .place .ensures ∙ ap (placeIn w (a .args .count)) (step-state (a .args .vector) _ _ _ _ (a .pre .narrow) latency (c .before .shift .ensures));
+      words = ap (set (set w (768 + a .at) (a .step + 1)) (1024 + a .step)) latency;
+      place = c .place .ensures ∙ ap (placeIn w (a .states)) (step-state (a .vector) _ _ _ _ (entry .pre .narrow) latency (c .before .shift .ensures));
     }
 
 pub take-step-spec : {M : Type 1} → statement M
