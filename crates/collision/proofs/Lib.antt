@@ -1,4 +1,5 @@
 pub mod RowLaws
+pub mod CommonLaws
 pub mod AnswerLaws
 pub mod NumberLaws
 pub mod VectorLaws

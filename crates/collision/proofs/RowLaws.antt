@@ -47,52 +47,42 @@ meet-empty a =
     (λ s h. not-passed (isSet a s && isSet 0 s)
     (λ e. nowhere (sym (zero-unset 0 s (bit-of-zero s)) ∙ and-right (isSet a s) (isSet 0 s) e)))
 
--- Columns a latency apart
-
--- the first c columns of the later function meet none
-abbrev pub Apart : List ℕ → List ℕ → ℕ → ℕ → Type 0
-Apart later earlier t c = (j : ℕ) → j < c → meet (getD later j 0) (getD earlier (j + t) 0) ≡ false
-
-pub shared-found : (later earlier : List ℕ) (t c : ℕ) → c < 32 → meet (getD later c 0) (getD earlier (c + t) 0) ≡ true → shared later earlier t ≡ true
-unfolding shared
-shared-found later earlier t c h e = some-intro 32 (λ c. meet (getD later c 0) (getD earlier (c + t) 0)) c h e
-
--- from there on the earlier function has no columns
-pub shared-none : (later earlier : List ℕ) (t : ℕ) → length earlier ≡ 32 → Apart later earlier t (32 - t) → shared later earlier t ≡ false
-unfolding shared
-shared-none later earlier t n f = some-none 32 (λ c. meet (getD later c 0) (getD earlier (c + t) 0)) (λ c h. go c (decLt c (32 - t)))
-  where
-    go : (c : ℕ) → Dec (c < 32 - t) → meet (getD later c 0) (getD earlier (c + t) 0) ≡ false
-    go c (yes l) = f c l
-    go c (no l) = ap (meet (getD later c 0)) (List·getD-eq-default earlier 0 (omega (arith, n))) ∙ meet-empty (getD later c 0)
-
 -- The row
 
--- the row up to the latency t
-abbrev pub rowBefore : List ℕ → List ℕ → ℕ → ℕ
-rowBefore later earlier t = wordBelow (t - 1) (λ k. shared later earlier (k + 1))
+-- no two columns are 32 apart
+shared-far : (later earlier : List ℕ) → length earlier ≡ 32 → shared later earlier 32 ≡ false
+unfolding shared
+shared-far later earlier n =
+    some-none 32 (λ c. meet (getD later c 0) (getD earlier (c + 32) 0))
+    (λ c h. ap (meet (getD later c 0)) (List·getD-eq-default earlier 0 (omega (arith, n))) ∙ meet-empty (getD later c 0))
 
-module _ (later earlier : List ℕ) (t : ℕ) (h : 1 ≤ t) where
+-- the row of the latencies below t that pass a test
+abbrev pub rowBefore : (ℕ → Bool) → ℕ → ℕ
+rowBefore f t = wordBelow (t - 1) (λ k. f (k + 1))
+
+module _ (f : ℕ → Bool) (t : ℕ) (h : 1 ≤ t) where
   here : t - 1 + 1 ≡ t
   here = omega arith
 
   next : t - 1 + 1 ≡ t + 1 - 1
   next = omega arith
 
-  pub row-one : t < 32 → shared later earlier t ≡ true → setBit (rowBefore later earlier t) (t - 1) ≡ rowBefore later earlier (t + 1)
+  pub row-one : t < 32 → f t ≡ true → setBit (rowBefore f t) (t - 1) ≡ rowBefore f (t + 1)
   row-one l e =
-      word-one (t - 1) (λ k. shared later earlier (k + 1)) (omega arith) (ap (shared later earlier) here ∙ e)
-      ∙ ap (λ m. wordBelow m (λ k. shared later earlier (k + 1))) next
+      word-one (t - 1) (λ k. f (k + 1)) (omega arith) (ap f here ∙ e)
+      ∙ ap (λ m. wordBelow m (λ k. f (k + 1))) next
 
-  pub row-zero : shared later earlier t ≡ false → rowBefore later earlier t ≡ rowBefore later earlier (t + 1)
+  pub row-zero : f t ≡ false → rowBefore f t ≡ rowBefore f (t + 1)
   row-zero e =
-      word-none (t - 1) (λ k. shared later earlier (k + 1)) (ap (shared later earlier) here ∙ e)
-      ∙ ap (λ m. wordBelow m (λ k. shared later earlier (k + 1))) next
+      word-none (t - 1) (λ k. f (k + 1)) (ap f here ∙ e)
+      ∙ ap (λ m. wordBelow m (λ k. f (k + 1))) next
 
--- no two columns are 32 apart
-pub row-end : (later earlier : List ℕ) → length earlier ≡ 32 → rowBefore later earlier 32 ≡ rowOfColumns later earlier
+pub row-end : (later earlier : List ℕ) (f : ℕ → Bool) → length earlier ≡ 32 → ((t : ℕ) → t < 32 → f t ≡ shared later earlier t)
+    → rowBefore f 32 ≡ rowOfColumns later earlier
 unfolding rowOfColumns
-row-end later earlier n = word-none 31 (λ k. shared later earlier (k + 1)) (shared-none later earlier 32 n (λ j l. absurd (omega arith)))
+row-end later earlier f n e =
+    word-same 31 (λ k. f (k + 1)) (λ k. shared later earlier (k + 1)) (λ k h. e (k + 1) (omega arith))
+    ∙ word-none 31 (λ k. shared later earlier (k + 1)) (shared-far later earlier n)
 
 -- The unit's table
 

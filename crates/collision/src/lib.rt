@@ -8,10 +8,10 @@ ghost use lib.ListN.{length, take};
 ghost use Rattle.words.specs.Bits.{isSet};
 ghost use Rattle.unit.specs.Unit.{marked};
 ghost use Rattle.collision.specs.Pipeline.{total};
-ghost use Rattle.collision.specs.Vector.{meet, shared, rowOfColumns, rowWord};
+ghost use Rattle.collision.specs.Vector.{rowOfColumns, rowWord};
 ghost use Rattle.collision.specs.Answers.{tagsAnswer, vectorAnswer, rowAnswer, boundAnswer, upperAnswer, constantAnswer};
 ghost use Rattle.collision.specs.Judge.{goodCycle, counted, betterOf, judgeAnswer};
-ghost use Rattle.collision.specs.Inner.{marksAt, mostMarks, freeOf, leastFree, startMeets, turnMeets};
+ghost use Rattle.collision.specs.Inner.{SameWords, Joins, Common, marksAt, mostMarks, freeOf, leastFree, startMeets, turnMeets};
 use unit::Answer;
 use unit::FunctionUnit;
 use unit::Refusal;
@@ -30,27 +30,45 @@ pub enum Verdict {
     Refused(Refusal),
 }
 
-// Whether two columns have a mark in one segment.
-fn share_segment(a: u16, b: u16) -> bool
-    ensures { λ r. ⌜ r ≡ meet a b ⌝ }
+// The columns of a function, with as many empty ones after them.
+fn padded(columns: [u16; 32]) -> [u16; 64]
+    ensures { λ r. ⌜ SameWords columns r ⌝ }
 {
-    a & b != 0
+    let mut wide = [0u16; 64];
+    let mut i: usize = 0;
+    while i < 32 {
+        wide[i] = columns[i];
+        i += 1;
+    }
+    wide
 }
 
-// Whether a task of the later function, started this latency after one of the earlier, would collide with it.
-fn share(later: [u16; 32], earlier: [u16; 32], latency: u32) -> bool
-    requires { ⌜ latency ≤ 32 ⌝ }
-    ensures { λ r. ⌜ r ≡ shared later earlier latency ⌝ }
+// Adds to word t what a column of the later function shares with the column of the earlier one that is t further on. The loop has
+// no branch and a constant bound, so that the machine takes several words at a time.
+fn join_column(common: &mut [u16; 32], earlier: &[u16; 64], column: usize, word: u16)
+    requires { ⌜ (column < 32) × (length (now common) ≡ 32) ⌝ }
+    ensures { λ _. ⌜ Joins (now (earlier .entry)) column word (now (common .entry)) (now (common .exit)) ⌝ }
 {
-    let apart = latency as usize;
-    let mut column: usize = 0;
-    while column < 32 - apart {
-        if share_segment(later[column], earlier[column + apart]) {
-            return true;
-        }
-        column += 1;
+    let mut apart: usize = 0;
+    while apart < 32 {
+        common[apart] = common[apart] | (word & earlier[column + apart]);
+        apart += 1;
     }
-    false
+}
+
+// Word t has the segments in which a task of the later function, started t after one of the earlier, would collide with it. Every
+// column is taken, also one without marks: the cost is the same for all units, and that of the worst is lowest so.
+fn common_segments(later: [u16; 32], earlier: [u16; 32]) -> [u16; 32]
+    ensures { λ r. ⌜ Common later earlier r ⌝ }
+{
+    let wide = padded(earlier);
+    let mut common = [0u16; 32];
+    let mut passed: usize = 0;
+    while passed < 32 {
+        join_column(&mut common, &wide, passed, later[passed]);
+        passed += 1;
+    }
+    common
 }
 
 // The row of a matrix, from the marks of two functions by column as `unit::columns_of` hands them out: column t of the row is
@@ -58,10 +76,11 @@ fn share(later: [u16; 32], earlier: [u16; 32], latency: u32) -> bool
 pub fn row_of(later: [u16; 32], earlier: [u16; 32]) -> u32
     ensures { λ r. ⌜ r ≡ rowOfColumns later earlier ⌝ }
 {
+    let common = common_segments(later, earlier);
     let mut row: u32 = 0;
     let mut latency: u32 = 1;
     while latency < 32 {
-        if share(later, earlier, latency) {
+        if common[latency as usize] != 0 {
             row = words::set(row, latency - 1);
         }
         latency += 1;

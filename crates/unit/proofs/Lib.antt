@@ -1,4 +1,5 @@
 pub mod Laws
 pub mod SoundLaws
+pub mod JoinLaws
 pub mod EditLaws
 pub mod ColumnLaws

@@ -1,22 +1,22 @@
 -- The soundness test says what `SoundUnit` says, and the test of the words is the same test. Assumes nothing.
-use Prim.Native.Nat.{ℕ, zero, suc, _+_, _-_, _*_, _/_, _%_, _^_, _<_, _≤_}
+use Prim.Native.Nat.{ℕ, _+_, _-_, _/_, _%_, _^_, _<_, _≤_}
 use mathlib.Core.Path.{_≡_, refl, ap, _∙_, sym, subst}
 use mathlib.Core.Bool.{Bool, true, false, cond, not, _&&_}
 use mathlib.Core.Logic.{_↔_}
 use native.Mathlib.Omega.{arith}
 use native.Mathlib.Decide.{decLt}
-use lib.Dec.{eqb, ltb, leb}
+use lib.Dec.{eqb, leb}
 use lib.ListN.{length, getD}
-use borrow.Author.Tests.{eq-eqb, ne-eqb, eqb-true, eqb-false, lt-ltb, ltb-true, leb-true, le-leb, not-true, not-false}
+use borrow.Author.Tests.{ne-eqb, eqb-false, leb-true, le-leb, not-true}
 use Rattle.words.specs.Bits.{isSet}
 use Rattle.words.specs.Below.{someBelow}
 use Rattle.words.proofs.Tests.{nowhere, and-left, and-right, and-true, same-test, not-passed, by-test}
-use Rattle.words.proofs.BitLaws.{bit-of-zero, zero-unset, set-below, HighBit, high-bit, some-bit}
-use Rattle.words.proofs.BelowLaws.{some-intro, Passes, some-elim}
+use Rattle.words.proofs.BitLaws.{bit-of-zero, zero-unset, set-below, high-bit, some-bit}
+use Rattle.words.proofs.BelowLaws.{some-intro, some-elim}
 use Rattle.unit.specs.declared.FunctionUnit.{FunctionUnit}
-use Rattle.unit.specs.Inner.{cleanWord, Unclean, Tested}
-use Rattle.unit.specs.Unit.{inside, somewhere, place, wordAt, marked, strays, marksInside, goodCounts, soundPlan, soundOf, SoundUnit}
-use Rattle.unit.proofs.Laws.{Within, within, inside-of, somewhere-of, Place, placed, Sound, sound-has, sound-of}
+use Rattle.unit.specs.Inner.{Clean, Tested}
+use Rattle.unit.specs.Unit.{inside, somewhere, place, wordAt, marked, strays, marksInside, soundPlan, soundOf, SoundUnit}
+use Rattle.unit.proofs.Laws.{Within, within, inside-of, somewhere-of, Place, placed, sound-has, sound-of}
 
 -- what the machine has of a unit: 128 words of 16 bits
 pub record Words (u : FunctionUnit) : Type 0 where
@@ -66,33 +66,12 @@ inside-test u h = ap not (not-passed (someBelow 5 (λ q. someBelow 17 (λ s. som
 
 -- The same test of the words
 
-record Clear (f s c i w : ℕ) : Type 0 where
-  pub tag : i / 32 < f
-  pub column : i % 32 < c
-  pub small : w < 2 ^ s
-
-clear : (f s c i w k : ℕ) → cleanWord f s c i w ≡ true → isSet w k ≡ true → Clear f s c i w
-clear f s c i w k e b = go (eqb w 0) refl e
-  where
-    go : (t : Bool) → eqb w 0 ≡ t → cond t true (ltb (i / 32) f && (ltb (i % 32) c && ltb w (2 ^ s))) ≡ true → Clear f s c i w
-    go true z h = nowhere (sym (zero-unset 0 k (bit-of-zero k)) ∙ subst (λ (n : ℕ). isSet n k ≡ true) (eqb-true w 0 z) b)
-    go false z h =
-        let r = and-right (ltb (i / 32) f) _ h in
-        record {
-          tag = ltb-true (i / 32) f (and-left (ltb (i / 32) f) _ h);
-          column = ltb-true (i % 32) c (and-left (ltb (i % 32) c) _ r);
-          small = ltb-true w (2 ^ s) (and-right (ltb (i % 32) c) _ r);
-        }
-
-abbrev pub Clean : FunctionUnit → Type 0
-Clean u = (k : ℕ) → k < 128 → cleanWord (u .functions) (u .segments) (u .columns) k (getD (u .marks) k 0) ≡ true
-
-clean-inside : (u : FunctionUnit) → Clean u → Inside u
+clean-inside : (u : FunctionUnit) → Clean (u .functions) (u .segments) (u .columns) (u .marks) → Inside u
 unfolding marked
 clean-inside u h q s c e =
     let x = placed q s c (and-left (somewhere q s c) _ e) in
     let b = and-right (somewhere q s c) _ e in
-    let d = clear (u .functions) (u .segments) (u .columns) (place q c) (wordAt u q c) (s - 1) (h (place q c) (omega arith)) b in
+    let d = h (place q c) (omega arith) (λ z. nowhere (sym (zero-unset 0 (s - 1) (bit-of-zero (s - 1))) ∙ subst (λ (n : ℕ). isSet n (s - 1) ≡ true) z b)) in
     let l = set-below (wordAt u q c) (u .segments) (s - 1) (d .small) b in
     omega arith
 
@@ -106,9 +85,12 @@ word-mark u k j l lj =
     ap (λ t. t && isSet (getD (u .marks) (place (k / 32 + 1) (k % 32 + 1)) 0) (j + 1 - 1)) sw
     ∙ ap (λ i. isSet (getD (u .marks) i 0) (j + 1 - 1)) p ∙ ap (λ i. isSet (getD (u .marks) k 0) i) q
 
-inside-word : (u : FunctionUnit) → Within (u .segments) 16 → Inside u → (k : ℕ) → k < 128 → getD (u .marks) k 0 < 2 ^ 16
-    → cleanWord (u .functions) (u .segments) (u .columns) k (getD (u .marks) k 0) ≡ true
-inside-word u s16 d k l small = go (eqb (getD (u .marks) k 0) 0) refl
+inside-clean : (u : FunctionUnit) → Within (u .segments) 16 → ((k : ℕ) → k < 128 → getD (u .marks) k 0 < 2 ^ 16) → Inside u
+    → Clean (u .functions) (u .segments) (u .columns) (u .marks)
+inside-clean u s16 small d k l ne =
+    let r = some-bit 16 (getD (u .marks) k 0) (small k l) ne in
+    let x = here (r .at) (r .most) (r .set) in
+    record { tag = omega arith; column = omega arith; small = below (decLt (getD (u .marks) k 0) (2 ^ (u .segments))) }
   where
     here : (j : ℕ) → j < 16 → isSet (getD (u .marks) k 0) j ≡ true
         → (k / 32 + 1 ≤ u .functions) × (j + 1 ≤ u .segments) × (k % 32 + 1 ≤ u .columns)
@@ -119,27 +101,16 @@ inside-word u s16 d k l small = go (eqb (getD (u .marks) k 0) 0) refl
     below (no h) =
         let e : u .segments + (16 - u .segments) ≡ 16 = omega (arith, s16 .most) in
         let r = high-bit (16 - u .segments) (u .segments) (getD (u .marks) k 0) (omega arith)
-        (subst (λ (m : ℕ). getD (u .marks) k 0 < 2 ^ m) (sym e) small) in
+        (subst (λ (m : ℕ). getD (u .marks) k 0 < 2 ^ m) (sym e) (small k l)) in
         let x = here (r .at) (omega arith) (r .set) in
         absurd (omega arith)
-
-    go : (t : Bool) → eqb (getD (u .marks) k 0) 0 ≡ t
-        → cond t true (ltb (k / 32) (u .functions) && (ltb (k % 32) (u .columns) && ltb (getD (u .marks) k 0) (2 ^ (u .segments)))) ≡ true
-    go true e = refl
-    go false e =
-        let r = some-bit 16 (getD (u .marks) k 0) small (eqb-false (getD (u .marks) k 0) 0 e) in
-        let x = here (r .at) (r .most) (r .set) in
-        simp (lt-ltb (k / 32) (u .functions) (omega arith), lt-ltb (k % 32) (u .columns) (omega arith), lt-ltb _ _ (below (decLt (getD (u .marks) k 0) (2 ^ (u .segments)))))
 
 -- the test of the words is that of the marks
 pub tested-means : (u : FunctionUnit) (r : Bool) → inside (u .segments) 16 ≡ true
     → Tested (u .functions) (u .segments) (u .columns) (u .marks) r → r ≡ marksInside u
 tested-means u r s16 t =
     same-test r (marksInside u) (λ e. inside-test u (clean-inside u (t .passed e)))
-    (λ h. by-test r (λ e. e)
-    (λ e.
-    let x = t .failed e in
-    nowhere (sym (x .stray) ∙ inside-word u (within (u .segments) 16 s16) (inside-means u h) (x .at) (x .inside) (x .small))))
+    (λ h. by-test r (λ e. e) (λ e. absurd (t .failed e (inside-clean u (within (u .segments) 16 s16) (t .small) (inside-means u h)))))
 
 -- Soundness as facts
 

@@ -1,26 +1,40 @@
 -- What the private functions ask and find. No public contract cites this file.
 use mathlib.Core.Path.{_≡_}
+use mathlib.Core.Logic.{_↔_}
 use Prim.Native.Nat.{ℕ, _/_, _%_, _^_, _≤_, _<_}
 use mathlib.Core.List.{List}
-use mathlib.Core.Bool.{Bool, true, false, cond, _&&_}
-use lib.Dec.{ltb, eqb}
+use mathlib.Core.Bool.{Bool, true, false}
 use lib.ListN.{getD}
 
--- the word at i has no mark outside the counts
-abbrev pub cleanWord : ℕ → ℕ → ℕ → ℕ → ℕ → Bool
-cleanWord f s c i w = cond (eqb w 0) true (ltb (i / 32) f && (ltb (i % 32) c && ltb w (2 ^ s)))
+-- a place from one on and before another
+pub record Between (from to k : ℕ) : Type 0 where
+  pub least : from ≤ k
+  pub most : k < to
 
--- a word of 16 bits that has one
-pub record Unclean (f s c : ℕ) (words : List ℕ) : Type 0 where
-  pub at : ℕ
-  pub inside : at < 128
-  pub small : getD words at 0 < 2 ^ 16
-  pub stray : cleanWord f s c at (getD words at 0) ≡ false
+-- a word of one of the four functions whose column, counted from 0, is from one on and before another
+pub record Beyond (from to k : ℕ) : Type 0 where
+  pub inside : k < 128
+  pub least : from ≤ k % 32
+  pub most : k % 32 < to
 
--- the words were tested
+-- r has all the bits of the words at these places: it has none from s on exactly where no such word has
+abbrev pub Joins : (ℕ → Type 0) → List ℕ → ℕ → Type 0
+Joins P words r = (s : ℕ) → (r < 2 ^ s) ↔ ((k : ℕ) → P k → getD words k 0 < 2 ^ s)
+
+-- a word other than 0 is of a function and of a column within the counts, and so are the segments of its bits
+pub record Clear (f s c k w : ℕ) : Type 0 where
+  pub tag : k / 32 < f
+  pub column : k % 32 < c
+  pub small : w < 2 ^ s
+
+abbrev pub Clean : ℕ → ℕ → ℕ → List ℕ → Type 0
+Clean f s c words = (k : ℕ) → k < 128 → (getD words k 0 ≡ 0 → ⊥) → Clear f s c k (getD words k 0)
+
+-- the words, of 16 bits each, were tested
 pub record Tested (f s c : ℕ) (words : List ℕ) (r : Bool) : Type 0 where
-  pub passed : r ≡ true → (k : ℕ) → k < 128 → cleanWord f s c k (getD words k 0) ≡ true
-  pub failed : r ≡ false → Unclean f s c words
+  pub small : (k : ℕ) → k < 128 → getD words k 0 < 2 ^ 16
+  pub passed : r ≡ true → Clean f s c words
+  pub failed : r ≡ false → Clean f s c words → ⊥
 
 -- a tag and a column that some unit has
 pub record Somewhere (q c : ℕ) : Type 0 where

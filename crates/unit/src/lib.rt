@@ -2,9 +2,9 @@
 // Every function here is proved, total and without a `requires`. Only this crate knows how the marks are laid out: the
 // crates above go by `marked` (specs/Unit.antt) and by the columns that `columns_of` hands out.
 ghost use mathlib.Core.Path.{_≡_};
-ghost use Prim.Native.Nat.{_-_, _^_, _≤_, _<_};
+ghost use Prim.Native.Nat.{_-_, _≤_};
 ghost use Rattle.words.specs.Bits.{setBit, clearBit};
-ghost use Rattle.unit.specs.Inner.{cleanWord, Tested, Somewhere};
+ghost use Rattle.unit.specs.Inner.{Between, Beyond, Joins, Tested, Somewhere};
 ghost use Rattle.unit.specs.Numbers.{numberOf};
 ghost use Rattle.unit.specs.Unit.{inside, goodCounts, soundPlan, soundOf, place, wordAt, columnsOf};
 ghost use Rattle.unit.specs.Calls.{noPlan, withWord, tagAnswer, spotAnswer, freshOf, markOf, unmarkOf};
@@ -121,40 +121,51 @@ fn plan_is_sound(tag: u8, count: u16) -> bool
     true
 }
 
-// Whether the word at i has no mark outside the counts.
-fn clean_word(functions: u8, segments: u8, columns: u8, i: usize, w: u16) -> bool
-    requires { ⌜ segments ≤ 16 ⌝ }
-    ensures { λ r. ⌜ (r ≡ cleanWord functions segments columns i w) × (w < 2 ^ 16) ⌝ }
+// All the marks of the words from a place on, in one word. Neither this loop nor the next has a branch, so that the machine takes
+// several words at a time.
+fn joined_from(words: &[u16; 128], from: usize) -> u16
+    requires { ⌜ from ≤ 128 ⌝ }
+    ensures { λ r. ⌜ Joins (Between from 128) (now (words .entry)) r ⌝ }
 {
-    if w == 0 {
-        return true;
-    }
-    if (functions as usize) <= i / 32 {
-        return false;
-    }
-    if (columns as usize) <= i % 32 {
-        return false;
-    }
-    let top: u32 = 1 << segments;
-    if top <= (w as u32) {
-        return false;
-    }
-    true
-}
-
-fn clean_marks(functions: u8, segments: u8, columns: u8, marks: [u16; 128]) -> bool
-    requires { ⌜ segments ≤ 16 ⌝ }
-    ensures { λ r. ⌜ Tested functions segments columns marks r ⌝ }
-{
-    let mut i: usize = 0;
+    let mut all: u16 = 0;
+    let mut i: usize = from;
     while i < 128 {
-        let w = marks[i];
-        if !clean_word(functions, segments, columns, i, w) {
-            return false;
-        }
+        all = all | words[i];
         i += 1;
     }
-    true
+    all
+}
+
+// All the marks that the four functions have after their first `columns` columns, in one word.
+fn joined_beyond(words: &[u16; 128], columns: usize) -> u16
+    requires { ⌜ columns ≤ 32 ⌝ }
+    ensures { λ r. ⌜ Joins (Beyond columns 32) (now (words .entry)) r ⌝ }
+{
+    let mut all: u16 = 0;
+    let mut column: usize = columns;
+    while column < 32 {
+        all = all | (words[column] | words[column + 32] | words[column + 64] | words[column + 96]);
+        column += 1;
+    }
+    all
+}
+
+// Whether no word has a mark outside the counts: in a segment, of a function or in a column that the unit does not have.
+fn clean_marks(functions: u8, segments: u8, columns: u8, marks: [u16; 128]) -> bool
+    requires { ⌜ (functions ≤ 4) × (segments ≤ 16) × (columns ≤ 32) ⌝ }
+    ensures { λ r. ⌜ Tested functions segments columns marks r ⌝ }
+{
+    let top: u32 = 1 << segments;
+    let all = joined_from(&marks, 0);
+    if top <= (all as u32) {
+        return false;
+    }
+    let absent = joined_from(&marks, functions as usize * 32);
+    if absent != 0 {
+        return false;
+    }
+    let beyond = joined_beyond(&marks, columns as usize);
+    beyond == 0
 }
 
 fn counts(functions: u8, segments: u8, columns: u8) -> bool

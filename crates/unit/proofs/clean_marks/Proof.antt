@@ -1,74 +1,67 @@
--- `unit::clean_marks` meets its contract. The loop's invariant: the words passed are clean. Assumes nothing.
-use Prim.Native.Nat.{ℕ, _≤_, _<_, _-_}
-use mathlib.Core.Path.{_≡_, refl, sym, _∙_}
-use mathlib.Core.Bool.{true, false}
+-- `unit::clean_marks` meets its contract: the joined words are tested in turn. Assumes nothing.
+use Prim.Native.Nat.{_*_, _%_, _^_, _≤_, _<_}
 use native.Mathlib.Omega.{arith}
-use borrow.Author.Count.{below-none, below-more}
+use Rattle.words.proofs.BitLaws.{shifted-one}
+use Rattle.unit.proofs.JoinLaws.{segments-clean, functions-clean, refused, tested}
 use borrow.Author.Needs.{needs}
-use lib.ListN.{getD}
-use Rattle.words.proofs.Tests.{nowhere, on, off}
-use Rattle.unit.specs.Inner.{cleanWord}
 use Rattle.unit.proofs.clean_marks.Statement.{statement}
 use Rattle.unit.proofs.clean_marks.Tie as tie
 
-abbrev Inv-loop : tie.InvT-loop
-Inv-loop functions segments columns marks i₀ i =
-    (i ≤ 128) × ((k : ℕ) → k < i → cleanWord functions segments columns k (getD marks k 0) ≡ true)
+shl-top : tie.Need-shl-top
+shl-top c = search needs
 
-abbrev μ-loop : tie.MeasureT-loop
-μ-loop functions segments columns marks i₀ i = 128 - i
+joined-from-requires : tie.Need-joined-from-requires
+joined-from-requires c κs = search needs
 
-loop-holds : tie.Need-loop-holds Inv-loop μ-loop
-loop-holds c = (search needs, λ k h. absurd (omega arith))
+cast-if1 : tie.Need-cast-if1
+cast-if1 c = search needs
 
-mul-w : tie.Need-mul-w Inv-loop μ-loop
-mul-w c = search needs
+returns : tie.Need-returns
+returns c =
+    let a = c .before .before .before .args in
+    let j = c .before .joined-from in
+    let p : (1 * 2 ^ a .segments) % 2 ^ 32 ≤ j .result = c .if1 .taken in
+    let t = shifted-one (a .segments) 32 (omega arith) in
+    refused (a .functions) (a .segments) (a .columns) (a .t4) (j .result) (j .ensures) (search needs)
+    (λ d. omega (arith, segments-clean (a .functions) (a .segments) (a .columns) (a .t4) (j .result) (j .ensures) d))
 
-array-read-w : tie.Need-array-read-w Inv-loop μ-loop
-array-read-w c = search needs
+mul-joined-from : tie.Need-mul-joined-from
+mul-joined-from c = search needs
 
-clean-word-requires : tie.Need-clean-word-requires Inv-loop μ-loop
-clean-word-requires c κs = search needs
+joined-from-requires-2 : tie.Need-joined-from-requires-2
+joined-from-requires-2 c κs = search needs
 
-returns : tie.Need-returns Inv-loop μ-loop
-returns c = record {
-  passed = λ e. nowhere e;
-  failed = λ e. record {
-    at = c .before .before .before .loop .i;
-    inside = search needs;
-    small = c .before .clean-word .ensures .1;
-    stray = off (c .if1 .taken) (c .before .clean-word .ensures .0);
-  };
-}
+returns-2 : tie.Need-returns-2
+returns-2 c =
+    let a = c .before .before .before .before .before .before .args in
+    let j = c .before .before .before .before .joined-from in
+    let b = c .before .joined-from2 in
+    refused (a .functions) (a .segments) (a .columns) (a .t4) (j .result) (j .ensures) (search needs)
+    (λ d. c .if2 .taken (omega (arith, functions-clean (a .functions) (a .segments) (a .columns) (a .t4) (b .result) (b .ensures) d)))
 
-add-i : tie.Need-add-i Inv-loop μ-loop
-add-i c = search needs
+joined-beyond-requires : tie.Need-joined-beyond-requires
+joined-beyond-requires c κs = search needs
 
-loop-less : tie.Need-loop-less Inv-loop μ-loop
-loop-less c = search needs
-
-loop-again : tie.Need-loop-again Inv-loop μ-loop
-loop-again c =
-    (search needs, below-more _ _ (c .before .before .before .loop .inv .1) (on (c .if1 .left) (c .before .clean-word .ensures .0)))
-
-returns-2 : tie.Need-returns-2 Inv-loop μ-loop
-returns-2 c = record {
-  passed = λ e k h. c .before .loop .inv .1 k (omega (arith, c .loop-test .left));
-  failed = λ e. nowhere (sym e);
-}
+returns-3 : tie.Need-returns-3
+returns-3 c =
+    let a = c .before .before .before .before .before .before .before .before .args in
+    let j = c .before .before .before .before .before .before .joined-from in
+    let b = c .before .before .before .joined-from2 in
+    let p : j .result < (1 * 2 ^ a .segments) % 2 ^ 32 = c .before .before .before .before .before .if1 .left in
+    let t = shifted-one (a .segments) 32 (omega arith) in
+    tested (a .functions) (a .segments) (a .columns) (a .t4) (j .result) (b .result) (c .joined-beyond .result) (j .ensures) (search needs) (omega arith)
+    (b .ensures) (c .before .before .if2 .left) (c .joined-beyond .ensures)
 
 pub clean-marks-spec : {M : Type 1} → statement M
 clean-marks-spec =
     tie.close
     (tie.spec
-    Inv-loop
-    μ-loop
-    loop-holds
-    mul-w
-    array-read-w
-    clean-word-requires
+    shl-top
+    joined-from-requires
+    cast-if1
     returns
-    add-i
-    loop-less
-    loop-again
-    returns-2)
+    mul-joined-from
+    joined-from-requires-2
+    returns-2
+    joined-beyond-requires
+    returns-3)

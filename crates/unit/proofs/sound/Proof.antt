@@ -25,7 +25,11 @@ clean-marks-requires : tie.Need-clean-marks-requires
 clean-marks-requires c κs =
     let u = c .before .before .before .before .before .args .u in
     let g = on (c .before .before .before .if1 .left) (c .before .before .before .before .counts .ensures) in
-    within (u .segments) 16 (and-left (inside (u .segments) 16) _ (and-right (inside (u .functions) 4) _ g)) .most
+    let h = and-right (inside (u .functions) 4) _ g in (
+      within (u .functions) 4 (and-left (inside (u .functions) 4) _ g) .most,
+      within (u .segments) 16 (and-left (inside (u .segments) 16) _ h) .most,
+      within (u .columns) 32 (and-right (inside (u .segments) 16) _ h) .most,
+    )
 
 returns-3 : tie.Need-returns-3
 unfolding soundOf
