@@ -26,16 +26,12 @@ use Rattle.unit.proofs.EditLaws.{Edited, mark-accepted, unmark-accepted, mark-r
 use Rattle.collision.specs.Pipeline.{total}
 use Rattle.planner.specs.declared.Handed.{Handed}
 use Rattle.planner.specs.Plans.{Best, planOf, withPlan, searchAnswer, Found, SearchPromise, readAnswer, handing, readOf}
+use Rattle.planner.specs.Turns.{numberIn}
 use Rattle.planner.specs.Sheet.{Call, Reply, replyTo, readReply, Searching, Step, Run, Sheet, start, edited, owing, spotNumber, searchNumber, next, fed, told, Owed, ReadRight, Agrees, Right, EveryList}
 use Rattle.planner.specs.Sheet.Call.{Mark, Unmark, Search, Read}
 use Rattle.planner.specs.Sheet.Reply.{accepted, refused, handed}
 
 -- Answers and their numbers
-
--- the number that an answer tells, or 0
-numberIn : Answer → ℕ
-numberIn Done = 0
-numberIn (Refused why) = numberOf why
 
 never-zero : (why : Refusal) → eqb (numberOf why) 0 ≡ false
 never-zero NotSound = refl
@@ -53,12 +49,10 @@ never-zero BadHeader = refl
 never-zero MarkBeyondColumns = refl
 
 reply-told : (a : Answer) → replyTo a ≡ told (numberIn a)
-unfolding numberIn
 reply-told Done = refl
 reply-told (Refused why) = simp (never-zero why)
 
 number-check : (ok : Bool) (why : Refusal) (rest : Answer) → numberIn (check ok why rest) ≡ cond ok (numberIn rest) (numberOf why)
-unfolding numberIn
 number-check true why rest = refl
 number-check false why rest = refl
 
@@ -80,7 +74,7 @@ KeptStep u t k a = Agrees t k a × Kept u (next t k)
 -- Edits
 
 spot-number : (u : FunctionUnit) (t : Sheet) (q s c : ℕ) → Kept u t → numberIn (spotAnswer u q s c) ≡ spotNumber t q s c
-unfolding spotAnswer spotNumber numberIn
+unfolding spotAnswer spotNumber
 spot-number u t q s c k = simp (k .sound, k .functions, k .segments, k .columns, number-check)
 
 edit-kept : (u after : FunctionUnit) (t : Sheet) (q s c : ℕ) (b : Bool) → Kept u t → Edited u after q s c b → Kept after (edited t (changed (t .table) q s c b))
@@ -100,7 +94,6 @@ edit-kept u after t q s c b k e = record {
 edit-step : (u after : FunctionUnit) (t : Sheet) (q s c : ℕ) (b : Bool) → Kept u t
     → (spotAnswer u q s c ≡ Done → Edited u after q s c b) → ((why : Refusal) → spotAnswer u q s c ≡ Refused why → after ≡ u)
     → Kept after (cond (eqb (spotNumber t q s c) 0) (edited t (changed (t .table) q s c b)) t)
-unfolding numberIn
 edit-step u after t q s c b k d r = go (spotAnswer u q s c) refl
   where
     go : (a : Answer) → spotAnswer u q s c ≡ a → Kept after (cond (eqb (spotNumber t q s c) 0) (edited t (changed (t .table) q s c b)) t)
@@ -131,7 +124,7 @@ unmark-step u t q s c a after k (r, er, ea, eu) = (
 -- A search
 
 search-number : (u : FunctionUnit) (t : Sheet) (q room : ℕ) → Kept u t → numberIn (searchAnswer u q room) ≡ searchNumber t q room
-unfolding searchAnswer searchNumber tagAnswer numberIn
+unfolding searchAnswer searchNumber tagAnswer
 search-number u t q room k = simp (k .sound, k .functions, k .table) (go (inside q (t .functions)))
   where
     go : (b : Bool) → numberIn (andThen (check b NoSuchTag Done) (check (leb 16000 room) ShortWork (check (leb (length (Rattle.diagram.specs.Answers.statesOf 1 (t .table) q)) 256) TooManyStates Done)))
@@ -179,7 +172,6 @@ found-kept u t q after k f =
     })
 
 search-step : (u : FunctionUnit) (t : Sheet) (q room : ℕ) (a : Reply) (after : FunctionUnit) → Kept u t → Step u (Search q room) a after → KeptStep after t (Search q room) a
-unfolding numberIn
 search-step u t q room a after k h = (
   h .told ∙ reply-told (h .answer) ∙ ap told (ap numberIn says ∙ search-number u t q room k),
   go (h .answer) refl,

@@ -5,3 +5,4 @@ pub mod SearchLaws
 pub mod ReplyLaws
 pub mod TurnLaws
 pub mod PlayLaws
+pub mod PlayedLaws

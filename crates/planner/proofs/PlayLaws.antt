@@ -1,22 +1,20 @@
 -- A run and one call more, with its bytes. Assumes nothing.
-use Prim.Native.Nat.{ℕ, zero, suc, _+_, _-_, _*_, _/_, _≤_, min}
+use Prim.Native.Nat.{ℕ, _+_, _-_, _*_, _/_, _≤_, min}
 use mathlib.Core.Path.{_≡_, refl, sym, ap, ap₂, subst, _∙_}
-use mathlib.Core.Bool.{true, false}
+use mathlib.Core.Bool.{false}
 use mathlib.Core.List.{List, [], _∷_, _++_, append-assoc, append-nil}
 use native.Mathlib.Numerals.{add-one}
 use native.Mathlib.Omega.{arith}
 use lib.ListN.{length, getD, take, drop, length-append}
 use lib.Seq.{take-at, drop-drop, length-take-le}
-use borrow.Rule.Slice.PartMut.{midOf, postOf, putMid, same-len-mid, mid-len, drop-put}
+use borrow.Rule.Slice.PartMut.{postOf, putMid, same-len-mid, mid-len, drop-put}
 use Rattle.unit.specs.declared.Plan.{Plan}
 use Rattle.unit.specs.declared.FunctionUnit.{FunctionUnit}
 use Rattle.unit.specs.declared.Outcome.{Outcome}
-use Rattle.unit.specs.Unit.{goodCounts}
 use Rattle.unit.specs.Calls.{freshOf}
-use Rattle.planner.specs.Sheet.{Call, Reply, Step, Run, start, Right}
+use Rattle.planner.specs.Sheet.{Call, Reply, Step, Run}
 use Rattle.planner.specs.Play.{callAt, callsOf, planBytes, replyBytes, repliesBytes, mayUse, NoneMayUse, Played}
 use Rattle.planner.specs.Turns.{Turned}
-use Rattle.planner.proofs.EveryList.{every-list}
 
 -- A run, and the unit that it leaves
 
@@ -62,23 +60,20 @@ none-more (c ∷ calls) (b ∷ replies) u last k a (after, s, r) h =
 
 -- A part of the bytes is overwritten
 
-module _ (xs ys : List ℕ) (a : ℕ) (size : length ys ≡ 262) (fits : a + 262 ≤ length xs) where
-  put : List ℕ
-  put = putMid a (a + 262 - a) xs ys
+abbrev put : List ℕ → List ℕ → ℕ → List ℕ
+put xs ys a = putMid a (a + 262 - a) xs ys
 
-  put-take : take (a + 262) put ≡ take a xs ++ ys
-  unfolding put
+module _ (xs ys : List ℕ) (a : ℕ) (size : length ys ≡ 262) (fits : a + 262 ≤ length xs) where
+  put-take : take (a + 262) (put xs ys a) ≡ take a xs ++ ys
   put-take =
       let n : length (take a xs ++ ys) ≡ a + 262 = length-append (take a xs) ys ∙ ap₂ _+_ (length-take-le a xs (omega arith)) size in
       ap (take (a + 262)) (sym (append-assoc (take a xs) ys (postOf a (a + 262 - a) xs)))
       ∙ take-at (take a xs ++ ys) (postOf a (a + 262 - a) xs) (a + 262) n
 
-  put-drop : drop (a + 262) put ≡ drop (a + 262) xs
-  unfolding put
+  put-drop : drop (a + 262) (put xs ys a) ≡ drop (a + 262) xs
   put-drop = drop-put a (a + 262) xs ys (omega arith) fits (omega arith)
 
-  put-length : length put ≡ length xs
-  unfolding put
+  put-length : length (put xs ys a) ≡ length xs
   put-length =
       let n : 262 ≡ a + 262 - a = omega arith in
       same-len-mid a (a + 262 - a) xs ys (size ∙ n ∙ sym (mid-len a (a + 262) xs fits))
@@ -114,7 +109,6 @@ module _ (first : FunctionUnit) (calls before work : List ℕ) (n : ℕ) (after 
       → Playing first calls before work n after words u → Turned u (callAt (length words) calls n) words used number p left
       → ys ≡ number ∷ planBytes p → length ys ≡ 262 → n * 262 + 262 ≤ length before
       → Playing first calls before work (n + 1) (putMid (n * 262) (n * 262 + 262 - n * 262) after ys) used left
-  unfolding put
   playing-more used number p left ys h turned e size fits =
       let k = callAt (length work) calls n in
       let w = length work in
@@ -150,9 +144,3 @@ playing-end f s c o calls before work n after words u e h m = record {
   beyond = h .beyond;
   kept = h .kept;
 }
-
--- What `play` wrote is what the sheet says
-
-pub played-right : (f s c : ℕ) → goodCounts f s c ≡ true → (calls before after work words : List ℕ) (n : ℕ)
-    → (h : Played f s c calls before after work words n) → Right (start f s c) (callsOf (length work) calls n) (h .replies)
-played-right f s c g calls before after work words n h = every-list f s c g (callsOf (length work) calls n) (h .replies) (h .run)

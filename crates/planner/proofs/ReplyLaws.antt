@@ -4,7 +4,7 @@ use mathlib.Core.Path.{_≡_, refl, sym, ap, ap₂, _∙_}
 use mathlib.Core.List.{List, [], _∷_, _++_, append-nil}
 use native.Mathlib.Numerals.{add-one}
 use native.Mathlib.Omega.{arith}
-use lib.ListN.{length, getD, set, take, drop, drop-of-length-le, length-set}
+use lib.ListN.{length, getD, set, take, drop-of-length-le, length-set}
 use lib.Seq.{take-all, paste, paste-suc, length-paste}
 use Rattle.unit.specs.declared.Plan.{Plan}
 use Rattle.planner.specs.Play.{planBytes}

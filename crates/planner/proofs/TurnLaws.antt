@@ -1,7 +1,7 @@
 -- One call from its four bytes, with the bytes of its reply. Assumes nothing.
 use Prim.Native.Nat.{ℕ, _≤_}
 use mathlib.Core.Path.{_≡_, refl, sym, ap, ap₂, subst, _∙_}
-use mathlib.Core.Bool.{true, false}
+use mathlib.Core.Bool.{false}
 use mathlib.Core.List.{List, _∷_}
 use native.Mathlib.Omega.{arith}
 use lib.ListN.{length, getD, replicate}
@@ -15,7 +15,7 @@ use Rattle.unit.specs.Numbers.{numberOf}
 use Rattle.unit.specs.Calls.{noPlan, markOf, unmarkOf}
 use Rattle.planner.specs.declared.Handed.{Handed}
 use Rattle.planner.specs.Plans.{SearchPromise, handing, readAnswer, readOf}
-use Rattle.planner.specs.Sheet.{Call, Reply, replyTo, readReply, Step}
+use Rattle.planner.specs.Sheet.{Call, replyTo, readReply, Step}
 use Rattle.planner.specs.Sheet.Call.{Mark, Unmark, Search, Read}
 use Rattle.planner.specs.Play.{callOf, planBytes, replyBytes, mayUse}
 use Rattle.planner.specs.Turns.{numberIn, Told, Turned}

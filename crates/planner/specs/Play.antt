@@ -51,7 +51,7 @@ repliesBytes (a ∷ replies) = replyBytes a ++ repliesBytes replies
 
 -- The working words
 
--- whether a call may use them: a search that is accepted, or refused by 7
+-- whether a call may use them: a search that is accepted, or refused by 7 (none is told a plan)
 abbrev pub mayUse : Call → Reply → Bool
 mayUse (Mark q s c) a = false
 mayUse (Unmark q s c) a = false
@@ -60,6 +60,7 @@ mayUse (Search q room) (refused n) = eqb n 7
 mayUse (Search q room) (handed p) = true
 mayUse Read a = false
 
+-- none of the calls may
 abbrev pub NoneMayUse : List Call → List Reply → Type 0
 NoneMayUse [] replies = Unit {0}
 NoneMayUse (k ∷ calls) [] = Unit {0}
@@ -67,8 +68,9 @@ NoneMayUse (k ∷ calls) (a ∷ replies) = (mayUse k a ≡ false) × NoneMayUse 
 
 -- The claim
 
--- As many calls as there are, or as there is room for their replies, are played in turn from the fresh unit of the three counts, and
--- what was written are the replies of a run. Free are the first 2,048 working words, where a call may use them.
+-- As many calls as there are, or as have room for their replies, were played in turn from the fresh unit of the three counts, and what
+-- was written are the replies of a run. Free are the first 2,048 working words, if a call may use them.
+-- Laws (proofs/PlayedLaws.antt): the replies are what the sheet says (`played-right`), or 1 where the counts are refused (`played-refused`).
 pub record Played (f s c : ℕ) (calls before after work words : List ℕ) (n : ℕ) : Type 0 where
   pub count : n ≡ min (length calls / 4) (length before / 262)
   pub replies : List Reply

@@ -1,5 +1,5 @@
-// Plays a list of calls over the calls themselves, so that `every-list` (proofs/EveryList.antt) speaks of running code.
-// A call is four bytes and a reply 262: specs/Play.antt says which.
+// Plays a list of mark, unmark, search and read calls over the calls themselves, so that the claim over every list of calls speaks of
+// running code. A call is four bytes and a reply 262 (specs/Play.antt); what was written is what the sheet says (proofs/PlayedLaws.antt).
 ghost use mathlib.Core.Path.{_≡_};
 ghost use mathlib.Core.List.{_∷_};
 ghost use Prim.Native.Nat.{min};
