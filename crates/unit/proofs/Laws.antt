@@ -1,10 +1,10 @@
 -- What the tests of `specs/` say as facts: ranges, soundness, an accepted edit. Assumes nothing.
-use Prim.Native.Nat.{ℕ, _+_, _-_, _<_, _≤_}
+use Prim.Native.Nat.{ℕ, _+_, _-_, _^_, _<_, _≤_}
 use mathlib.Core.Path.{_≡_, refl, ap, _∙_, sym}
 use mathlib.Core.Bool.{Bool, true, false, cond, _&&_}
 use native.Mathlib.Omega.{arith}
-use borrow.Author.Tests.{leb-true, le-leb}
-use lib.Dec.{leb}
+use borrow.Author.Tests.{leb-true, le-leb, ltb-true}
+use lib.Dec.{leb, ltb}
 use Rattle.words.proofs.Tests.{nowhere, and-left, and-right}
 use Rattle.unit.specs.declared.FunctionUnit.{FunctionUnit}
 use Rattle.unit.specs.declared.Refusal.{Refusal}
@@ -12,7 +12,8 @@ use Rattle.unit.specs.declared.Refusal.the-variants.{NotSound, NoSuchTag
 use Rattle.unit.specs.declared.Answer.{Answer}
 use Rattle.unit.specs.declared.Answer.the-variants.{Done, Refused}
 use Rattle.unit.specs.Unit.{inside, somewhere, goodCounts, soundPlan, marksInside, soundOf}
-use Rattle.unit.specs.Calls.{check, tagAnswer, spotAnswer}
+use Rattle.unit.specs.Calls.{check, andThen, tagAnswer, spotAnswer, columnAnswer}
+use Rattle.unit.specs.Inner.{Somewhere}
 
 -- Answers
 
@@ -171,3 +172,43 @@ pub spot-rest : (u : FunctionUnit) (q s c : ℕ) → tagAnswer u q ≡ Done
     → spotAnswer u q s c ≡ check (inside s (u .segments)) NoSuchSegment (check (inside c (u .columns)) NoSuchColumn Done)
 unfolding spotAnswer
 spot-rest u q s c e = let a = tag-accepted u q e in simp (a .sound, a .tag)
+
+-- Columns
+
+-- a column's word that a function is given
+pub record ColumnAccepted (u : FunctionUnit) (q c w : ℕ) : Type 0 where
+  pub sound : soundOf u ≡ true
+  pub tag : inside q (u .functions) ≡ true
+  pub word : w < 2 ^ (u .segments)
+  pub column : inside c (u .columns) ≡ true
+
+pub column-accepted : (u : FunctionUnit) (q c w : ℕ) → columnAnswer u q c w ≡ Done → ColumnAccepted u q c w
+unfolding columnAnswer
+column-accepted u q c w e = go (tagAnswer u q) refl e
+  where
+    go : (a : Answer) → tagAnswer u q ≡ a
+        → andThen a (check (ltb w (2 ^ (u .segments))) NoSuchSegment (check (inside c (u .columns)) NoSuchColumn Done)) ≡ Done → ColumnAccepted u q c w
+    go Done t h =
+        let a = tag-accepted u q t in
+        record {
+          sound = a .sound;
+          tag = a .tag;
+          word = ltb-true w (2 ^ (u .segments)) (check-ok (ltb w (2 ^ (u .segments))) NoSuchSegment _ h);
+          column = check-ok (inside c (u .columns)) NoSuchColumn _ (check-next (ltb w (2 ^ (u .segments))) NoSuchSegment _ h);
+        }
+    go (Refused why) t h = never-done h
+
+-- the tag and the column are such as some unit has
+pub column-range : (u : FunctionUnit) (q c w : ℕ) → columnAnswer u q c w ≡ Done → Somewhere q c
+column-range u q c w e =
+    let a = column-accepted u q c w e in
+    let d = sound-has u (a .sound) in
+    let f = within (u .functions) 4 (d .functions) in
+    let h = within (u .columns) 32 (d .columns) in
+    let i = within q (u .functions) (a .tag) in
+    let k = within c (u .columns) (a .column) in
+    omega arith
+
+-- a unit that passed has at most 16 segments
+pub tag-segments : (u : FunctionUnit) (q : ℕ) → tagAnswer u q ≡ Done → Within (u .segments) 16
+tag-segments u q e = within (u .segments) 16 (sound-has u (tag-accepted u q e .sound) .segments)

@@ -3,3 +3,4 @@ pub mod SoundLaws
 pub mod JoinLaws
 pub mod EditLaws
 pub mod ColumnLaws
+pub mod TableLaws

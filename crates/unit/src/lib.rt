@@ -7,7 +7,7 @@ ghost use Rattle.words.specs.Bits.{setBit, clearBit};
 ghost use Rattle.unit.specs.Inner.{Between, Beyond, Joins, Tested, Somewhere};
 ghost use Rattle.unit.specs.Numbers.{numberOf};
 ghost use Rattle.unit.specs.Unit.{inside, goodCounts, soundPlan, soundOf, place, wordAt, columnsOf};
-ghost use Rattle.unit.specs.Calls.{noPlan, withWord, tagAnswer, spotAnswer, freshOf, markOf, unmarkOf};
+ghost use Rattle.unit.specs.Calls.{noPlan, withWord, tagAnswer, spotAnswer, freshOf, markOf, unmarkOf, columnAnswer, columnOf};
 
 // The number of a function, 1 to 4.
 pub struct Tag(pub u8);
@@ -342,6 +342,46 @@ pub fn unmark(u: FunctionUnit, tag: Tag, segment: Segment, column: u8) -> Outcom
             Outcome {
                 answer: Answer::Done,
                 unit,
+            }
+        }
+    }
+}
+
+// Whether a column's word can be given to a function.
+fn check_column(u: FunctionUnit, tag: Tag, column: u8, word: u16) -> Answer
+    ensures { λ r. ⌜ r ≡ columnAnswer u (tag .0) column word ⌝ }
+{
+    let first = check_tag(u, tag);
+    match first {
+        Answer::Refused(why) => Answer::Refused(why),
+        Answer::Done => {
+            let top: u32 = 1 << u.segments;
+            if top <= (word as u32) {
+                return Answer::Refused(Refusal::NoSuchSegment);
+            }
+            if !is_inside(column, u.columns) {
+                return Answer::Refused(Refusal::NoSuchColumn);
+            }
+            Answer::Done
+        }
+    }
+}
+
+// Gives a function all its marks in one column at once, bit r - 1 for segment r, and drops the plan.
+pub fn with_column(u: FunctionUnit, tag: Tag, column: u8, word: u16) -> Outcome
+    ensures { λ r. ⌜ r ≡ columnOf u (tag .0) column word ⌝ }
+{
+    let answer = check_column(u, tag, column, word);
+    match answer {
+        Answer::Refused(why) => Outcome {
+            answer: Answer::Refused(why),
+            unit: u,
+        },
+        Answer::Done => {
+            let filled = with_word(u, tag.0, column, word);
+            Outcome {
+                answer: Answer::Done,
+                unit: filled,
             }
         }
     }

@@ -1,3 +1,5 @@
 pub mod Tests
 pub mod BitLaws
 pub mod BelowLaws
+pub mod ListLaws
+pub mod JoinLaws

@@ -1,5 +1,6 @@
--- Tests on the numbers below a bound: whether one passes, how many do, the last that does, and the word that notes which.
+-- Tests on the numbers below a bound: whether one passes, how many do, the last that does, and the word that notes which; lists made number by number.
 use mathlib.Core.Bool.{Bool, false, cond, _||_}
+use mathlib.Core.List.{List, [], _∷_, _++_}
 use Prim.Native.Nat.{ℕ, zero, suc, _+_, _^_, max}
 
 -- some number below n passes the test
@@ -31,3 +32,13 @@ leastFrom (suc n) m f = cond (f m) m (leastFrom n (suc m) f)
 unfoldable pub wordBelow : ℕ → (ℕ → Bool) → ℕ
 wordBelow zero f = 0
 wordBelow (suc n) f = cond (f n) (2 ^ n) 0 + wordBelow n f
+
+-- the list of the values of f at the numbers below n
+unfoldable pub listBelow : ℕ → (ℕ → ℕ) → List ℕ
+listBelow zero f = []
+listBelow (suc n) f = listBelow n f ++ (f n ∷ [])
+
+-- the lists that f gives for the numbers below n, one after the other
+unfoldable pub joinBelow : ℕ → (ℕ → List ℕ) → List ℕ
+joinBelow zero f = []
+joinBelow (suc n) f = joinBelow n f ++ f n

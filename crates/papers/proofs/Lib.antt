@@ -1,0 +1,6 @@
+mod TestLaws
+mod TableLaws
+mod PotentialLaws
+mod CycleLaws
+mod DiagramLaws
+pub mod EveryRow

@@ -1,0 +1,6 @@
+mod CopyLaws
+pub mod DecimalLaws
+mod Examples
+mod HigherLaws
+pub mod PutLaws
+pub mod WroteLaws
