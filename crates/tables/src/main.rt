@@ -1,5 +1,7 @@
 // Runs the calls on the tables of the papers and prints a line for each answer. The file stdout beside it holds the answers
 // that follow from the papers, worked out by hand.
+mod files;
+
 ghost use mathlib.Core.Path.{_≡_};
 ghost use lib.ListN.{length};
 use collision::Number;
@@ -521,4 +523,5 @@ fn main() {
     try_refusals();
     show_better(b"\x03\x04", b"\x02\x02\x07");
     show_better(b"\x02\x02\x07", b"\x03\x04");
+    files::try_all();
 }

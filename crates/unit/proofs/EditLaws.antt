@@ -155,7 +155,7 @@ unmark-refused u q s c why e = ap (λ a. outcome a u (withWord u q c (clearBit (
 
 -- The answers of the edits
 
-outcome-answer : (a : Answer) (old new : FunctionUnit) → outcome a old new .answer ≡ a
+pub outcome-answer : (a : Answer) (old new : FunctionUnit) → outcome a old new .answer ≡ a
 outcome-answer Done old new = refl
 outcome-answer (Refused why) old new = refl
 

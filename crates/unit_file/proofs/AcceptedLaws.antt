@@ -8,9 +8,10 @@ use lib.ListN.{length}
 use Rattle.words.proofs.Tests.{and-true}
 use Rattle.unit.specs.declared.Answer.the-variants.{Done}
 use Rattle.unit.specs.Unit.{somewhere, goodCounts, marked, soundOf}
-use Rattle.unit.specs.Calls.{unitOf}
+use Rattle.unit.specs.Calls.{blank, unitOf}
 use Rattle.unit.proofs.Laws.{inside-of, somewhere-of}
 use Rattle.unit.proofs.SoundLaws.{Words}
+use Rattle.unit.proofs.EditLaws.{outcome-answer}
 use Rattle.unit.proofs.TableLaws.{unit-of-words, unit-of-table, unit-of-sound}
 use Rattle.unit_file.specs.File.{fileLength}
 use Rattle.unit_file.specs.Read.{functionsIn, segmentsIn, columnsIn, fileTable, readAnswer, readOf}
@@ -55,3 +56,7 @@ accepted file e =
       words = unit-of-words f s c (fileTable file);
       size = d .whole .size;
     }
+
+pub read-answer : (file : List ℕ) → readOf file .answer ≡ readAnswer file
+unfolding readOf
+read-answer file = outcome-answer (readAnswer file) (blank 0 0 0) (unitOf (functionsIn file) (segmentsIn file) (columnsIn file) (fileTable file))

@@ -1,0 +1,67 @@
+-- `listing::lines::put_cycle` meets its contract. Assumes nothing.
+use mathlib.Core.List.{_++_}
+use Prim.Native.Nat.{_+_, _*_}
+use native.Mathlib.Omega.{arith}
+use borrow.Author.Needs.{needs}
+use lib.ListN.{length}
+use Rattle.text.specs.Text.{ascii, decimal}
+use Rattle.text.proofs.WroteLaws.{wrote-length}
+use Rattle.listing.specs.Lines.{newline, latencyText}
+use Rattle.listing.specs.Inner.{Put}
+use Rattle.listing.proofs.PutLaws.{put-more, put-as}
+use Rattle.listing.proofs.LineLaws.{put-one, append-line}
+use Rattle.listing.proofs.lines.put_cycle.Statement.{statement}
+use Rattle.listing.proofs.lines.put_cycle.Tie as tie
+
+-- after the word
+word-put : (c : tie.After-put)
+    → let a = c .before .before .before .before .before .args in Put (length (a .word .now)) (a .out .now) (a .at) (a .word .now) (c .put .last .0) (c .put .result)
+word-put c =
+    let a = c .before .before .before .before .before .args in
+    put-one (length (a .word .now)) (a .word .now) (c .put .ensures) (omega arith) (omega arith)
+
+-- after the latencies
+cycle-put : (c : tie.After-put-latencies)
+    → let a = c .before .before .before .before .before .before .before .before .before .args in
+    Put
+    (length (a .word .now) + 4 * length (a .cycle .now))
+    (a .out .now)
+    (a .at)
+    (a .word .now ++ latencyText (a .cycle .now))
+    (c .put-latencies .last .0)
+    (c .put-latencies .result)
+cycle-put c = put-more (word-put (c .before .before .before .before)) (c .put-latencies .ensures)
+
+put-requires : tie.Need-put-requires
+put-requires c κs = search needs
+
+put-latencies-requires : tie.Need-put-latencies-requires
+put-latencies-requires c κs = let p = word-put (c .before .before .before) in omega (arith, wrote-length (p .wrote))
+
+slice-aggregate-put-line : tie.Need-slice-aggregate-put-line
+slice-aggregate-put-line c = search needs
+
+put-line-requires : tie.Need-put-line-requires
+put-line-requires c κs = let p = cycle-put (c .before .before .before .before) in omega (arith, wrote-length (p .wrote))
+
+same-length : tie.Need-same-length
+same-length c = search needs
+
+returns : tie.Need-returns
+returns c =
+    let latencies = c .before .before .before .before .before .before .before in
+    let a = latencies .before .before .before .before .before .before .before .before .before .args in
+    let text = a .word .now ++ latencyText (a .cycle .now) in
+    let p = put-more (cycle-put latencies) (c .before .before .put-line .ensures) in
+    put-as p (append-line text (ascii " sum ") (decimal (a .sum)) newline) (omega arith)
+
+pub put-cycle-spec : {M : Type 1} → statement M
+put-cycle-spec =
+    tie.close
+    (tie.spec
+    put-requires
+    put-latencies-requires
+    slice-aggregate-put-line
+    put-line-requires
+    same-length
+    returns)
