@@ -1,0 +1,140 @@
+//! Independent tests of the unit configurator's interface for C.
+//!
+//! A second implementation of the paper, by other means (`model.rs`), is asked the same questions as the library; the first difference
+//! ends the run. All cases have fixed seeds.
+//!
+//!     run                 everything
+//!     run units 20000     everything, with so many random units
+//!     run only STAGE      one stage; STAGE is table, edge, unit or list, and what was met is not asked for
+//!     run STAGE CASE      one case alone
+//!     run trace           everything, and the name of each case before it is tried
+
+mod checks;
+mod facts;
+mod ffi;
+mod lent;
+mod model;
+mod model_check;
+mod random;
+mod sheet;
+mod stages;
+mod tally;
+mod units;
+
+use checks::{Bench, Checked};
+use random::seed_of;
+use std::io::Write;
+use std::process::exit;
+use std::time::Instant;
+
+const UNITS: u64 = 200_000;
+const LISTS: u64 = 20_000;
+
+#[derive(Clone, Copy)]
+enum Stage {
+    Table,
+    Edge,
+    Unit,
+    List,
+}
+
+const STAGES: [(&str, Stage, u64); 4] = [
+    ("table", Stage::Table, stages::TABLES),
+    ("edge", Stage::Edge, stages::EDGES),
+    ("unit", Stage::Unit, UNITS),
+    ("list", Stage::List, LISTS),
+];
+
+fn seed(stage: Stage, case: u64) -> u64 {
+    seed_of(100 + stage as u64, case)
+}
+
+fn try_case(stage: Stage, case: u64, bench: &mut Bench) -> Checked {
+    let seed = seed(stage, case);
+    bench.lender.begin(!seed);
+    match stage {
+        Stage::Table => stages::table(case, bench),
+        Stage::Edge => stages::edge(case, bench),
+        Stage::Unit => stages::unit(case, seed, bench),
+        Stage::List => stages::list(seed, bench),
+    }
+}
+
+fn try_or_exit(name: &str, stage: Stage, case: u64, bench: &mut Bench) {
+    if let Err(why) = try_case(stage, case, bench) {
+        println!("DIFFERENCE in {name} {case}, seed {:#018x}", seed(stage, case));
+        println!("{why}");
+        println!("alone: tests/run {name} {case}");
+        exit(1);
+    }
+}
+
+fn usage() -> ! {
+    println!("run [trace | units COUNT | only STAGE | table CASE | edge CASE | unit CASE | list CASE]");
+    exit(2)
+}
+
+fn main() {
+    let arguments: Vec<String> = std::env::args().skip(1).collect();
+    let words: Vec<&str> = arguments.iter().map(|word| word.as_str()).collect();
+    let mut units = UNITS;
+    let mut trace = false;
+    let mut only = None;
+    let mut alone = None;
+    match words[..] {
+        [] => {}
+        ["trace"] => trace = true,
+        ["units", count] => units = count.parse().unwrap_or_else(|_| usage()),
+        ["only", name] => only = Some(STAGES.iter().find(|stage| stage.0 == name).unwrap_or_else(|| usage()).0),
+        [name, case] => match (STAGES.iter().find(|stage| stage.0 == name), case.parse()) {
+            (Some(stage), Ok(case)) => alone = Some((stage.0, stage.1, case)),
+            _ => usage(),
+        },
+        _ => usage(),
+    }
+
+    let begin = Instant::now();
+    match model_check::run() {
+        Ok(units) => println!("model: agrees with the paper's tables and, on {units} random units, with itself"),
+        Err(why) => {
+            println!("model: {why}");
+            exit(1);
+        }
+    }
+    let mut bench = Bench::new();
+    if let Some((name, stage, case)) = alone {
+        try_or_exit(name, stage, case, &mut bench);
+        println!("{name} {case}: no difference");
+        return;
+    }
+    for (name, stage, whole) in STAGES {
+        if only.is_some_and(|only| only != name) {
+            continue;
+        }
+        let cases = if name == "unit" { units } else { whole };
+        let since = Instant::now();
+        for case in 0..cases {
+            if trace {
+                println!("{name} {case}");
+                std::io::stdout().flush().ok();
+            }
+            try_or_exit(name, stage, case, &mut bench);
+        }
+        println!("{name}: {cases} cases, no difference, {:.1} s", since.elapsed().as_secs_f64());
+    }
+    println!();
+    bench.lender.tally.print();
+    println!();
+    bench.met.print();
+    println!();
+    let mut gaps = bench.lender.tally.gaps();
+    gaps.extend(bench.met.gaps());
+    let calls = bench.lender.tally.calls();
+    let inside = bench.lender.tally.time().as_secs_f64();
+    println!("{calls} calls in {:.1} s, {inside:.1} s of them inside the library", begin.elapsed().as_secs_f64());
+    if !gaps.is_empty() && only.is_none() {
+        println!("NEVER MET: {}", gaps.join("; "));
+        exit(1);
+    }
+    println!("no difference");
+}
