@@ -5,6 +5,7 @@
 //! after what was written, and working words beyond the first 16,000.
 
 use crate::lent::{Breach, Lent, Work};
+use crate::lists::{CALL_BYTES, REPLY_BYTES};
 use crate::model::{Cycle, Reply};
 use crate::random::Random;
 use crate::tally::{Call, Tally};
@@ -47,6 +48,18 @@ mod c {
         pub fn limedarts_tick(file: *const u8, file_length: usize, bank: *mut u32, bank_length: usize) -> u32;
         pub fn limedarts_start(file: *const u8, file_length: usize, bank: *mut u32, bank_length: usize, tag: u32) -> u32;
         pub fn limedarts_listing(file: *const u8, file_length: usize, out: *mut u8, out_length: usize, length: *mut u32) -> u32;
+        pub fn limedarts_play(
+            functions: u32,
+            segments: u32,
+            columns: u32,
+            calls: *const u8,
+            calls_length: usize,
+            work: *mut u32,
+            work_length: usize,
+            out: *mut u8,
+            out_length: usize,
+            count: *mut usize,
+        ) -> u32;
     }
 }
 
@@ -263,5 +276,57 @@ impl Lender {
         });
         lent.kept("file")?;
         Lender::front_of(number, &out, &length)
+    }
+
+    /// A list of calls from a fresh unit of these counts: the replies to those that were played.
+    pub fn play(&mut self, counts: [u32; 3], calls: &[u8], work_length: usize, out_length: usize) -> Result<Vec<Vec<u8>>, Breach> {
+        let [functions, segments, columns] = counts;
+        let mut lent = self.lend_bytes(calls);
+        let mut out = self.lend_output(out_length);
+        let mut count = Lent::length_word(self.random.next() as usize, &mut self.random);
+        let work = self.work.pointer();
+        let number = self.ask(Call::Play, || unsafe {
+            c::limedarts_play(
+                functions,
+                segments,
+                columns,
+                lent.pointer(),
+                lent.length(),
+                work,
+                work_length,
+                out.pointer(),
+                out.length(),
+                count.pointer(),
+            )
+        });
+        if number != 0 {
+            return Err(format!("play answers {number}"));
+        }
+        lent.kept("calls")?;
+        count.kept_but(1, "count")?;
+        let played = count.now()[0];
+        if played > calls.len() / CALL_BYTES {
+            return Err(format!("{played} calls are said to be played, {} bytes of calls were lent", calls.len()));
+        }
+        // "Bytes after the replies stay as before"
+        out.kept_but(played * REPLY_BYTES, "replies")?;
+        let replies: Vec<Vec<u8>> = out.now()[..played * REPLY_BYTES].chunks(REPLY_BYTES).map(|reply| reply.to_vec()).collect();
+        let mut free = false;
+        for (call, reply) in calls.chunks(CALL_BYTES).zip(&replies) {
+            let (kind, number) = (call[0], reply[0] as u32);
+            self.tally.reply(
+                match kind {
+                    0 => Call::PlayedMark,
+                    1 => Call::PlayedUnmark,
+                    2 => Call::PlayedSearch,
+                    _ => Call::PlayedRead,
+                },
+                number,
+            );
+            free = free || kind == 2 && (number == 0 || number == 7);
+        }
+        // "may be changed by a search that is accepted or refused by 7, and none otherwise"
+        self.work.settle(work_length, free)?;
+        Ok(replies)
     }
 }

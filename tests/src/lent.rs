@@ -29,6 +29,13 @@ impl Lent<u32> {
     }
 }
 
+impl Lent<usize> {
+    /// One number as large as a length can be.
+    pub fn length_word(content: usize, random: &mut Random) -> Lent<usize> {
+        Lent::between(vec![random.next() as usize; 2], &[content], vec![random.next() as usize; 2])
+    }
+}
+
 impl<T: Copy + PartialEq> Lent<T> {
     fn between(front: Vec<T>, content: &[T], behind: Vec<T>) -> Lent<T> {
         let begin = front.len();

@@ -5,7 +5,7 @@
 //!
 //!     run                 everything
 //!     run units 20000     everything, with so many random units
-//!     run only STAGE      one stage; STAGE is table, edge, unit or list, and what was met is not asked for
+//!     run only STAGE      one stage; STAGE is table, edge, unit, list or play, and what was met is not asked for
 //!     run STAGE CASE      one case alone
 //!     run trace           everything, and the name of each case before it is tried
 
@@ -13,6 +13,7 @@ mod checks;
 mod facts;
 mod ffi;
 mod lent;
+mod lists;
 mod model;
 mod model_check;
 mod random;
@@ -29,6 +30,7 @@ use std::time::Instant;
 
 const UNITS: u64 = 200_000;
 const LISTS: u64 = 20_000;
+const PLAYS: u64 = 60_000;
 
 #[derive(Clone, Copy)]
 enum Stage {
@@ -36,13 +38,15 @@ enum Stage {
     Edge,
     Unit,
     List,
+    Play,
 }
 
-const STAGES: [(&str, Stage, u64); 4] = [
+const STAGES: [(&str, Stage, u64); 5] = [
     ("table", Stage::Table, stages::TABLES),
     ("edge", Stage::Edge, stages::EDGES),
     ("unit", Stage::Unit, UNITS),
     ("list", Stage::List, LISTS),
+    ("play", Stage::Play, PLAYS),
 ];
 
 fn seed(stage: Stage, case: u64) -> u64 {
@@ -57,6 +61,7 @@ fn try_case(stage: Stage, case: u64, bench: &mut Bench) -> Checked {
         Stage::Edge => stages::edge(case, bench),
         Stage::Unit => stages::unit(case, seed, bench),
         Stage::List => stages::list(seed, bench),
+        Stage::Play => lists::play(case, seed, bench),
     }
 }
 
@@ -70,7 +75,7 @@ fn try_or_exit(name: &str, stage: Stage, case: u64, bench: &mut Bench) {
 }
 
 fn usage() -> ! {
-    println!("run [trace | units COUNT | only STAGE | table CASE | edge CASE | unit CASE | list CASE]");
+    println!("run [trace | units COUNT | only STAGE | table CASE | edge CASE | unit CASE | list CASE | play CASE]");
     exit(2)
 }
 

@@ -1,9 +1,11 @@
-//! What is tried: the paper's tables, the edges of every range one by one, random and damaged units, and lists of edits and searches.
+//! What is tried: the paper's tables, the edges of every range one by one, random and damaged units, and lists of edits and searches. The
+//! lists that the library plays as a whole are in `lists.rs`.
 
 use crate::checks::{Bench, Checked, Difference, LISTING_AREA};
 use crate::facts::Facts;
 use crate::ffi::{Kind, Lender};
 use crate::lent::MOST_LENT_WORDS;
+use crate::lists;
 use crate::model::*;
 use crate::model_check::*;
 use crate::random::{seed_of, Random};
@@ -270,7 +272,7 @@ fn hard_diagrams(bench: &mut Bench) -> Checked {
     Ok(())
 }
 
-const EDGE_CASES: [(&str, fn(&mut Bench) -> Checked); 8] = [
+const EDGE_CASES: [(&str, fn(&mut Bench) -> Checked); 11] = [
     ("counts of fresh", fresh_counts),
     ("lengths of a file", file_lengths),
     ("bits and bytes of a file", file_bits),
@@ -279,6 +281,9 @@ const EDGE_CASES: [(&str, fn(&mut Bench) -> Checked); 8] = [
     ("lent lengths", lent_lengths),
     ("pairs of marks", pairs),
     ("hard diagrams", hard_diagrams),
+    ("counts of a list", lists::counts),
+    ("lengths of a list", lists::lengths),
+    ("bytes of a list", lists::bytes),
 ];
 
 pub const EDGES: u64 = EDGE_CASES.len() as u64;
@@ -392,7 +397,7 @@ pub fn unit(case: u64, seed: u64, bench: &mut Bench) -> Checked {
 // ---------------------------------------------------------------------------------------------------------------------------------
 // Lists of edits and searches
 
-/// The interface for C as a desk: the unit is its file. There is no stored plan, and so no read.
+/// The single calls of the interface for C as a desk: the unit is its file. A file has no stored plan, and so there is no read.
 struct FileDesk<'a> {
     lender: &'a mut Lender,
     file: Vec<u8>,

@@ -21,12 +21,18 @@ pub enum Call {
     Tick,
     Start,
     Listing,
+    Play,
+    PlayedMark,
+    PlayedUnmark,
+    PlayedSearch,
+    PlayedRead,
 }
 
 use Call::*;
 
-/// The calls with the refusals that the interface allows each. Those of a file are 1, 11, 12 and 13.
-pub const ALLOWED: [(Call, &str, &[u32]); 15] = [
+/// The calls with the refusals that the interface allows each. Those of a file are 1, 11, 12 and 13. Those in a list are told apart by
+/// their replies.
+pub const ALLOWED: [(Call, &str, &[u32]); 20] = [
     (Fresh, "fresh", &[1, 6]),
     (Mark, "mark", &[1, 2, 3, 4, 11, 12, 13]),
     (Unmark, "unmark", &[1, 2, 3, 4, 11, 12, 13]),
@@ -42,12 +48,17 @@ pub const ALLOWED: [(Call, &str, &[u32]); 15] = [
     (Tick, "tick", &[1, 6, 11, 12, 13]),
     (Start, "start", &[1, 2, 6, 10, 11, 12, 13]),
     (Listing, "listing", &[6]),
+    (Play, "play", &[]),
+    (PlayedMark, "in it mark", &[1, 2, 3, 4]),
+    (PlayedUnmark, "in it unmark", &[1, 2, 3, 4]),
+    (PlayedSearch, "in it search", &[1, 2, 5, 7]),
+    (PlayedRead, "in it read", &[1, 8]),
 ];
 
-const NUMBERS: [u32; 13] = [0, 1, 2, 3, 4, 5, 6, 7, 9, 10, 11, 12, 13];
+const NUMBERS: [u32; 14] = [0, 1, 2, 3, 4, 5, 6, 7, 8, 9, 10, 11, 12, 13];
 
 /// Special cases that a run must have met.
-pub const WANTED: [&str; 46] = [
+pub const WANTED: [&str; 76] = [
     "file: fewer than 4 bytes",
     "file: functions outside 1 to 4",
     "file: segments outside 1 to 16",
@@ -94,6 +105,36 @@ pub const WANTED: [&str; 46] = [
     "listing in just its length",
     "start granted from any registers",
     "start by tasks from empty",
+    "play: counts refused",
+    "play: count above 255, low byte in range",
+    "play: no call played",
+    "play: part of a call at the end",
+    "play: room for fewer replies",
+    "play: room ends one byte early",
+    "play: bytes after the replies",
+    "play: words too few by one",
+    "play: words exactly enough",
+    "play: words and no search that may use them",
+    "play: a kind above 3",
+    "play: 40 calls",
+    "read: before anything",
+    "read: straight after a search",
+    "read: after an edit that changed the table",
+    "read: after a mark that stood",
+    "read: after an unmark of no mark",
+    "read: 8 after a refused edit",
+    "read: plan after a refused edit",
+    "read: plan after a search of another tag",
+    "read: plan after a search refused by 2",
+    "read: plan after a search refused by 7",
+    "read: 8 after a search refused by 5",
+    "read: 8 after a search refused by 7",
+    "read: plan read again",
+    "read: plan of a table changed since a plan",
+    "read: shorter plan in place of a longer",
+    "read: plan with a sum above 255",
+    "read: plan of two or more latencies",
+    "read: plan better than greedy",
 ];
 
 /// Answers of calls.
@@ -115,6 +156,11 @@ impl Tally {
         let (whole, longest) = self.time.entry(call).or_default();
         *whole += took;
         *longest = (*longest).max(took);
+    }
+
+    /// The reply to a call in a list, which takes no time of its own.
+    pub fn reply(&mut self, call: Call, number: u32) {
+        *self.answers.entry((call, number)).or_default() += 1;
     }
 
     /// Time inside the calls.
@@ -140,13 +186,13 @@ impl Tally {
     }
 
     pub fn print(&self) {
-        print!("{:<11}{:>9}", "call", "accepted");
+        print!("{:<13}{:>9}", "call", "accepted");
         for number in &NUMBERS[1..] {
             print!("{number:>8}");
         }
         println!("{:>10}{:>10}", "in all", "longest");
         for (call, name, refusals) in ALLOWED {
-            print!("{name:<11}");
+            print!("{name:<13}");
             for number in NUMBERS {
                 let width = if number == 0 { 9 } else { 8 };
                 match self.answers.get(&(call, number)) {
@@ -155,8 +201,10 @@ impl Tally {
                     None => print!("{:>width$}", "."),
                 }
             }
-            let (whole, longest) = self.time.get(&call).copied().unwrap_or_default();
-            println!("{:>8.2} s{:>7.2} ms", whole.as_secs_f64(), longest.as_secs_f64() * 1e3);
+            match self.time.get(&call) {
+                Some((whole, longest)) => println!("{:>8.2} s{:>7.2} ms", whole.as_secs_f64(), longest.as_secs_f64() * 1e3),
+                None => println!(),
+            }
         }
     }
 }
