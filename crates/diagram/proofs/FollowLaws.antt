@@ -2,17 +2,19 @@
 use mathlib.Core.Path.{_≡_, refl, sym, ap, _∙_, subst}
 use mathlib.Core.Bool.{Bool, true, false, cond, not}
 use mathlib.Core.List.{List, [], _∷_, _++_}
-use Prim.Native.Nat.{ℕ, suc, _+_, _-_, _/_, _%_, _^_, _≤_, _<_}
+use Prim.Native.Nat.{ℕ, zero, suc, _+_, _-_, _/_, _%_, _^_, _≤_, _<_}
 use native.Mathlib.Nat.{mod-eq-of-lt, lt-of-lt-of-le}
 use native.Mathlib.Numerals.{add-one}
 use native.Mathlib.Omega.{arith}
 use lib.Bits.{bitOr}
+use lib.Pow.{pow-mono}
 use lib.ListN.{length, take, length-append}
 use lib.Seq.{getD-take, length-take-le}
-use Rattle.words.specs.Bits.{isSet}
+use Rattle.words.specs.Bits.{isSet, zeroFrom}
 use Rattle.words.proofs.Tests.{T-true, true-T, not-passed}
+use Rattle.words.proofs.ZeroLaws.{zero-least, zero-skips, zero-most, zero-clear}
 use Rattle.diagram.specs.Diagram.{next, longest}
-use Rattle.diagram.specs.States.{has, add, expand}
+use Rattle.diagram.specs.States.{has, add, arc, expand}
 use Rattle.diagram.specs.Work.{placeIn, Indexed}
 use Rattle.diagram.specs.Inner.{Confined, Grown, visited}
 use Rattle.diagram.proofs.IndexLaws.{place-listed, place-some}
@@ -74,15 +76,11 @@ module _ (w : List ℕ) (k x r : ℕ) (index : Indexed w k) (told : r ≡ placeI
 
 -- One arc is visited
 
-module _ (cv s t : ℕ) {w : List ℕ} {k : ℕ} (index : Indexed w k) {b : Bool} (told : b ≡ isSet s (t - 1)) where
-  pub visit-forbidden : b ≡ true → Grown w w (visited cv s t (take k w)) k
-  visit-forbidden e = rw (sym told ∙ e) (grown-same w k index)
-
-  pub visit-permitted : {shifted r : ℕ} {after : List ℕ} → b ≡ false → t < 64 → shifted ≡ s / 2 ^ (t % 64)
-      → Grown w after (add (bitOr shifted cv) (take k w)) r → Grown w after (visited cv s t (take k w)) r
-  visit-permitted {shifted} e h q g =
-      let p : shifted ≡ s / 2 ^ t = q ∙ ap (λ n. s / 2 ^ n) (mod-eq-of-lt h) in
-      rw (sym told ∙ e) (rw p at g)
+pub visit-permitted : (cv s t k : ℕ) {w : List ℕ} {shifted r : ℕ} {after : List ℕ} → isSet s (t - 1) ≡ false → t < 64 → shifted ≡ s / 2 ^ (t % 64)
+    → Grown w after (add (bitOr shifted cv) (take k w)) r → Grown w after (visited cv s t (take k w)) r
+visit-permitted cv s t k {shifted = shifted} e h q g =
+    let p : shifted ≡ s / 2 ^ t = q ∙ ap (λ n. s / 2 ^ n) (mod-eq-of-lt h) in
+    rw e (rw p at g)
 
 -- The arcs of one state are followed
 
@@ -152,3 +150,55 @@ module _ {before w : List ℕ} {count found n cv s t : ℕ} (r : Following befor
       over = λ l. subst (λ m. 256 < length m) one-on
           (lt-of-lt-of-le (g .over h) (expand-extends 1 n cv s (suc t) (n + 2 - suc t) (visited cv s t (take found w)) .longer));
     }
+
+-- Columns that are 1 are passed over
+
+-- m latencies from t on, of which none has an arc
+expand-none : (n cv s t m k : ℕ) (l : List ℕ) → s < 2 ^ n → 1 ≤ t → t + m ≤ n + 2 → ((i : ℕ) → t ≤ i → i < t + m → isSet s (i - 1) ≡ true)
+    → expand 1 n cv s t (m + k) l ≡ expand 1 n cv s (t + m) k l
+expand-none n cv s t zero k l small some most set = let e : t + 0 ≡ t = omega arith in let f : 0 + k ≡ k = omega arith in rw (e, f)
+expand-none n cv s t (suc m) k l small some most set =
+    let e : suc m + k ≡ suc (m + k) = omega arith in
+    let f : suc t + m ≡ t + suc m = omega arith in
+    let off : arc 1 n s t ≡ false = arc-test n s t small some (omega arith) ∙ ap not (set t (omega arith) (omega arith)) in
+    ap (λ j. expand 1 n cv s t j l) e
+    ∙ expand-more 1 n cv s t (m + k) l
+    ∙ ap (λ b. expand 1 n cv s (suc t) (m + k) (cond b (add (next cv s t) l) l)) off
+    ∙ expand-none n cv s (suc t) m k l small (omega arith) (omega arith) (λ i h o. set i (omega arith) (omega arith))
+    ∙ ap (λ j. expand 1 n cv s j k l) f
+
+pub follow-skip : {before w : List ℕ} {count found n cv s t : ℕ} (u : ℕ) → Following before w count found n cv s t → s < 2 ^ n → t ≤ u → u ≤ n + 2
+    → ((i : ℕ) → t ≤ i → i < u → isSet s (i - 1) ≡ true) → Following before w count found n cv s u
+follow-skip {before} {w} {count} {found} {n} {cv} {s} {t} u r small le most set =
+    let m : ℕ = u - t in
+    let e : t + (u - t) ≡ u = omega arith in
+    let f : n + 2 - t ≡ (u - t) + (n + 2 - u) = omega arith in
+    record {
+      confined = r .confined;
+      index = r .index;
+      least = omega (arith, r .least);
+      most = most;
+      rest =
+          ap (λ j. expand 1 n cv s j (n + 2 - u) (take found w)) (sym e)
+          ∙ sym (expand-none n cv s t (u - t) (n + 2 - u) (take found w) small (r .least) (omega arith) (λ i h o. set i h (omega arith)))
+          ∙ ap (λ j. expand 1 n cv s t j (take found w)) (sym f)
+          ∙ r .rest;
+    }
+
+-- the next column that is 0, from index k on
+pub follow-next : {before w : List ℕ} {count found n cv s t : ℕ} (k z : ℕ) → Following before w count found n cv s t → t ≡ k + 1 → s < 2 ^ n → t ≤ n + 2
+    → z ≡ zeroFrom s k → Following before w count found n cv s (z + 1)
+follow-next {n = n} {s = s} k z r at small most e =
+    let a = zero-least s k in
+    let b = zero-most s n k small in
+    follow-skip (z + 1) r small (omega arith) (omega arith) (λ i h o. zero-skips s k (i - 1) (omega arith) (omega arith))
+
+pub follow-past : {before w : List ℕ} {count found n cv s t : ℕ} (k z : ℕ) → Following before w count found n cv s t → z ≡ zeroFrom s k → k ≤ z
+follow-past {s = s} k z r e = omega (arith, zero-least s k)
+
+-- and that column is 0
+pub follow-free : {before w : List ℕ} {count found n cv s t : ℕ} (k z : ℕ) → Following before w count found n cv s t → s < 2 ^ n → n ≤ 32 → z ≡ zeroFrom s k
+    → isSet s (z + 1 - 1) ≡ false
+follow-free {s = s} k z r small narrow e =
+    let f : z + 1 - 1 ≡ zeroFrom s k = omega arith in
+    ap (isSet s) f ∙ zero-clear s k (lt-of-lt-of-le small (pow-mono narrow))

@@ -1,9 +1,11 @@
 // The state diagram of a collision vector: its states listed in working words, with an index by which a state's place is found.
 // Every function here is proved, and the crate assumes nothing of its own. No public function has a `requires`.
 ghost use mathlib.Core.Path.{_≡_};
+ghost use mathlib.Core.Bool.{false};
 ghost use mathlib.Core.List.{[], _∷_, _++_};
-ghost use Prim.Native.Nat.{_+_, _≤_, _<_};
+ghost use Prim.Native.Nat.{_+_, _-_, _≤_, _<_};
 ghost use lib.ListN.{length, take, drop};
+ghost use Rattle.words.specs.Bits.{isSet};
 ghost use Rattle.diagram.specs.Diagram.{width, longest};
 ghost use Rattle.diagram.specs.States.{add, expand, states};
 ghost use Rattle.diagram.specs.Work.{stateIn, bucket, placeIn, Indexed, Enlisted};
@@ -93,33 +95,30 @@ fn include(work: &mut [u32], count: usize, state: u32) -> usize
     count + 1
 }
 
-// Lists the state to which a latency leads, where the state permits it, and answers how many there are then.
+// Lists the state to which a latency leads that the state permits, and answers how many there are then.
 fn visit(work: &mut [u32], count: usize, vector: u32, state: u32, latency: u32) -> usize
-    requires { ⌜ ((1 ≤ latency) × (latency < 64)) × Indexed (now work) count ⌝ }
+    requires { ⌜ (latency < 64) × ((isSet state (latency - 1) ≡ false) × Indexed (now work) count) ⌝ }
     ensures { λ r. ⌜ Grown (now (work .entry)) (now (work .exit)) (visited vector state latency (take count (now (work .entry)))) r ⌝ }
 {
-    let column = latency - 1;
-    if words::test(state, column) {
-        return count;
-    }
     include(work, count, words::shift(state, latency) | vector)
 }
 
 // Lists the states to which the arcs of one state lead, by rising latency, and answers how many there are then; it ends with the 257th.
-// No state has a 1 beyond the vector's columns, so the latency after the last column passes the test of every other.
+// No state has a 1 beyond the vector's columns, so the latency after the last column passes the test of every other. Columns that are 1 are
+// passed over in one step.
 fn follow(work: &mut [u32], count: usize, vector: u32, columns: u32, at: usize) -> usize
     requires { ⌜ Ready (now work) count columns at ⌝ }
     ensures { λ r. ⌜ Grown (now (work .entry)) (now (work .exit)) (expand 1 columns vector (stateIn (now (work .entry)) at) 1 (longest 1 columns) (take count (now (work .entry)))) r ⌝ }
 {
     let state = work[at];
     let mut found = count;
-    let mut latency = 1;
+    let mut latency = words::zero_from(state, 0) + 1;
     while latency <= columns + 1 {
         found = visit(work, found, vector, state, latency);
         if 256 < found {
             return found;
         }
-        latency += 1;
+        latency = words::zero_from(state, latency) + 1;
     }
     found
 }

@@ -7,10 +7,14 @@ use native.Mathlib.Nat.{not-suc-le-zero, mul-le-mul-left}
 use native.Mathlib.Decide.{decLt}
 use native.Mathlib.Omega.{arith}
 use borrow.Author.Count.{below-more}
+use Rattle.words.specs.Bits.{isSet, zeroFrom}
 use Rattle.words.proofs.Tests.{nowhere}
+use Rattle.words.proofs.BitLaws.{set-below, zero-unset}
+use Rattle.words.proofs.ZeroLaws.{zero-least, zero-skips, zero-most}
+use Rattle.diagram.specs.Work.{stateIn}
 use Rattle.mean_cycle.specs.declared.Cycle.{Cycle}
 use Rattle.mean_cycle.specs.declared.search.Graph.{Graph}
-use Rattle.mean_cycle.specs.Inner.{Frame, Tree, Calm, Ready, Cleared, Stepped, Visited, Swept, Rounded, Begun, Least, gain, sumTo}
+use Rattle.mean_cycle.specs.Inner.{Listing, Frame, Tree, Calm, Ready, Cleared, Stepped, Visited, Swept, Rounded, Begun, Least, gain, sumTo}
 use Rattle.mean_cycle.proofs.Links.{decide}
 use Rattle.mean_cycle.proofs.Sums.{sum-below, mean-falls}
 use Rattle.mean_cycle.proofs.Frames.{frame-refl, frame-trans, frame-back, within-frame, listing-kept, cycle-kept, ready-kept, ready-few, ready-count, tree-gain}
@@ -109,6 +113,40 @@ pub visit-end :
     {w₀ w : List ℕ} {G : Graph} {best best′ : Cycle} {v t moved : ℕ} → Visiting w₀ w G best v t moved → G .width + 1 < t
     → Visited w₀ w G best v false moved best′
 visit-end {best = best} h l = visit-left h (omega (arith, h .few, h .upto, h .ready .listing .narrow)) (λ s m. calm-long best (omega arith))
+
+-- a latency whose column is 1 has no arc
+calm-set : {w : List ℕ} {G : Graph} (best : Cycle) {v : ℕ} (t : ℕ) → Listing w G → v < G .nodes → isSet (stateIn w v) (t - 1) ≡ true → Calm w G best v t
+calm-set {w} {G} best {v} t l here e x a =
+    let below = set-below (stateIn w v) (G .width) (t - 1) (l .below v here) e in
+    let some = a .permits .positive in
+    let free = a .permits .free (omega arith) in
+    nowhere (sym (zero-unset (stateIn w v) (t - 1) free) ∙ e)
+
+-- the columns from index k on that are 1 are passed over
+pub visit-next : {w₀ w : List ℕ} {G : Graph} {best : Cycle} {v t moved : ℕ} (k r : ℕ) → Visiting w₀ w G best v t moved → Listing w₀ G → v < G .nodes
+    → t ≡ k + 1 → t ≤ G .width + 2 → r ≡ zeroFrom (stateIn w₀ v) k + 1 → Visiting w₀ w G best v r moved
+visit-next {w₀} {w} {G} {best} {v} {t} k r h l here at le e =
+    let a = zero-least (stateIn w₀ v) k in
+    let b = zero-most (stateIn w₀ v) (G .width) k (l .below v here) in
+    record {
+      frame = h .frame;
+      tree = h .tree;
+      ready = h .ready;
+      some = omega arith;
+      upto = omega arith;
+      few = omega (arith, h .few);
+      calm = λ z.
+          let c = h .calm z in (
+            c .0,
+            λ s q. decide (decLt s t) (λ o. c .1 s o)
+                (λ o. calm-set best s l here (zero-skips (stateIn w₀ v) k (s - 1) (omega arith) (omega arith))),
+          );
+      grown = h .grown;
+    }
+
+pub visit-past : {w₀ w : List ℕ} {G : Graph} {best : Cycle} {v t moved : ℕ} (k r : ℕ) → Visiting w₀ w G best v t moved
+    → r ≡ zeroFrom (stateIn w₀ v) k + 1 → k < r
+visit-past {w₀} {v = v} k r h e = omega (arith, zero-least (stateIn w₀ v) k)
 
 -- sweep
 

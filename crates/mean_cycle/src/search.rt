@@ -8,6 +8,7 @@ ghost use mathlib.Core.Path.{_≡_};
 ghost use mathlib.Core.Bool.{false};
 ghost use Prim.Native.Nat.{_+_, _≤_, _<_, _^_};
 ghost use lib.ListN.{length, set};
+ghost use Rattle.words.specs.Bits.{zeroFrom};
 ghost use Rattle.mean_cycle.specs.Inner.{Listing, Target, Tree, Ready, Ends, Climbed, Cleared, Traceable, Traced, Stepped, Visited, Swept, Rounded, Least};
 
 // What is searched: the listed states, numbered from 0, of a collision vector and its n.
@@ -157,7 +158,15 @@ fn step(work: &mut [u32], graph: Graph, best: Cycle, v: usize, t: usize) -> Outc
     }
 }
 
-// The arcs of one node by rising latency, up to the first better cycle. Gains are at least 0: from the first latency on that costs
+// The first latency after t whose column of a state is 0.
+fn next_latency(state: u32, t: usize) -> usize
+    requires { ⌜ t ≤ 64 ⌝ }
+    ensures { λ r. ⌜ r ≡ zeroFrom state t + 1 ⌝ }
+{
+    words::zero_from(state, t as u32) as usize + 1
+}
+
+// The arcs of one node by rising latency, up to the first better cycle. Columns that are 1 have no arc and are passed over in one step. Gains are at least 0: from the first latency on that costs
 // as much as the node's gain can bring, no arc asks for a greater gain, whatever its target.
 fn visit(work: &mut [u32], graph: Graph, best: Cycle, v: usize) -> Outcome
     requires { ⌜ Ready (now work) graph best ⌝ }
@@ -168,7 +177,8 @@ fn visit(work: &mut [u32], graph: Graph, best: Cycle, v: usize) -> Outcome
     let count = best.count;
     let sum = best.sum;
     let last = graph.width as usize + 1;
-    let mut t = 1;
+    let state = work[v];
+    let mut t = next_latency(state, 0);
     let mut moved = 0;
     while t <= last {
         let up = work[768 + v] as usize + sum;
@@ -185,7 +195,7 @@ fn visit(work: &mut [u32], graph: Graph, best: Cycle, v: usize) -> Outcome
             return s;
         }
         moved = moved + s.moved;
-        t += 1;
+        t = next_latency(state, t);
     }
     Outcome {
         found: false,

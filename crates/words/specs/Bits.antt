@@ -1,8 +1,9 @@
 -- The bits of a word. Bit 0 is the lowest.
-use mathlib.Core.Bool.{Bool, cond}
-use Prim.Native.Nat.{ℕ, _/_, _%_, _^_}
+use mathlib.Core.Bool.{Bool, cond, not}
+use Prim.Native.Nat.{ℕ, _-_, _/_, _%_, _^_}
 use lib.Bits.{bitAnd, bitOr, bitXor}
 use lib.Dec.{ltb, eqb}
+use Rattle.words.specs.Below.{leastFrom}
 
 -- bit k of a word: 0 or 1
 abbrev pub bit : ℕ → ℕ → ℕ
@@ -18,3 +19,7 @@ setBit w k = cond (ltb k 32) (bitOr w (2 ^ k)) w
 
 unfoldable pub clearBit : ℕ → ℕ → ℕ
 clearBit w k = cond (ltb k 32) (bitXor w (bitAnd w (2 ^ k))) w
+
+-- the least index from k on at which a word of 32 bits has a 0: 32 where all of them are 1, and k itself where it is 32 or more
+unfoldable pub zeroFrom : ℕ → ℕ → ℕ
+zeroFrom w k = leastFrom (32 - k) k (λ i. not (isSet w i))

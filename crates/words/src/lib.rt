@@ -1,8 +1,8 @@
-// Bits of 32-bit words: test, set and clear one, shift, count. Bit 0 is the lowest.
+// Bits of 32-bit words: test, set and clear one, shift, count, find the next 0. Bit 0 is the lowest.
 // Every function here is proved, total and without a `requires`; the crate assumes nothing of its own.
 ghost use mathlib.Core.Path.{_≡_};
 ghost use Prim.Native.Nat.{_/_, _%_, _^_};
-ghost use Rattle.words.specs.Bits.{isSet, setBit, clearBit};
+ghost use Rattle.words.specs.Bits.{isSet, setBit, clearBit, zeroFrom};
 ghost use Rattle.words.specs.Below.{countBelow};
 
 // Whether the bit at the index is 1. A word has no 1 from index 32 on.
@@ -48,4 +48,15 @@ pub fn ones(word: u32) -> u32
     ensures { λ r. ⌜ r ≡ countBelow 32 (isSet word) ⌝ }
 {
     u32::count_ones(word)
+}
+
+// The least index from a given one on at which the word has a 0, in one step: the ones from there on are the zeros that a carry leaves.
+pub fn zero_from(word: u32, from: u32) -> u32
+    ensures { λ r. ⌜ r ≡ zeroFrom word from ⌝ }
+{
+    if 32 <= from {
+        return from;
+    }
+    let rest = (word as u64) >> from;
+    from + u64::trailing_zeros(rest + 1)
 }

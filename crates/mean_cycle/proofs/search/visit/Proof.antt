@@ -1,16 +1,17 @@
 -- `mean_cycle::search::visit` meets its contract: the latencies below t are done. Assumes nothing.
 use Prim.Native.Nat.{_+_, _-_}
+use mathlib.Core.Path.{refl}
 use native.Mathlib.Omega.{arith}
 use Rattle.mean_cycle.proofs.Frames.{ready-cost, ready-held}
-use Rattle.mean_cycle.proofs.Rounds.{Visiting, visit-start, visit-more, visit-found, visit-stop, visit-end}
+use Rattle.mean_cycle.proofs.Rounds.{Visiting, visit-start, visit-next, visit-past, visit-more, visit-found, visit-stop, visit-end}
 use Rattle.mean_cycle.proofs.search.visit.Statement.{statement}
 use Rattle.mean_cycle.proofs.search.visit.Tie as tie
 
 abbrev Inv-loop : tie.InvT-loop
-Inv-loop work₀ graph best v count sum last t₀ moved₀ work t moved = Visiting work₀ work graph best v t moved
+Inv-loop work₀ graph best v count sum last state t₀ moved₀ work t moved = Visiting work₀ work graph best v t moved
 
 abbrev μ-loop : tie.MeasureT-loop
-μ-loop work₀ graph best v count sum last t₀ moved₀ work t moved = last + 1 - t
+μ-loop work₀ graph best v count sum last state t₀ moved₀ work t moved = last + 1 - t
 
 cast-last : tie.Need-cast-last Inv-loop μ-loop
 cast-last c = omega (arith, c .before .before .pre .0 .listing .narrow)
@@ -18,31 +19,46 @@ cast-last c = omega (arith, c .before .before .pre .0 .listing .narrow)
 add-last : tie.Need-add-last Inv-loop μ-loop
 add-last c = omega (arith, c .before .before .pre .0 .listing .narrow)
 
+mul-state : tie.Need-mul-state Inv-loop μ-loop
+mul-state c =
+    let h = ready-held (c .before .before .pre .0) (c .before .before .pre .1 .1) in
+    omega arith
+
+slice-read-state : tie.Need-slice-read-state Inv-loop μ-loop
+slice-read-state c =
+    let h = ready-held (c .before .before .before .pre .0) (c .before .before .before .pre .1 .1) in
+    omega arith
+
+next-latency-requires : tie.Need-next-latency-requires Inv-loop μ-loop
+next-latency-requires c κs = omega arith
+
 loop-holds : tie.Need-loop-holds Inv-loop μ-loop
-loop-holds c = visit-start _ (c .before .before .pre .0) (c .before .before .pre .1 .0)
+loop-holds c =
+    let start = c .before .before .before .before in
+    visit-next 0 _ (visit-start _ (start .pre .0) (start .pre .1 .0)) (start .pre .0 .listing) (start .pre .1 .1) refl (omega arith) (c .next-latency .ensures)
 
 add-up : tie.Need-add-up Inv-loop μ-loop
 add-up c =
-    let h = ready-held (c .before .loop .inv .ready) (c .before .before .before .before .pre .1 .1) in
+    let h = ready-held (c .before .loop .inv .ready) (c .before .before .before .before .before .before .pre .1 .1) in
     omega arith
 
 mul-up : tie.Need-mul-up Inv-loop μ-loop
 mul-up c =
-    let h = ready-held (c .before .loop .inv .ready) (c .before .before .before .before .pre .1 .1) in
+    let h = ready-held (c .before .loop .inv .ready) (c .before .before .before .before .before .before .pre .1 .1) in
     omega arith
 
 slice-read-up : tie.Need-slice-read-up Inv-loop μ-loop
 slice-read-up c =
-    let h = ready-held (c .before .before .loop .inv .ready) (c .before .before .before .before .before .pre .1 .1) in
+    let h = ready-held (c .before .before .loop .inv .ready) (c .before .before .before .before .before .before .before .pre .1 .1) in
     omega arith
 
 cast-up : tie.Need-cast-up Inv-loop μ-loop
-cast-up c = omega (arith, c .slice-known2 .given (768 + c .before .before .before .before .before .args .v))
+cast-up c = omega (arith, c .slice-known3 .given (768 + c .before .before .before .before .before .before .before .args .v))
 
 add-up-2 : tie.Need-add-up-2 Inv-loop μ-loop
 add-up-2 c =
-    let h = ready-held (c .before .before .loop .inv .ready) (c .before .before .before .before .before .pre .1 .1) in
-    omega (arith, c .slice-known2 .given (768 + c .before .before .before .before .before .args .v))
+    let h = ready-held (c .before .before .loop .inv .ready) (c .before .before .before .before .before .before .before .pre .1 .1) in
+    omega (arith, c .slice-known3 .given (768 + c .before .before .before .before .before .before .before .args .v))
 
 mul-if1 : tie.Need-mul-if1 Inv-loop μ-loop
 mul-if1 c = omega (arith, ready-cost _ (c .before .before .loop .inv .ready) (c .before .loop-test .taken))
@@ -56,7 +72,7 @@ returns c = visit-stop (c .before .before .before .loop .inv) (c .before .before
 step-requires : tie.Need-step-requires Inv-loop μ-loop
 step-requires c κs =
     let i = c .before .before .before .before .loop .inv in
-    (i .ready, (i .tree, (c .before .before .before .before .before .before .before .pre .1 .1, (i .some, c .before .before .before .loop-test .taken))))
+    (i .ready, (i .tree, (c .before .before .before .before .before .before .before .before .before .pre .1 .1, (i .some, c .before .before .before .loop-test .taken))))
 
 same-length-2 : tie.Need-same-length-2 Inv-loop μ-loop
 same-length-2 c = visit-found (c .before .before .before .before .before .before .before .before .loop .inv) (c .before .before .before .step .ensures) (c .if2 .taken) .frame .size
@@ -69,16 +85,23 @@ add-moved c =
     let i = c .before .before .before .before .before .before .before .before .before .loop .inv in
     omega (arith, c .before .before .before .before .step .ensures .one, i .few, i .upto, i .ready .listing .narrow)
 
-add-t : tie.Need-add-t Inv-loop μ-loop
-add-t c =
+next-latency-requires-2 : tie.Need-next-latency-requires-2 Inv-loop μ-loop
+next-latency-requires-2 c κs =
     let i = c .before .before .before .before .before .before .before .before .before .loop .inv in
     omega (arith, i .upto, i .ready .listing .narrow)
 
 loop-less : tie.Need-loop-less Inv-loop μ-loop
-loop-less c = omega (arith, c .before .before .before .before .before .before .before .before .loop-test .taken)
+loop-less c =
+    let turn = c .before .before .before .before .before .before .before .before .before in
+    omega (arith, turn .loop-test .taken, visit-past (turn .before .loop .t) _ (turn .before .loop .inv) (c .next-latency2 .ensures))
 
 loop-again : tie.Need-loop-again Inv-loop μ-loop
-loop-again c = visit-more (c .before .before .before .before .before .before .before .before .before .loop .inv) (c .before .before .before .before .before .before .before .before .loop-test .taken) (c .before .before .before .before .step .ensures) (c .before .if2 .left)
+loop-again c =
+    let turn = c .before .before .before .before .before .before .before .before .before in
+    let start = turn .before .before .before .before .before .before in
+    visit-next (turn .before .loop .t) _
+    (visit-more (turn .before .loop .inv) (turn .loop-test .taken) (c .before .before .before .before .before .step .ensures) (c .before .before .if2 .left))
+    (start .pre .0 .listing) (start .pre .1 .1) refl (omega (arith, turn .loop-test .taken)) (c .next-latency2 .ensures)
 
 same-length-3 : tie.Need-same-length-3 Inv-loop μ-loop
 same-length-3 c = c .before .loop .inv .frame .size
@@ -94,6 +117,9 @@ visit-spec =
     μ-loop
     cast-last
     add-last
+    mul-state
+    slice-read-state
+    next-latency-requires
     loop-holds
     add-up
     mul-up
@@ -107,7 +133,7 @@ visit-spec =
     same-length-2
     returns-2
     add-moved
-    add-t
+    next-latency-requires-2
     loop-less
     loop-again
     same-length-3
