@@ -28,7 +28,8 @@ use Rattle.controller.proofs.StepLaws.{start-tried}
 use Rattle.c_interface.specs.Codes.{codeOf, narrow, handed, unitIn}
 use Rattle.c_interface.specs.Calls.{bankIn, bankOver, tickRefusal, startRefusal}
 use Rattle.c_interface.specs.Inner.{stepRefusal, stepWords}
-use Rattle.c_interface.proofs.CycleLaws.{then-refused, then-done, read-said, Asked}
+use Rattle.c_interface.proofs.ThenLaws.{then-refused, then-done, read-gives}
+use Rattle.c_interface.proofs.CycleLaws.{Asked}
 
 -- The four words
 
@@ -93,14 +94,14 @@ module _ (file words : List ℕ) (back : Outcome) (b : back ≡ readOf file) whe
   pub tick-unread : (r : ℕ) {why : Refusal} → back .answer ≡ Refused why → r ≡ codeOf (back .answer) → TickEnds file words words r
   unfolding tickRefusal
   tick-unread r {why} e n =
-      let a = then-refused file _ (read-said file back b e) in
+      let a = then-refused file _ (read-gives file back b e) in
       (n ∙ ap codeOf (e ∙ sym a), ap (λ x. handed x (bankOver (shifted (bankIn words)) words) words) (sym a))
 
   -- a sound unit refuses no tick
   tick-tried : back .answer ≡ Done → stepRefusal (back .unit) words Tick ≡ tickRefusal file (length words)
   unfolding stepRefusal tickRefusal eventAnswer
   tick-tried d =
-      let e = read-said file back b d in
+      let e = read-gives file back b d in
       ap (λ (o : Outcome). check (leb 4 (length words)) ShortOutput (check (soundOf (o .unit)) NotSound Done)) b
       ∙ ap (λ ok. check (leb 4 (length words)) ShortOutput (check ok NotSound Done)) (sound-in file e)
       ∙ sym (then-done file _ e)
@@ -128,7 +129,7 @@ module _ (file : List ℕ) (q : ℕ) (words : List ℕ) where
   pub start-unread : (back : Outcome) (r : ℕ) {why : Refusal} → back ≡ readOf file → back .answer ≡ Refused why → r ≡ codeOf (back .answer)
       → StartEnds file q words words r
   unfolding startRefusal
-  start-unread back r b e n = start-refused (back .answer) r (then-refused file _ (read-said file back b e) ∙ sym e) e n
+  start-unread back r b e n = start-refused (back .answer) r (then-refused file _ (read-gives file back b e) ∙ sym e) e n
 
   module _ (u : FunctionUnit) (t : Tag) (k : Asked file q u (t .0)) (checked : Answer) (c : checked ≡ tagAnswer u (t .0)) where
     -- what is tried after the tag

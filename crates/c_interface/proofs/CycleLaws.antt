@@ -10,8 +10,7 @@ use Rattle.unit.specs.declared.Refusal.{Refusal}
 use Rattle.unit.specs.declared.Answer.{Answer}
 use Rattle.unit.specs.declared.Answer.the-variants.{Done, Refused}
 use Rattle.unit.specs.Numbers.{numberOf}
-use Rattle.unit.specs.Calls.{andThen, outcome, blank, unitOf}
-use Rattle.unit_file.specs.Read.{functionsIn, segmentsIn, columnsIn, fileTable, readAnswer, readOf}
+use Rattle.unit_file.specs.Read.{readAnswer, readOf}
 use Rattle.collision.specs.Pipeline.{total}
 use Rattle.collision.specs.Answers.{answering}
 use Rattle.collision.specs.declared.Number.{Number}
@@ -21,28 +20,9 @@ use Rattle.cycles.specs.declared.GreedyAnswer.{GreedyAnswer}
 use Rattle.cycles.specs.declared.GreedyAnswer.the-variants as GreedyAnswer
 use Rattle.cycles.specs.declared.Counted.{Counted}
 use Rattle.cycles.specs.Greedy.{greedyOf, greedyRefusal, counting, greedyAnswer, greedyOut, WorkAfter}
-use Rattle.c_interface.specs.Codes.{codeOf, narrow, handed, unitIn, tableIn, fileThen}
+use Rattle.c_interface.specs.Codes.{codeOf, narrow, handed, unitIn, tableIn}
 use Rattle.c_interface.specs.Calls.{listRefusal, cycleRefusal}
-
--- The file
-
-pub read-answer : (file : List ℕ) → readOf file .answer ≡ readAnswer file
-unfolding readOf
-read-answer file = go (readAnswer file)
-  where
-    go : (a : Answer) → outcome a (blank 0 0 0) (unitOf (functionsIn file) (segmentsIn file) (columnsIn file) (fileTable file)) .answer ≡ a
-    go Done = refl
-    go (Refused why) = refl
-
-pub then-refused : {why : Refusal} (file : List ℕ) (next : Answer) → readAnswer file ≡ Refused why → fileThen file next ≡ Refused why
-then-refused file next e = ap (λ a. andThen a next) e
-
-pub then-done : (file : List ℕ) (next : Answer) → readAnswer file ≡ Done → fileThen file next ≡ next
-then-done file next e = ap (λ a. andThen a next) e
-
--- what was read of the file
-pub read-said : (file : List ℕ) (back : Outcome) {a : Answer} → back ≡ readOf file → back .answer ≡ a → readAnswer file ≡ a
-read-said file back r e = sym (read-answer file) ∙ ap (λ (o : Outcome). o .answer) (sym r) ∙ e
+use Rattle.c_interface.proofs.ThenLaws.{then-refused, then-done, read-gives}
 
 -- the file was accepted, and its unit is asked about the tag, narrowed to a byte
 pub record Asked (file : List ℕ) (q : ℕ) (u : FunctionUnit) (t : ℕ) : Type 0 where
@@ -51,7 +31,7 @@ pub record Asked (file : List ℕ) (q : ℕ) (u : FunctionUnit) (t : ℕ) : Type
   pub tag : t ≡ narrow q
 
 pub asked : (file : List ℕ) (q : ℕ) (back : Outcome) (t : ℕ) → back ≡ readOf file → back .answer ≡ Done → t ≡ narrow q → Asked file q (back .unit) t
-asked file q back t r e n = record { accepted = read-said file back r e; unit = ap (λ (o : Outcome). o .unit) r; tag = n }
+asked file q back t r e n = record { accepted = read-gives file back r e; unit = ap (λ (o : Outcome). o .unit) r; tag = n }
 
 -- States
 
@@ -76,7 +56,7 @@ module _ (file : List ℕ) (q : ℕ) (out : List ℕ) (count : ℕ) where
       → ListEnds file q out out count count r
   unfolding listRefusal
   list-unread back r {why} b e n =
-      let l = list-ends (Refused why) (then-refused file _ (read-said file back b e)) in
+      let l = list-ends (Refused why) (then-refused file _ (read-gives file back b e)) in
       (n ∙ ap codeOf e ∙ l .0, l .1)
 
   module _ (u : FunctionUnit) (t : ℕ) (k : Asked file q u t) (listed : Number) (after : List ℕ)
@@ -136,7 +116,7 @@ module _ (file : List ℕ) (q : ℕ) (work out : List ℕ) where
   pub cycle-unread : (back : Outcome) {why : Refusal} → back ≡ readOf file → back .answer ≡ Refused why
       → cycleRefusal file q (length work) (length out) ≡ Refused why
   unfolding cycleRefusal
-  cycle-unread back b e = then-refused file _ (read-said file back b e)
+  cycle-unread back b e = then-refused file _ (read-gives file back b e)
 
   module _ (count sum : ℕ) where
     greedy-ends : (a : Answer) (workAfter : List ℕ) → cycleRefusal file q (length work) (length out) ≡ a → WorkAfter a work workAfter

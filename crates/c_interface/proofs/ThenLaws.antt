@@ -11,11 +11,11 @@ use Rattle.unit.specs.declared.Answer.the-variants.{Done, Refused}
 use Rattle.unit.specs.Numbers.{numberOf}
 use Rattle.unit.specs.Table.{Table}
 use Rattle.unit.specs.Unit.{marked}
-use Rattle.unit.specs.Calls.{outcome, blank, unitOf}
 use Rattle.collision.specs.declared.Number.{Number}
 use Rattle.collision.specs.Answers.{answering}
 use Rattle.collision.specs.Judge.{verdict}
-use Rattle.unit_file.specs.Read.{functionsIn, segmentsIn, columnsIn, fileTable, readAnswer, readOf}
+use Rattle.unit_file.specs.Read.{readAnswer, readOf}
+use Rattle.unit_file.proofs.AcceptedLaws.{read-answer}
 use Rattle.c_interface.specs.Codes.{codeOf, handed, unitIn, tableIn, fileThen}
 use Rattle.c_interface.specs.Inner.{numberCode, numberValue, verdictNumber}
 
@@ -56,14 +56,6 @@ verdict-number Done false = refl
 verdict-number (Refused why) b = refl
 
 -- The file
-
-pub read-answer : (file : List ℕ) → readOf file .answer ≡ readAnswer file
-unfolding readOf
-read-answer file = go (readAnswer file)
-  where
-    go : (a : Answer) → outcome a (blank 0 0 0) (unitOf (functionsIn file) (segmentsIn file) (columnsIn file) (fileTable file)) .answer ≡ a
-    go Done = refl
-    go (Refused why) = refl
 
 pub then-refused : {why : Refusal} (file : List ℕ) (next : Answer) → readAnswer file ≡ Refused why → fileThen file next ≡ Refused why
 then-refused file next e = rw e

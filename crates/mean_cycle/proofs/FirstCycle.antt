@@ -1,36 +1,20 @@
 -- The greedy walk and the cycle that it ends in. Assumes nothing.
 use mathlib.Core.Path.{_≡_, refl, sym, ap, subst, subst₂, subst₃, _∙_}
 use mathlib.Core.List.{List}
-use Prim.Native.Nat.{ℕ, suc, _+_, _*_, _-_, _^_, _≤_, _<_}
-use native.Mathlib.Nat.{not-suc-le-zero, lt-of-lt-of-le, div-eq-of-lt}
+use Prim.Native.Nat.{ℕ, suc, _+_, _*_, _-_, _≤_, _<_}
+use native.Mathlib.Nat.{not-suc-le-zero}
 use native.Mathlib.Numerals.{add-one}
 use native.Mathlib.Decide.{ℕ-discrete}
 use native.Mathlib.Omega.{arith}
 use borrow.Author.Count.{below-more}
-use lib.Bits.{bitOr, or-zero-l}
-use lib.Pow.{pow-mono}
 use lib.ListN.{length, getD, set, length-set}
 use lib.Seq.{getD-set-same, getD-set-other}
-use Rattle.diagram.specs.Work.{stateIn}
 use Rattle.mean_cycle.specs.declared.Cycle.{Cycle}
 use Rattle.mean_cycle.specs.declared.search.Graph.{Graph}
 use Rattle.mean_cycle.specs.Inner.{Listing, Arc, CycleOf, Frame, Within, Cleared, Copyable, Copied, Begun, gain, label, cyc, sumTo}
 use Rattle.mean_cycle.proofs.Links.{decide, pick, pigeon}
 use Rattle.mean_cycle.proofs.Sums.{sum-same}
 use Rattle.mean_cycle.proofs.Frames.{frame-refl, frame-trans, within-frame, listing-few, listing-kept, arc-kept, cycle-kept}
-
--- every state permits n + 1, which leads to the first state
-pub least-last : {w : List ℕ} {G : Graph} {v : ℕ} → Listing w G → v < G .nodes → Arc w G v (G .width + 1) 0
-least-last {w} {G} {v} h l =
-    let t : ℕ = G .width + 1 in
-    let small : stateIn w v < 2 ^ t = lt-of-lt-of-le (h .below v l) (pow-mono (omega arith)) in
-    record {
-      leaves = l;
-      enters = h .some;
-      permits = record { positive = omega arith; spaced = omega arith; small = omega arith; free = λ m. absurd (omega arith) };
-      high = omega (arith, h .narrow);
-      state = h .first ∙ sym (or-zero-l (G .vector)) ∙ ap (λ (z : ℕ). bitOr z (G .vector)) (sym (div-eq-of-lt small));
-    }
 
 -- copy
 

@@ -11,6 +11,7 @@ use Rattle.words.specs.Bits.{isSet, zeroFrom}
 use Rattle.words.proofs.Tests.{nowhere}
 use Rattle.words.proofs.BitLaws.{set-below, zero-unset}
 use Rattle.words.proofs.ZeroLaws.{zero-least, zero-skips, zero-most}
+use Rattle.diagram.specs.Diagram.{Permits}
 use Rattle.diagram.specs.Work.{stateIn}
 use Rattle.mean_cycle.specs.declared.Cycle.{Cycle}
 use Rattle.mean_cycle.specs.declared.search.Graph.{Graph}
@@ -143,6 +144,12 @@ visit-next {w₀} {w} {G} {best} {v} {t} k r h l here at le e =
           );
       grown = h .grown;
     }
+
+-- what the state permits, it permits in the words of now
+pub visit-permits : {w₀ w : List ℕ} {G : Graph} {best : Cycle} {v t moved : ℕ} → Visiting w₀ w G best v t moved → v < G .nodes
+    → Permits 1 (G .width) (stateIn w₀ v) t → Permits 1 (G .width) (stateIn w v) t
+visit-permits {G = G} {v = v} {t} h here p =
+    subst (λ (s : ℕ). Permits 1 (G .width) s t) (sym (h .frame .low v (omega (arith, ready-few (h .ready))))) p
 
 pub visit-past : {w₀ w : List ℕ} {G : Graph} {best : Cycle} {v t moved : ℕ} (k r : ℕ) → Visiting w₀ w G best v t moved
     → r ≡ zeroFrom (stateIn w₀ v) k + 1 → k < r

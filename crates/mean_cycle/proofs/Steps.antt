@@ -1,4 +1,4 @@
--- What one arc leaves, in each of its four ways. Assumes nothing.
+-- What one arc leaves, in each of its three ways. Assumes nothing.
 use mathlib.Core.Path.{_≡_, refl, sym, subst, _∙_}
 use mathlib.Core.Bool.{Bool, true, false}
 use mathlib.Core.List.{List}
@@ -8,8 +8,9 @@ use native.Mathlib.Omega.{arith}
 use Rattle.words.proofs.Tests.{nowhere}
 use Rattle.mean_cycle.specs.declared.Cycle.{Cycle}
 use Rattle.mean_cycle.specs.declared.search.Graph.{Graph}
-use Rattle.mean_cycle.specs.Inner.{Arc, Target, Path, Off, Tree, Calm, Ready, Ends, Better, Traced, Stepped, gain, parent}
+use Rattle.mean_cycle.specs.Inner.{Listing, Arc, Path, Off, Tree, Calm, Ready, Ends, Better, Traced, Stepped, gain, parent}
 use Rattle.mean_cycle.proofs.Frames.{frame-refl, within-frame, ready-kept, ready-few, ready-sum, tree-gain}
+use Rattle.mean_cycle.proofs.Targets.{arc-same}
 use Rattle.mean_cycle.proofs.Closing.{closing-better}
 use Rattle.mean_cycle.proofs.Relinks.{Relinked, linked, relinked, tree-kept, gains-grown}
 
@@ -17,12 +18,10 @@ use Rattle.mean_cycle.proofs.Relinks.{Relinked, linked, relinked, tree-
 pub gain-fits : {w : List ℕ} {G : Graph} {best : Cycle} {v : ℕ} → Ready w G best → Tree w G best → v < G .nodes → gain w v + best .sum < 4294967296
 gain-fits {v = v} r tr l = omega (arith, tree-gain tr (ready-few r) v l, ready-sum r)
 
-pub calm-none : {w : List ℕ} {G : Graph} (best : Cycle) {v t r : ℕ} → Target w G v t r → G .nodes ≤ r → Calm w G best v t
-calm-none best h l x a = absurd (omega (arith, h .only x a, a .enters))
-
-pub calm-some : {w : List ℕ} {G : Graph} (best : Cycle) {v t r : ℕ} → Target w G v t r → gain w v + best .sum ≤ gain w r + best .count * t → Calm w G best v t
-calm-some {w} best {v} {t} h l x a =
-    subst (λ (z : ℕ). gain w v + best .sum ≤ gain w z + best .count * t) (sym (h .only x a)) l
+-- the arc asks no greater gain
+pub calm-arc : {w : List ℕ} {G : Graph} (best : Cycle) {v t r : ℕ} → Listing w G → Arc w G v t r → gain w v + best .sum ≤ gain w r + best .count * t
+    → Calm w G best v t
+calm-arc {w} best {v} {t} h b l x a = subst (λ (z : ℕ). gain w v + best .sum ≤ gain w z + best .count * t) (sym (arc-same h a b)) l
 
 pub stepped-still :
     {w : List ℕ} {G : Graph} {best best′ : Cycle} {v t moved : ℕ} {found : Bool} → Ready w G best → Tree w G best → Calm w G best v t

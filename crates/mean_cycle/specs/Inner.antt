@@ -48,11 +48,6 @@ pub record Arc (w : List ℕ) (G : Graph) (v t x : ℕ) : Type 0 where
   pub high : t ≤ 32
   pub state : stateIn w x ≡ next (G .vector) (stateIn w v) t
 
--- r is the node to which t leads from v, or no node where there is none
-pub record Target (w : List ℕ) (G : Graph) (v t r : ℕ) : Type 0 where
-  pub hit : r < G .nodes → Arc w G v t r
-  pub only : (x : ℕ) → Arc w G v t x → x ≡ r
-
 -- c 0 + .. + c (k - 1)
 abbrev pub sumTo : (ℕ → ℕ) → ℕ → ℕ
 sumTo c zero = 0

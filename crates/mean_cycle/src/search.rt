@@ -9,7 +9,9 @@ ghost use mathlib.Core.Bool.{false};
 ghost use Prim.Native.Nat.{_+_, _≤_, _<_, _^_};
 ghost use lib.ListN.{length, set};
 ghost use Rattle.words.specs.Bits.{zeroFrom};
-ghost use Rattle.mean_cycle.specs.Inner.{Listing, Target, Tree, Ready, Ends, Climbed, Cleared, Traceable, Traced, Stepped, Visited, Swept, Rounded, Least};
+ghost use Rattle.diagram.specs.Diagram.{Permits};
+ghost use Rattle.diagram.specs.Work.{stateIn};
+ghost use Rattle.mean_cycle.specs.Inner.{Listing, Arc, Tree, Ready, Ends, Climbed, Cleared, Traceable, Traced, Stepped, Visited, Swept, Rounded, Least};
 
 // What is searched: the listed states, numbered from 0, of a collision vector and its n.
 pub struct Graph {
@@ -25,20 +27,22 @@ pub struct Outcome {
     pub best: Cycle,
 }
 
-// The node to which the latency t leads from node v, or the number of nodes where v does not permit t.
+// The first latency after t whose column of a state is 0.
+pub fn next_latency(state: u32, t: usize) -> usize
+    requires { ⌜ t ≤ 64 ⌝ }
+    ensures { λ r. ⌜ r ≡ zeroFrom state t + 1 ⌝ }
+{
+    words::zero_from(state, t as u32) as usize + 1
+}
+
+// The node to which a latency t that node v permits leads.
 pub fn target(work: &[u32], graph: Graph, v: usize, t: usize) -> usize
     requires { ⌜ Listing (now work) graph ⌝ }
-    requires { ⌜ (v < graph .nodes) × ((1 ≤ t) × (t ≤ graph .width + 1)) ⌝ }
-    ensures { λ r. ⌜ Target (now (work .entry)) graph v t r ⌝ }
+    requires { ⌜ (v < graph .nodes) × Permits 1 (graph .width) (stateIn (now work) v) t ⌝ }
+    ensures { λ r. ⌜ Arc (now (work .entry)) graph v t r ⌝ }
 {
-    let nodes = graph.nodes;
-    let state = work[v];
-    let latency = t as u32;
-    if words::test(state, latency - 1) {
-        return nodes;
-    }
-    let next = words::shift(state, latency) | graph.vector;
-    diagram::place(work, nodes, next)
+    let next = words::shift(work[v], t as u32) | graph.vector;
+    diagram::place(work, graph.nodes, next)
 }
 
 // All gains 0, all links none.
@@ -117,21 +121,18 @@ fn still(best: Cycle) -> Outcome
     }
 }
 
-// One arc, from v by the latency t. Where it asks for a greater gain of its target x, x is linked to v; but where x is met going up from v,
-// the links from x down to v and this arc are a better cycle.
+// One arc, from v by a latency t that it permits. Where it asks for a greater gain of its target x, x is linked to v; but where x is met
+// going up from v, the links from x down to v and this arc are a better cycle.
 fn step(work: &mut [u32], graph: Graph, best: Cycle, v: usize, t: usize) -> Outcome
     requires { ⌜ Ready (now work) graph best ⌝ }
     requires { ⌜ Tree (now work) graph best ⌝ }
-    requires { ⌜ (v < graph .nodes) × ((1 ≤ t) × (t ≤ graph .width + 1)) ⌝ }
+    requires { ⌜ (v < graph .nodes) × Permits 1 (graph .width) (stateIn (now work) v) t ⌝ }
     ensures { λ r. ⌜ Stepped (now (work .entry)) (now (work .exit)) graph best v t (r .found) (r .moved) (r .best) ⌝ }
 {
     let nodes = graph.nodes;
     let count = best.count;
     let sum = best.sum;
     let x = target(work, graph, v, t);
-    if nodes <= x {
-        return still(best);
-    }
     let up = work[768 + v] as usize + sum;
     let cost = count * t;
     let down = work[768 + x] as usize + cost;
@@ -158,16 +159,9 @@ fn step(work: &mut [u32], graph: Graph, best: Cycle, v: usize, t: usize) -> Outc
     }
 }
 
-// The first latency after t whose column of a state is 0.
-fn next_latency(state: u32, t: usize) -> usize
-    requires { ⌜ t ≤ 64 ⌝ }
-    ensures { λ r. ⌜ r ≡ zeroFrom state t + 1 ⌝ }
-{
-    words::zero_from(state, t as u32) as usize + 1
-}
-
-// The arcs of one node by rising latency, up to the first better cycle. Columns that are 1 have no arc and are passed over in one step. Gains are at least 0: from the first latency on that costs
-// as much as the node's gain can bring, no arc asks for a greater gain, whatever its target.
+// The arcs of one node by rising latency, up to the first better cycle. Columns that are 1 have no arc and are passed over in one step.
+// Gains are at least 0: from the first latency on that costs as much as the node's gain can bring, no arc asks for a greater gain,
+// whatever its target.
 fn visit(work: &mut [u32], graph: Graph, best: Cycle, v: usize) -> Outcome
     requires { ⌜ Ready (now work) graph best ⌝ }
     requires { ⌜ Tree (now work) graph best ⌝ }
