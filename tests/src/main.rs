@@ -1,7 +1,8 @@
 //! Independent tests of the unit configurator's interface for C.
 //!
 //! A second implementation of the paper, by other means (`model.rs`), is asked the same questions as the library; the first difference
-//! ends the run. All cases have fixed seeds.
+//! ends the run. All cases have fixed seeds, and none depends on those before it: they are tried by as many workers as the machine has
+//! processors.
 //!
 //!     run                 everything
 //!     run units 20000     everything, with so many random units
@@ -27,6 +28,7 @@ use random::seed_of;
 use std::io::Write;
 use std::process::exit;
 use std::time::Instant;
+use tally::{Met, Tally};
 
 const UNITS: u64 = 200_000;
 const LISTS: u64 = 20_000;
@@ -74,6 +76,24 @@ fn try_or_exit(name: &str, stage: Stage, case: u64, bench: &mut Bench) {
     }
 }
 
+/// The cases of a stage, dealt out to the benches in turn.
+fn try_stage(name: &str, stage: Stage, cases: u64, trace: bool, benches: &mut [Bench]) {
+    let workers = benches.len();
+    std::thread::scope(|scope| {
+        for (first, bench) in benches.iter_mut().enumerate() {
+            scope.spawn(move || {
+                for case in (first as u64..cases).step_by(workers) {
+                    if trace {
+                        println!("{name} {case}");
+                        std::io::stdout().flush().ok();
+                    }
+                    try_or_exit(name, stage, case, bench);
+                }
+            });
+        }
+    });
+}
+
 fn usage() -> ! {
     println!("run [trace | units COUNT | only STAGE | table CASE | edge CASE | unit CASE | list CASE | play CASE]");
     exit(2)
@@ -106,37 +126,39 @@ fn main() {
             exit(1);
         }
     }
-    let mut bench = Bench::new();
     if let Some((name, stage, case)) = alone {
-        try_or_exit(name, stage, case, &mut bench);
+        try_or_exit(name, stage, case, &mut Bench::new());
         println!("{name} {case}: no difference");
         return;
     }
+    // with one worker the last case that a trace names is the one that did not end
+    let workers = if trace { 1 } else { std::thread::available_parallelism().map_or(1, |number| number.get()) };
+    let mut benches: Vec<Bench> = (0..workers).map(|_| Bench::new()).collect();
     for (name, stage, whole) in STAGES {
         if only.is_some_and(|only| only != name) {
             continue;
         }
         let cases = if name == "unit" { units } else { whole };
         let since = Instant::now();
-        for case in 0..cases {
-            if trace {
-                println!("{name} {case}");
-                std::io::stdout().flush().ok();
-            }
-            try_or_exit(name, stage, case, &mut bench);
-        }
+        try_stage(name, stage, cases, trace, &mut benches);
         println!("{name}: {cases} cases, no difference, {:.1} s", since.elapsed().as_secs_f64());
     }
+    let mut tally = Tally::default();
+    let mut met = Met::default();
+    for bench in benches {
+        tally.add(&bench.lender.tally);
+        met.add(&bench.met);
+    }
     println!();
-    bench.lender.tally.print();
+    tally.print();
     println!();
-    bench.met.print();
+    met.print();
     println!();
-    let mut gaps = bench.lender.tally.gaps();
-    gaps.extend(bench.met.gaps());
-    let calls = bench.lender.tally.calls();
-    let inside = bench.lender.tally.time().as_secs_f64();
-    println!("{calls} calls in {:.1} s, {inside:.1} s of them inside the library", begin.elapsed().as_secs_f64());
+    let mut gaps = tally.gaps();
+    gaps.extend(met.gaps());
+    let calls = tally.calls();
+    let inside = tally.time().as_secs_f64();
+    println!("{calls} calls in {:.1} s by {workers} workers, who were inside the library for {inside:.1} s", begin.elapsed().as_secs_f64());
     if !gaps.is_empty() && only.is_none() {
         println!("NEVER MET: {}", gaps.join("; "));
         exit(1);

@@ -163,6 +163,18 @@ impl Tally {
         *self.answers.entry((call, number)).or_default() += 1;
     }
 
+    /// What another worker counted.
+    pub fn add(&mut self, other: &Tally) {
+        for (answer, count) in &other.answers {
+            *self.answers.entry(*answer).or_default() += count;
+        }
+        for (call, (took, most)) in &other.time {
+            let (whole, longest) = self.time.entry(*call).or_default();
+            *whole += *took;
+            *longest = (*longest).max(*most);
+        }
+    }
+
     /// Time inside the calls.
     pub fn time(&self) -> Duration {
         self.time.values().map(|(whole, _)| *whole).sum()
@@ -218,6 +230,13 @@ impl Met {
     pub fn meet_if(&mut self, holds: bool, what: &'static str) {
         if holds {
             self.meet(what);
+        }
+    }
+
+    /// What another worker met.
+    pub fn add(&mut self, other: &Met) {
+        for (what, count) in &other.counts {
+            *self.counts.entry(what).or_default() += count;
         }
     }
 

@@ -65,9 +65,9 @@ module _ (u : FunctionUnit) (event : Event) (words : List ℕ) where
   unfolding stepWords
   step-ends a e = (ap codeOf (sym e), ap (λ x. handed x (bankOver (moved u (bankIn words) event) words) words) (sym e))
 
-  pub step-short : (r : ℕ) → length words < 4 → r ≡ numberOf ShortOutput → StepEnds u event words words r
+  pub step-short : length words < 4 → StepEnds u event words words (numberOf ShortOutput)
   unfolding stepRefusal
-  step-short r h n = let l = step-ends (Refused ShortOutput) (rw (lt-leb 4 (length words) h)) in (n ∙ l .0, l .1)
+  step-short h = step-ends (Refused ShortOutput) (rw (lt-leb 4 (length words) h))
 
   pub step-made : (loaded : Bank) (stepped : Stepped) (after : List ℕ) (r : ℕ) → 4 ≤ length words → loaded ≡ bankIn words → stepped ≡ stepOf u loaded event
       → after ≡ bankOver (stepped .bank) words → r ≡ codeOf (stepped .answer) → StepEnds u event words after r

@@ -7,22 +7,23 @@ use lib.ListN.{length}
 use Rattle.unit.specs.declared.FunctionUnit.{FunctionUnit}
 use Rattle.unit.specs.declared.Outcome.{Outcome}
 use Rattle.unit.specs.declared.Refusal.{Refusal}
+use Rattle.unit.specs.declared.Refusal.the-variants.{NotSound}
 use Rattle.unit.specs.declared.Answer.{Answer}
 use Rattle.unit.specs.declared.Answer.the-variants.{Done, Refused}
 use Rattle.unit.specs.Numbers.{numberOf}
-use Rattle.unit_file.specs.Read.{readAnswer, readOf}
+use Rattle.unit.specs.Unit.{soundOf}
+use Rattle.unit.specs.Calls.{andThen, tagAnswer, outcome, blank, unitOf}
+use Rattle.unit_file.specs.Read.{functionsIn, segmentsIn, columnsIn, fileTable, readAnswer, readOf}
 use Rattle.collision.specs.Pipeline.{total}
-use Rattle.collision.specs.Answers.{answering}
 use Rattle.collision.specs.declared.Number.{Number}
-use Rattle.collision.specs.declared.Number.the-variants as Number
-use Rattle.diagram.specs.Answers.{statesOf, statesAnswer, statesOut, written}
+use Rattle.diagram.specs.Answers.{statesOf, statesRefusal, statesAnswer, statesOut, written}
 use Rattle.cycles.specs.declared.GreedyAnswer.{GreedyAnswer}
 use Rattle.cycles.specs.declared.GreedyAnswer.the-variants as GreedyAnswer
 use Rattle.cycles.specs.declared.Counted.{Counted}
 use Rattle.cycles.specs.Greedy.{greedyOf, greedyRefusal, counting, greedyAnswer, greedyOut, WorkAfter}
 use Rattle.c_interface.specs.Codes.{codeOf, narrow, handed, unitIn, tableIn}
 use Rattle.c_interface.specs.Calls.{listRefusal, cycleRefusal}
-use Rattle.c_interface.proofs.ThenLaws.{then-refused, then-done, read-gives}
+use Rattle.c_interface.proofs.ThenLaws.{then-refused, then-done, read-gives, NumberEnds, number-handed}
 
 -- the file was accepted, and its unit is asked about the tag, narrowed to a byte
 pub record Asked (file : List ℕ) (q : ℕ) (u : FunctionUnit) (t : ℕ) : Type 0 where
@@ -33,6 +34,17 @@ pub record Asked (file : List ℕ) (q : ℕ) (u : FunctionUnit) (t : ℕ) : Type
 pub asked : (file : List ℕ) (q : ℕ) (back : Outcome) (t : ℕ) → back ≡ readOf file → back .answer ≡ Done → t ≡ narrow q → Asked file q (back .unit) t
 asked file q back t r e n = record { accepted = read-gives file back r e; unit = ap (λ (o : Outcome). o .unit) r; tag = n }
 
+-- A refused file's unit has no function, so that a call on it changes nothing
+
+pub unit-unread : (file : List ℕ) (q : ℕ) (why : Refusal) → readAnswer file ≡ Refused why → tagAnswer (unitIn file) q ≡ Refused NotSound
+unfolding readOf tagAnswer soundOf
+unit-unread file q why e =
+    ap (λ a. tagAnswer (outcome a (blank 0 0 0) (unitOf (functionsIn file) (segmentsIn file) (columnsIn file) (fileTable file)) .unit) q) e
+
+written-then : (a b : Answer) (l words : List ℕ) → ((why : Refusal) → a ≡ Refused why → b ≡ Refused NotSound) → written b l words ≡ written (andThen a b) l words
+written-then Done b l words f = refl
+written-then (Refused why) b l words f = ap (λ x. written x l words) (f why refl)
+
 -- States
 
 abbrev pub ListEnds : List ℕ → ℕ → List ℕ → List ℕ → ℕ → ℕ → ℕ → Type 0
@@ -41,57 +53,27 @@ ListEnds file q out outAfter count countAfter r =
     × ((outAfter ≡ written (listRefusal file q (length out)) (statesOf 1 (tableIn file) (narrow q)) out)
     × (countAfter ≡ handed (listRefusal file q (length out)) (length (statesOf 1 (tableIn file) (narrow q))) count))
 
-module _ (file : List ℕ) (q : ℕ) (out : List ℕ) (count : ℕ) where
-  list-ends : (a : Answer) → listRefusal file q (length out) ≡ a
-      → ListEnds file q out (written a (statesOf 1 (tableIn file) (narrow q)) out) count (handed a (length (statesOf 1 (tableIn file) (narrow q))) count) (codeOf a)
-  list-ends a e = (
-    ap codeOf (sym e),
-    (
-      ap (λ x. written x (statesOf 1 (tableIn file) (narrow q)) out) (sym e),
-      ap (λ x. handed x (length (statesOf 1 (tableIn file) (narrow q))) count) (sym e),
-    ),
-  )
+-- a refused file's unit is refused
+list-unread : (file : List ℕ) (q room : ℕ) (why : Refusal) → readAnswer file ≡ Refused why → statesRefusal (unitIn file) q room ≡ Refused NotSound
+unfolding statesRefusal
+list-unread file q room why e = rw (unit-unread file q why e)
 
-  pub list-unread : (back : Outcome) (r : ℕ) {why : Refusal} → back ≡ readOf file → back .answer ≡ Refused why → r ≡ codeOf (back .answer)
-      → ListEnds file q out out count count r
-  unfolding listRefusal
-  list-unread back r {why} b e n =
-      let l = list-ends (Refused why) (then-refused file _ (read-gives file back b e)) in
-      (n ∙ ap codeOf e ∙ l .0, l .1)
-
-  module _ (u : FunctionUnit) (t : ℕ) (k : Asked file q u t) (listed : Number) (after : List ℕ)
-      (h : (listed ≡ statesAnswer u t (length out)) × (after ≡ statesOut u t out)) where
-    -- what was listed follows the refusal
-    list-rule : (a : Answer) → listRefusal file q (length out) ≡ a
-        → (listed ≡ answering a (length (statesOf 1 (tableIn file) (narrow q)))) × (after ≡ written a (statesOf 1 (tableIn file) (narrow q)) out)
-    unfolding listRefusal statesAnswer statesOut
-    list-rule a e =
-        let d = sym (then-done file _ (k .accepted)) ∙ e in (
-          h .0 ∙ ap₂ (λ v s. statesAnswer v s (length out)) (k .unit) (k .tag) ∙ ap (λ x. answering x (length (statesOf 1 (tableIn file) (narrow q)))) d,
-          h .1 ∙ ap₂ (λ v s. statesOut v s out) (k .unit) (k .tag) ∙ ap (λ x. written x (statesOf 1 (tableIn file) (narrow q)) out) d,
-        )
-
-    pub list-value : (n : ℕ) → listed ≡ Number.Value n → ListEnds file q out after count n 0
-    list-value n v = go (listRefusal file q (length out)) refl
-      where
-        go : (a : Answer) → listRefusal file q (length out) ≡ a → ListEnds file q out after count n 0
-        go Done e =
-            let g = list-rule Done e in
-            let l = list-ends Done e in
-            let same : n ≡ length (statesOf 1 (tableIn file) (narrow q)) = cc in
-            (l .0, (g .1 ∙ l .1 .0, same ∙ l .1 .1))
-        go (Refused why) e = let g = list-rule (Refused why) e in let z : _≡_ {A = ℕ} 0 1 = cc in absurd (omega arith)
-
-    pub list-refused : (why : Refusal) (r : ℕ) → listed ≡ Number.Refused why → r ≡ numberOf why → ListEnds file q out after count count r
-    list-refused why r v n = go (listRefusal file q (length out)) refl
-      where
-        go : (a : Answer) → listRefusal file q (length out) ≡ a → ListEnds file q out after count count r
-        go Done e = let g = list-rule Done e in let z : _≡_ {A = ℕ} 0 1 = cc in absurd (omega arith)
-        go (Refused other) e =
-            let g = list-rule (Refused other) e in
-            let l = list-ends (Refused other) e in
-            let same : why ≡ other = cc in
-            (n ∙ ap numberOf same ∙ l .0, (g .1 ∙ l .1 .0, l .1 .1))
+pub list-handed : (file : List ℕ) (q : ℕ) (out : List ℕ) (count : ℕ) (back : Outcome) (t : ℕ) (listed : Number) (after : List ℕ) (countAfter r : ℕ) → back ≡ readOf file
+    → t ≡ narrow q → (listed ≡ statesAnswer (back .unit) t (length out)) × (after ≡ statesOut (back .unit) t out)
+    → NumberEnds (back .answer) listed count r countAfter → ListEnds file q out after count countAfter r
+unfolding listRefusal statesAnswer statesOut
+list-handed file q out count back t listed after countAfter r read tag h ends =
+    let n =
+    number-handed file back read (λ u. statesRefusal u (narrow q) (length out)) (λ T. length (statesOf 1 T (narrow q))) count
+    (h .0 ∙ ap (λ s. statesAnswer (back .unit) s (length out)) tag) ends in (
+      n .0,
+      (
+        h .1 ∙ ap₂ (λ (o : Outcome) s. statesOut (o .unit) s out) read tag
+            ∙ written-then (readAnswer file) (statesRefusal (unitIn file) (narrow q) (length out)) (statesOf 1 (tableIn file) (narrow q)) out
+            (list-unread file (narrow q) (length out)),
+        n .1,
+      ),
+    )
 
 -- The greedy cycle
 

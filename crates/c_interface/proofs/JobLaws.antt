@@ -4,7 +4,7 @@ use mathlib.Core.List.{List}
 use Prim.Native.Nat.{ℕ}
 use Rattle.unit.specs.declared.Refusal.{Refusal}
 use Rattle.unit.specs.Numbers.{numberOf}
-use Rattle.planner.specs.Play.{Played}
+use Rattle.player.specs.Play.{Played}
 use Rattle.listing.specs.declared.Listed.{Listed}
 use Rattle.listing.specs.declared.Listed.the-variants as Listed
 use Rattle.listing.specs.Listing.{FileListed}

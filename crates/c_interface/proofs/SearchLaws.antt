@@ -1,6 +1,6 @@
 -- The best cycle of a lent file: what is tried before the search, and what each way that the call ends hands out. Assumes nothing.
 use Prim.Native.Nat.{ℕ, _+_, _-_, _≤_, _<_}
-use mathlib.Core.Path.{_≡_, refl, sym, ap, _∙_, subst}
+use mathlib.Core.Path.{_≡_, refl, sym, ap, ap₂, _∙_, subst}
 use mathlib.Core.Bool.{Bool, true, false}
 use mathlib.Core.List.{List, []}
 use native.Mathlib.Omega.{arith}
@@ -10,6 +10,7 @@ use lib.ListN.{length, take, replicate, length-append}
 use lib.Seq.{take-append-seam}
 use Rattle.unit.specs.declared.Plan.{Plan}
 use Rattle.unit.specs.declared.FunctionUnit.{FunctionUnit}
+use Rattle.unit.specs.declared.Outcome.{Outcome}
 use Rattle.unit.specs.declared.Refusal.{Refusal}
 use Rattle.unit.specs.declared.Refusal.the-variants.{ShortWork, ShortOutput}
 use Rattle.unit.specs.declared.Answer.{Answer}
@@ -21,67 +22,75 @@ use Rattle.collision.specs.Pipeline.{total}
 use Rattle.diagram.specs.Answers.{fewStates, written}
 use Rattle.cycles.specs.Greedy.{greedyRefusal, WorkAfter}
 use Rattle.planner.specs.Plans.{Best, planOf, searchAnswer, Found, SearchPromise}
+use Rattle.unit_file.specs.Read.{readOf}
 use Rattle.text.specs.Text.{putIn}
 use Rattle.text.proofs.PutLaws.{put-fits, placed-front}
 use Rattle.c_interface.specs.Codes.{codeOf, narrow, handed}
 use Rattle.c_interface.specs.Calls.{cycleRefusal, SearchHanded}
-use Rattle.c_interface.specs.Inner.{searchCheck}
-use Rattle.c_interface.proofs.CycleLaws.{Asked, cycle-asked}
+use Rattle.c_interface.specs.Inner.{searchCheck, planFront}
+use Rattle.c_interface.proofs.ThenLaws.{then-first, then-second, read-gives}
+use Rattle.c_interface.proofs.CycleLaws.{work-same}
 
 -- What is tried before the search
 
-module _ (u : FunctionUnit) (q work out : ℕ) where
-  -- the ways that the check ends
-
-  pub checked-tag : {why : Refusal} (a : Answer) → a ≡ tagAnswer u q → a ≡ Refused why → a ≡ searchCheck u q work out
+-- the ways that the check ends
+module _ (read tagged : Answer) (work out : ℕ) where
+  pub checked-read : {why : Refusal} → read ≡ Refused why → read ≡ searchCheck read tagged work out
   unfolding searchCheck
-  checked-tag a t e = e ∙ ap (λ x. andThen x (check (leb 16000 work) ShortWork (check (leb 256 out) ShortOutput Done))) (sym e ∙ t)
+  checked-read e = e ∙ sym (then-first read _ e)
 
-  pub checked-work : tagAnswer u q ≡ Done → work < 16000 → Refused ShortWork ≡ searchCheck u q work out
+  pub checked-tag : {why : Refusal} → read ≡ Done → tagged ≡ Refused why → tagged ≡ searchCheck read tagged work out
   unfolding searchCheck
-  checked-work t h = sym (simp (t, lt-leb 16000 work h))
+  checked-tag r e = e ∙ sym (then-second read _ r ∙ then-first tagged _ e)
 
-  pub checked-out : tagAnswer u q ≡ Done → 16000 ≤ work → out < 256 → Refused ShortOutput ≡ searchCheck u q work out
+  pub checked-work : read ≡ Done → tagged ≡ Done → work < 16000 → Refused ShortWork ≡ searchCheck read tagged work out
   unfolding searchCheck
-  checked-out t h k = sym (simp (t, le-leb 16000 work h, lt-leb 256 out k))
+  checked-work r t h = sym (simp (r, t, lt-leb 16000 work h))
 
-  pub checked-done : tagAnswer u q ≡ Done → 16000 ≤ work → 256 ≤ out → Done ≡ searchCheck u q work out
+  pub checked-out : read ≡ Done → tagged ≡ Done → 16000 ≤ work → out < 256 → Refused ShortOutput ≡ searchCheck read tagged work out
   unfolding searchCheck
-  checked-done t h k = sym (simp (t, le-leb 16000 work h, le-leb 256 out k))
+  checked-out r t h k = sym (simp (r, t, le-leb 16000 work h, lt-leb 256 out k))
 
-  -- what its answer says of the call: the search's own tests are those that are left
+  pub checked-done : read ≡ Done → tagged ≡ Done → 16000 ≤ work → 256 ≤ out → Done ≡ searchCheck read tagged work out
+  unfolding searchCheck
+  checked-done r t h k = sym (simp (r, t, le-leb 16000 work h, le-leb 256 out k))
 
-  pub check-refuses : {why : Refusal} → searchCheck u q work out ≡ Refused why → greedyRefusal u q work out ≡ Refused why
+-- what its answer says of the call: the search's own tests are those that are left
+module _ (read : Answer) (u : FunctionUnit) (q work out : ℕ) where
+  check-refuses : {why : Refusal} → searchCheck read (tagAnswer u q) work out ≡ Refused why → andThen read (greedyRefusal u q work out) ≡ Refused why
   unfolding searchCheck greedyRefusal
-  check-refuses {why} e = go (tagAnswer u q) (leb 16000 work) (leb 256 out) e
+  check-refuses {why} e = go read (tagAnswer u q) (leb 16000 work) (leb 256 out) e
     where
-      go : (a : Answer) (b d : Bool) → andThen a (check b ShortWork (check d ShortOutput Done)) ≡ Refused why
-          → andThen a (check b ShortWork (check d ShortOutput (fewStates 1 (marked u) q))) ≡ Refused why
-      go (Refused other) b d h = h
-      go Done false d h = h
-      go Done true false h = h
-      go Done true true h = never-done (sym h)
+      go : (r a : Answer) (b d : Bool) → andThen r (andThen a (check b ShortWork (check d ShortOutput Done))) ≡ Refused why
+          → andThen r (andThen a (check b ShortWork (check d ShortOutput (fewStates 1 (marked u) q)))) ≡ Refused why
+      go (Refused other) a b d h = h
+      go Done (Refused other) b d h = h
+      go Done Done false d h = h
+      go Done Done true false h = h
+      go Done Done true true h = never-done (sym h)
 
-  pub check-passes : searchCheck u q work out ≡ Done → greedyRefusal u q work out ≡ searchAnswer u q work
+  check-passes : searchCheck read (tagAnswer u q) work out ≡ Done → andThen read (greedyRefusal u q work out) ≡ searchAnswer u q work
   unfolding searchCheck greedyRefusal searchAnswer
-  check-passes e = go (tagAnswer u q) (leb 16000 work) (leb 256 out) e
+  check-passes e = go read (tagAnswer u q) (leb 16000 work) (leb 256 out) e
     where
-      go : (a : Answer) (b d : Bool) → andThen a (check b ShortWork (check d ShortOutput Done)) ≡ Done
-          → andThen a (check b ShortWork (check d ShortOutput (fewStates 1 (marked u) q))) ≡ andThen a (check b ShortWork (fewStates 1 (marked u) q))
-      go (Refused other) b d h = never-done h
-      go Done false d h = never-done h
-      go Done true false h = never-done h
-      go Done true true h = refl
+      go : (r a : Answer) (b d : Bool) → andThen r (andThen a (check b ShortWork (check d ShortOutput Done))) ≡ Done
+          → andThen r (andThen a (check b ShortWork (check d ShortOutput (fewStates 1 (marked u) q)))) ≡ andThen a (check b ShortWork (fewStates 1 (marked u) q))
+      go (Refused other) a b d h = never-done h
+      go Done (Refused other) b d h = never-done h
+      go Done Done false d h = never-done h
+      go Done Done true false h = never-done h
+      go Done Done true true h = refl
 
-  pub check-room : (a : Answer) → a ≡ searchCheck u q work out → a ≡ Done → 256 ≤ out
+  check-room : searchCheck read (tagAnswer u q) work out ≡ Done → 256 ≤ out
   unfolding searchCheck
-  check-room x c e = leb-true 256 out (go (tagAnswer u q) (leb 16000 work) (leb 256 out) (sym c ∙ e))
+  check-room e = leb-true 256 out (go read (tagAnswer u q) (leb 16000 work) (leb 256 out) e)
     where
-      go : (a : Answer) (b d : Bool) → andThen a (check b ShortWork (check d ShortOutput Done)) ≡ Done → d ≡ true
-      go (Refused other) b d h = never-done h
-      go Done false d h = never-done h
-      go Done true false h = never-done h
-      go Done true true h = refl
+      go : (r a : Answer) (b d : Bool) → andThen r (andThen a (check b ShortWork (check d ShortOutput Done))) ≡ Done → d ≡ true
+      go (Refused other) a b d h = never-done h
+      go Done (Refused other) b d h = never-done h
+      go Done Done false d h = never-done h
+      go Done Done true false h = never-done h
+      go Done Done true true h = refl
 
 -- The plan that was found
 
@@ -102,26 +111,52 @@ planned-of q cycle = record {
 pub planned : (u : FunctionUnit) (q : ℕ) (after : FunctionUnit) (f : Found u q after) → Planned (after .plan) (f .cycle)
 planned u q after f = subst (λ (v : FunctionUnit). Planned (v .plan) (f .cycle)) (sym (f .unit)) (planned-of q (f .cycle))
 
--- The call's answer
+-- a plan that was found has its latencies
+pub found-inside : (u : FunctionUnit) (q : ℕ) (work workAfter : List ℕ) (o : Outcome) → SearchPromise u q work workAfter (o .answer) (o .unit) → o .answer ≡ Done
+    → o .unit .plan .count ≤ length (o .unit .plan .latencies)
+found-inside u q work workAfter o p d = planned u q (o .unit) (p .found d) .inside
 
-module _ (file : List ℕ) (q : ℕ) (work out : List ℕ) (u : FunctionUnit) (t : ℕ) (k : Asked file q u t) (checked : Answer)
-    (c : checked ≡ searchCheck u t (length work) (length out)) where
-  -- a refusal of the check
-  pub check-says : {why : Refusal} → checked ≡ Refused why → cycleRefusal file q (length work) (length out) ≡ checked
-  check-says e = cycle-asked file q work out u t k ∙ check-refuses u t (length work) (length out) (sym c ∙ e) ∙ sym e
+-- How a plan is handed out
 
-  -- where the check passes, the search's answer
-  pub search-says : (workAfter : List ℕ) (a : Answer) (after : FunctionUnit) → checked ≡ Done → SearchPromise u t work workAfter a after
-      → cycleRefusal file q (length work) (length out) ≡ a
-  search-says workAfter a after d p = cycle-asked file q work out u t k ∙ check-passes u t (length work) (length out) (sym c ∙ d) ∙ sym (p .says)
+abbrev pub PlanEnds : Outcome → List ℕ → List ℕ → ℕ → ℕ → ℕ → ℕ → ℕ → Type 0
+PlanEnds o out outAfter count countAfter sum sumAfter r =
+    (r ≡ codeOf (o .answer))
+    × ((outAfter ≡ handed (o .answer) (planFront (o .unit .plan) out) out)
+    × ((countAfter ≡ handed (o .answer) (o .unit .plan .count) count) × (sumAfter ≡ handed (o .answer) (o .unit .plan .sum) sum)))
+
+module _ (o : Outcome) (out : List ℕ) (count sum : ℕ) where
+  plan-ends : (a : Answer) → o .answer ≡ a
+      → PlanEnds o out (handed a (planFront (o .unit .plan) out) out) count (handed a (o .unit .plan .count) count) sum (handed a (o .unit .plan .sum) sum) (codeOf a)
+  plan-ends a e = (
+    ap codeOf (sym e),
+    (
+      ap (λ x. handed x (planFront (o .unit .plan) out) out) (sym e),
+      (ap (λ x. handed x (o .unit .plan .count) count) (sym e), ap (λ x. handed x (o .unit .plan .sum) sum) (sym e)),
+    ),
+  )
+
+  pub plan-refused : {why : Refusal} {r : ℕ} → o .answer ≡ Refused why → r ≡ codeOf (o .answer) → PlanEnds o out out count count sum sum r
+  plan-refused {why} e n = (n, plan-ends (Refused why) e .1)
+
+  pub plan-handed : {outAfter : List ℕ} → o .answer ≡ Done → outAfter ≡ planFront (o .unit .plan) out
+      → PlanEnds o out outAfter count (o .unit .plan .count) sum (o .unit .plan .sum) 0
+  plan-handed e put = let l = plan-ends Done e in (l .0, (put ∙ l .1 .0, l .1 .1))
 
 -- The ways that the call ends
 
-module _ (file : List ℕ) (q : ℕ) (work workAfter out : List ℕ) (count sum : ℕ) (a : Answer) (says : cycleRefusal file q (length work) (length out) ≡ a)
-    (words : WorkAfter a work workAfter) where
+module _ (file : List ℕ) (q : ℕ) (work out : List ℕ) (count sum : ℕ) (back : Outcome) (t : ℕ) (checked : Answer) (read : back ≡ readOf file)
+    (tag : t ≡ narrow q) (c : checked ≡ searchCheck (back .answer) (tagAnswer (back .unit) t) (length work) (length out)) where
+  -- the unit that was read decides
+  cycle-read : cycleRefusal file q (length work) (length out) ≡ andThen (back .answer) (greedyRefusal (back .unit) t (length work) (length out))
+  unfolding cycleRefusal
+  cycle-read =
+      ap₂ andThen (read-gives file back read refl)
+      (ap₂ (λ (o : Outcome) s. greedyRefusal (o .unit) s (length work) (length out)) (sym read) (sym tag))
+
   -- nothing is handed out
-  pub search-refused : {why : Refusal} (r : ℕ) → a ≡ Refused why → r ≡ codeOf a → SearchHanded file q work workAfter out out count count sum sum r
-  search-refused {why} r e n =
+  nothing : (workAfter : List ℕ) (a : Answer) {why : Refusal} (r : ℕ) → cycleRefusal file q (length work) (length out) ≡ a → a ≡ Refused why
+      → WorkAfter a work workAfter → r ≡ codeOf a → SearchHanded file q work workAfter out out count count sum sum r
+  nothing workAfter a {why} r says e words n =
       let refused : cycleRefusal file q (length work) (length out) ≡ Refused why = says ∙ e in
       record {
         cycle = [];
@@ -133,21 +168,48 @@ module _ (file : List ℕ) (q : ℕ) (work workAfter out : List ℕ) (count sum 
         words = subst (λ x. WorkAfter x work workAfter) (sym says) words;
       }
 
-  -- the cycle of the plan is put to the front of the bytes
-  pub search-found : (u : FunctionUnit) (t : ℕ) (after : FunctionUnit) (outAfter : List ℕ) → Asked file q u t → a ≡ Done → Found u t after → 256 ≤ length out
-      → outAfter ≡ putIn out 0 (take (after .plan .count) (after .plan .latencies))
-      → SearchHanded file q work workAfter out outAfter count (after .plan .count) sum (after .plan .sum) 0
-  search-found u t after outAfter k d f room put =
-      let l = planned u t after f in
-      let done : cycleRefusal file q (length work) (length out) ≡ Done = says ∙ d in
-      let fits : 0 + length (f .cycle) ≤ length out = omega (arith, f .few) in
-      record {
-        cycle = f .cycle;
-        best = λ e. subst (λ (v : FunctionUnit). Best 1 (marked v) (narrow q) (f .cycle)) (k .unit)
-            (subst (λ (s : ℕ). Best 1 (marked u) s (f .cycle)) (k .tag) (f .best));
-        says = ap codeOf (sym done);
-        bytes = put ∙ ap (putIn out 0) (l .latencies) ∙ put-fits out 0 (f .cycle) fits ∙ placed-front out (f .cycle) ∙ ap (λ x. written x (f .cycle) out) (sym done);
-        counted = l .count ∙ ap (λ x. handed x (length (f .cycle)) count) (sym done);
-        summed = l .sum ∙ ap (λ x. handed x (total (f .cycle)) sum) (sym done);
-        words = subst (λ x. WorkAfter x work workAfter) (sym says) words;
-      }
+  -- the check refuses
+  pub search-checked : {why : Refusal} (r : ℕ) → checked ≡ Refused why → r ≡ codeOf checked → SearchHanded file q work work out out count count sum sum r
+  search-checked r e n =
+      nothing work checked r
+      (cycle-read ∙ check-refuses (back .answer) (back .unit) t (length work) (length out) (sym c ∙ e) ∙ sym e) e (work-same checked work) n
+
+  module _ (workAfter : List ℕ) (o : Outcome) (d : checked ≡ Done) (p : SearchPromise (back .unit) t work workAfter (o .answer) (o .unit)) where
+    -- where the check passes, the search's answer
+    search-says : cycleRefusal file q (length work) (length out) ≡ o .answer
+    search-says = cycle-read ∙ check-passes (back .answer) (back .unit) t (length work) (length out) (sym c ∙ d) ∙ sym (p .says)
+
+    -- the cycle of the plan is put to the front of the bytes
+    search-found : o .answer ≡ Done → SearchHanded file q work workAfter out (planFront (o .unit .plan) out) count (o .unit .plan .count) sum (o .unit .plan .sum) 0
+    search-found e =
+        let f = p .found e in
+        let l = planned (back .unit) t (o .unit) f in
+        let done : cycleRefusal file q (length work) (length out) ≡ Done = search-says ∙ e in
+        let room = check-room (back .answer) (back .unit) t (length work) (length out) (sym c ∙ d) in
+        let fits : 0 + length (f .cycle) ≤ length out = omega (arith, f .few) in
+        record {
+          cycle = f .cycle;
+          best = λ x. subst (λ (b : Outcome). Best 1 (marked (b .unit)) (narrow q) (f .cycle)) read
+              (subst (λ (s : ℕ). Best 1 (marked (back .unit)) s (f .cycle)) tag (f .best));
+          says = ap codeOf (sym done);
+          bytes = ap (putIn out 0) (l .latencies) ∙ put-fits out 0 (f .cycle) fits ∙ placed-front out (f .cycle) ∙ ap (λ x. written x (f .cycle) out) (sym done);
+          counted = l .count ∙ ap (λ x. handed x (length (f .cycle)) count) (sym done);
+          summed = l .sum ∙ ap (λ x. handed x (total (f .cycle)) sum) (sym done);
+          words = subst (λ x. WorkAfter x work workAfter) (sym search-says) (p .work);
+        }
+
+    pub search-ends : (outAfter : List ℕ) (countAfter sumAfter r : ℕ) → PlanEnds o out outAfter count countAfter sum sumAfter r
+        → SearchHanded file q work workAfter out outAfter count countAfter sum sumAfter r
+    search-ends outAfter countAfter sumAfter r h =
+        let bytes = handed (o .answer) (planFront (o .unit .plan) out) out in
+        let counted = handed (o .answer) (o .unit .plan .count) count in
+        subst (λ (x : ℕ). SearchHanded file q work workAfter out outAfter count countAfter sum sumAfter x) (sym (h .0))
+        (subst (λ (l : List ℕ). SearchHanded file q work workAfter out l count countAfter sum sumAfter (codeOf (o .answer))) (sym (h .1 .0))
+        (subst (λ (x : ℕ). SearchHanded file q work workAfter out bytes count x sum sumAfter (codeOf (o .answer))) (sym (h .1 .1 .0))
+        (subst (λ (x : ℕ). SearchHanded file q work workAfter out bytes count counted sum x (codeOf (o .answer))) (sym (h .1 .1 .1)) (go (o .answer) refl))))
+      where
+        go : (a : Answer) → o .answer ≡ a
+            → SearchHanded file q work workAfter out (handed a (planFront (o .unit .plan) out) out) count (handed a (o .unit .plan .count) count)
+            sum (handed a (o .unit .plan .sum) sum) (codeOf a)
+        go Done e = search-found e
+        go (Refused why) e = nothing workAfter (Refused why) _ (search-says ∙ e) refl (subst (λ x. WorkAfter x work workAfter) e (p .work)) refl

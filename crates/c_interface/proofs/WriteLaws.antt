@@ -18,7 +18,7 @@ use Rattle.unit.specs.declared.Answer.{Answer}
 use Rattle.unit.specs.declared.Answer.the-variants.{Done, Refused}
 use Rattle.unit.specs.Numbers.{numberOf}
 use Rattle.unit.specs.Unit.{marked, goodCounts, soundOf}
-use Rattle.unit.specs.Calls.{check, spotAnswer, blank, unitOf, freshOf, markOf, unmarkOf}
+use Rattle.unit.specs.Calls.{check, andThen, spotAnswer, blank, unitOf, freshOf, markOf, unmarkOf}
 use Rattle.unit.proofs.Laws.{sound-has}
 use Rattle.unit.proofs.SoundLaws.{Words}
 use Rattle.unit.proofs.EditLaws.{Edited, mark-answer, unmark-answer, mark-accepted, unmark-accepted, blank-table, fresh-sound}
@@ -31,7 +31,7 @@ use Rattle.unit_file.proofs.FileLaws.{file-length}
 use Rattle.unit_file.proofs.AcceptedLaws.{accepted}
 use Rattle.c_interface.specs.Codes.{codeOf, narrow, handed, unitIn}
 use Rattle.c_interface.specs.Calls.{freshRefusal, freshFile, editRefusal}
-use Rattle.c_interface.proofs.ThenLaws.{Ends, ends-same, then-done, read-gives}
+use Rattle.c_interface.proofs.ThenLaws.{Ends, ends-same, then-both, read-gives}
 
 -- Edits
 
@@ -61,7 +61,7 @@ editedIn edit file q s c = edit (unitIn file) (narrow q) (narrow s) (narrow c)
 
 -- the file was read, the numbers narrowed, and its unit edited
 module _ {edit : FunctionUnit → ℕ → ℕ → ℕ → Outcome} {b : Bool} (d : Edit edit b) (file : List ℕ) (q s c : ℕ) {back made : Outcome} {x y z : ℕ}
-    (read : back ≡ readOf file) (whole : back .answer ≡ Done) (tag : x ≡ narrow q) (segment : y ≡ narrow s) (column : z ≡ narrow c)
+    (read : back ≡ readOf file) (tag : x ≡ narrow q) (segment : y ≡ narrow s) (column : z ≡ narrow c)
     (edited : made ≡ edit (back .unit) x y z) where
   made-new : made ≡ editedIn edit file q s c
   made-new = edited ∙ rw (read, tag, segment, column)
@@ -69,14 +69,14 @@ module _ {edit : FunctionUnit → ℕ → ℕ → ℕ → Outcome} {b : Bool} (d
   spot : spotAnswer (unitIn file) (narrow q) (narrow s) (narrow c) ≡ made .answer
   spot = sym (d .answer (unitIn file) (narrow q) (narrow s) (narrow c)) ∙ ap (λ o. o .answer) (sym made-new)
 
-  refusal : editRefusal file q s c ≡ made .answer
+  refusal : editRefusal file q s c ≡ andThen (back .answer) (made .answer)
   unfolding editRefusal
-  refusal = then-done file _ (read-gives file back read whole) ∙ spot
+  refusal = ap₂ andThen (read-gives file back read refl) spot
 
   -- the file's length goes by the counts, which the edit leaves
-  edit-whole : made .answer ≡ Done → writeOut (editedIn edit file q s c .unit) file ≡ unitFile (editedIn edit file q s c .unit)
+  edit-whole : back .answer ≡ Done → made .answer ≡ Done → writeOut (editedIn edit file q s c .unit) file ≡ unitFile (editedIn edit file q s c .unit)
   unfolding unitOf
-  edit-whole e =
+  edit-whole whole e =
       let a = accepted file (read-gives file back read whole) in
       let words = subst Words (ap (λ o. o .unit) (sym (a .unit))) (a .words) in
       let m = d .accepted (unitIn file) (narrow q) (narrow s) (narrow c) words (spot ∙ e) in
@@ -86,11 +86,11 @@ module _ {edit : FunctionUnit → ℕ → ℕ → ℕ → Outcome} {b : Bool} (d
       (ap (λ o. o .unit .functions) (sym (a .unit)) ∙ sym (m .functions))
       (ap (λ o. o .unit .segments) (sym (a .unit)) ∙ sym (m .segments)))
 
-  pub edit-ends : {code : ℕ} {out : List ℕ} → Ends (made .answer) (writeOut (made .unit) file) file code out
+  pub edit-ends : {code : ℕ} {out : List ℕ} → Ends (andThen (back .answer) (made .answer)) (writeOut (made .unit) file) file code out
       → Ends (editRefusal file q s c) (unitFile (editedIn edit file q s c .unit)) file code out
   edit-ends ends =
       ends-same (writeOut (made .unit) file) (unitFile (editedIn edit file q s c .unit)) file refusal
-      (λ e. ap (λ o. writeOut (o .unit) file) made-new ∙ edit-whole e) ends
+      (λ e. let b = then-both (back .answer) (made .answer) e in ap (λ o. writeOut (o .unit) file) made-new ∙ edit-whole (b .0) (b .1)) ends
 
 -- A fresh unit
 

@@ -13,7 +13,7 @@ use Rattle.unit.specs.Unit.{goodCounts}
 use Rattle.unit.specs.Calls.{check, andThen, tagAnswer, spotAnswer, markOf, unmarkOf}
 use Rattle.collision.specs.Pipeline.{total}
 use Rattle.collision.specs.Answers.{tagsAnswer}
-use Rattle.collision.specs.Judge.{cycleAnswer}
+use Rattle.judge.specs.Judge.{cycleAnswer}
 use Rattle.controller.specs.declared.Bank.{Bank}
 use Rattle.controller.specs.Bank.{granted}
 use Rattle.diagram.specs.Answers.{statesRefusal, written}

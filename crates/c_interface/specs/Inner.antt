@@ -2,21 +2,28 @@
 use Prim.Native.Nat.{ℕ}
 use mathlib.Core.List.{List}
 use lib.Dec.{leb}
-use lib.ListN.{length}
+use lib.ListN.{length, take}
+use Rattle.unit.specs.declared.Plan.{Plan}
 use Rattle.unit.specs.declared.FunctionUnit.{FunctionUnit}
 use Rattle.unit.specs.declared.Refusal.the-variants.{ShortWork, ShortOutput}
 use Rattle.unit.specs.declared.Answer.{Answer}
-use Rattle.unit.specs.declared.Answer.the-variants.{Done}
-use Rattle.unit.specs.Calls.{check, andThen, tagAnswer}
+use Rattle.unit.specs.declared.Answer.the-variants.{Done, Refused}
+use Rattle.unit.specs.Calls.{check, andThen}
 use Rattle.unit.specs.Numbers.{numberOf}
 use Rattle.collision.specs.declared.Number.{Number}
 use Rattle.collision.specs.declared.Number.the-variants as Number
 use Rattle.controller.specs.declared.Event.{Event}
 use Rattle.controller.specs.Bank.{eventAnswer, moved}
+use Rattle.text.specs.Text.{putIn}
 use Rattle.c_interface.specs.Codes.{handed}
 use Rattle.c_interface.specs.Calls.{bankIn, bankOver}
-use Rattle.collision.specs.declared.Verdict.{Verdict}
-use Rattle.collision.specs.declared.Verdict.the-variants as Verdict
+use Rattle.judge.specs.declared.Verdict.{Verdict}
+use Rattle.judge.specs.declared.Verdict.the-variants as Verdict
+
+-- what was asked of the unit of a file; a refused file's refusal goes first
+abbrev pub readThen : Answer → Number → Number
+readThen Done n = n
+readThen (Refused why) n = Number.Refused why
 
 abbrev pub numberCode : Number → ℕ
 numberCode (Number.Value n) = 0
@@ -32,9 +39,17 @@ verdictNumber Verdict.Yes = Number.Value 1
 verdictNumber Verdict.No = Number.Value 0
 verdictNumber (Verdict.Refused why) = Number.Refused why
 
--- what a search tries before it is made
-unfoldable pub searchCheck : FunctionUnit → ℕ → ℕ → ℕ → Answer
-searchCheck u q work out = andThen (tagAnswer u q) (check (leb 16000 work) ShortWork (check (leb 256 out) ShortOutput Done))
+-- what a search tries before it is made, after the file and the tag
+unfoldable pub searchCheck : Answer → Answer → ℕ → ℕ → Answer
+searchCheck read tagged work out =
+    andThen read
+    (andThen tagged
+    (check (leb 16000 work) ShortWork
+    (check (leb 256 out) ShortOutput Done)))
+
+-- the cycle of a plan at the front of lent bytes
+abbrev pub planFront : Plan → List ℕ → List ℕ
+planFront plan bytes = putIn bytes 0 (take (plan .count) (plan .latencies))
 
 -- what an event tries on lent registers, and the words that it leaves
 unfoldable pub stepRefusal : FunctionUnit → List ℕ → Event → Answer

@@ -10,8 +10,10 @@ use controller::Bank;
 use controller::Event;
 use unit::Answer;
 use unit::FunctionUnit;
-use unit::Refusal;
 use unit::Tag;
+
+// The number of the refusal of too few words.
+const SHORT_OUTPUT: u32 = 6;
 
 // Stores the registers.
 fn store(bank: Bank, words: &mut [u32])
@@ -43,11 +45,11 @@ fn step(u: FunctionUnit, words: &mut [u32], event: Event) -> u32
     ensures { λ _. ⌜ now (words .exit) ≡ stepWords u event (now (words .entry)) ⌝ }
 {
     if words.len() < 4 {
-        return crate::codes::number(Refusal::ShortOutput);
+        return SHORT_OUTPUT;
     }
     let stepped = controller::step(u, load(words), event);
-    store(stepped.bank, words);
     let answer = stepped.answer;
+    store(stepped.bank, words);
     crate::codes::code(answer)
 }
 
@@ -72,14 +74,14 @@ pub extern "C" fn limedarts_start(file: &[u8], bank: &mut [u32], tag: u32) -> u3
     ensures { λ _. ⌜ now (bank .exit) ≡ handed (startRefusal (now (file .entry)) tag (now (bank .entry))) (bankOver (started (unitIn (now (file .entry))) (narrow tag) (bankIn (now (bank .entry)))) (now (bank .entry))) (now (bank .entry)) ⌝ }
 {
     let back = unit_file::read(file);
-    let answer = back.answer;
+    let mut answer = back.answer;
     let Answer::Done = answer else {
         return crate::codes::code(answer);
     };
     let asked = Tag(crate::codes::byte(tag));
-    let checked = unit::check_tag(back.unit, asked);
-    let Answer::Done = checked else {
-        return crate::codes::code(checked);
+    answer = unit::check_tag(back.unit, asked);
+    let Answer::Done = answer else {
+        return crate::codes::code(answer);
     };
     step(back.unit, bank, Event::Start(asked))
 }

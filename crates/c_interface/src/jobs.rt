@@ -1,6 +1,6 @@
 // Whole jobs: the listing of a lent file, and a list of calls from a fresh unit.
 ghost use mathlib.Core.Path.{_≡_};
-ghost use Rattle.planner.specs.Play.{Played};
+ghost use Rattle.player.specs.Play.{Played};
 ghost use Rattle.c_interface.specs.Codes.{narrow};
 ghost use Rattle.c_interface.specs.Calls.{ListingHanded};
 use crate::codes::byte;
@@ -36,7 +36,7 @@ pub extern "C" fn limedarts_play(
     ensures { λ r. ⌜ r ≡ 0 ⌝ }
     ensures { λ _. ⌜ Played (narrow functions) (narrow segments) (narrow columns) (now (calls .entry)) (now (out .entry)) (now (out .exit)) (now (work .entry)) (now (work .exit)) (now (count .exit)) ⌝ }
 {
-    *count = planner::play(
+    *count = player::play(
         byte(functions),
         byte(segments),
         byte(columns),

@@ -2,22 +2,27 @@
 ghost use mathlib.Core.Path.{_≡_};
 ghost use mathlib.Core.Bool.{cond};
 ghost use Rattle.collision.specs.Vector.{vectorWord, rowWord, boundOf, upperOf, constantOf};
-ghost use Rattle.collision.specs.Judge.{meets};
+ghost use Rattle.judge.specs.Judge.{meets};
 ghost use Rattle.c_interface.specs.Codes.{codeOf, narrow, handed, tableIn};
 ghost use Rattle.c_interface.specs.Calls.{tagRefusal, tagsRefusal, judgeRefusal};
-ghost use Rattle.c_interface.specs.Inner.{numberCode, numberValue, verdictNumber};
+ghost use Rattle.c_interface.specs.Inner.{readThen, numberCode, numberValue, verdictNumber};
 use crate::codes::byte;
 use crate::codes::code;
 use collision::Number;
-use collision::Verdict;
+use judge::Verdict;
 use unit::Answer;
+use unit::Outcome;
 use unit::Tag;
 
-// Hands a value out, or answers the number of the refusal.
-fn hand_out(asked: Number, value: &mut u32) -> u32
-    ensures { λ r. ⌜ r ≡ numberCode asked ⌝ }
-    ensures { λ _. ⌜ now (value .exit) ≡ numberValue asked (now (value .entry)) ⌝ }
+// Hands a value out, or answers the number of the refusal: the file's, else that of what was asked.
+pub fn hand_out(back: Outcome, asked: Number, value: &mut u32) -> u32
+    ensures { λ r. ⌜ r ≡ numberCode (readThen (back .answer) asked) ⌝ }
+    ensures { λ _. ⌜ now (value .exit) ≡ numberValue (readThen (back .answer) asked) (now (value .entry)) ⌝ }
 {
+    let read = back.answer;
+    let Answer::Done = read else {
+        return code(read);
+    };
     match asked {
         Number::Value(number) => {
             *value = number;
@@ -45,11 +50,7 @@ pub extern "C" fn limedarts_vector(file: &[u8], tag: u32, word: &mut u32) -> u32
     ensures { λ _. ⌜ now (word .exit) ≡ handed (tagRefusal (now (file .entry)) tag) (vectorWord (tableIn (now (file .entry))) (narrow tag)) (now (word .entry)) ⌝ }
 {
     let back = unit_file::read(file);
-    let answer = back.answer;
-    let Answer::Done = answer else {
-        return code(answer);
-    };
-    hand_out(collision::vector(back.unit, Tag(byte(tag))), word)
+    hand_out(back, collision::vector(back.unit, Tag(byte(tag))), word)
 }
 
 // Row `tag` of the matrix of `other`.
@@ -59,11 +60,8 @@ pub extern "C" fn limedarts_matrix_row(file: &[u8], tag: u32, other: u32, word: 
     ensures { λ _. ⌜ now (word .exit) ≡ handed (tagsRefusal (now (file .entry)) tag other) (rowWord (tableIn (now (file .entry))) (narrow tag) (narrow other)) (now (word .entry)) ⌝ }
 {
     let back = unit_file::read(file);
-    let answer = back.answer;
-    let Answer::Done = answer else {
-        return code(answer);
-    };
     hand_out(
+        back,
         collision::matrix_row(back.unit, Tag(byte(tag)), Tag(byte(other))),
         word,
     )
@@ -76,11 +74,7 @@ pub extern "C" fn limedarts_bound(file: &[u8], tag: u32, value: &mut u32) -> u32
     ensures { λ _. ⌜ now (value .exit) ≡ handed (tagRefusal (now (file .entry)) tag) (boundOf (tableIn (now (file .entry))) (narrow tag)) (now (value .entry)) ⌝ }
 {
     let back = unit_file::read(file);
-    let answer = back.answer;
-    let Answer::Done = answer else {
-        return code(answer);
-    };
-    hand_out(collision::bound(back.unit, Tag(byte(tag))), value)
+    hand_out(back, measures::bound(back.unit, Tag(byte(tag))), value)
 }
 
 // The number of 1s in the collision vector, plus 1.
@@ -90,11 +84,7 @@ pub extern "C" fn limedarts_upper(file: &[u8], tag: u32, value: &mut u32) -> u32
     ensures { λ _. ⌜ now (value .exit) ≡ handed (tagRefusal (now (file .entry)) tag) (upperOf (tableIn (now (file .entry))) (narrow tag)) (now (value .entry)) ⌝ }
 {
     let back = unit_file::read(file);
-    let answer = back.answer;
-    let Answer::Done = answer else {
-        return code(answer);
-    };
-    hand_out(collision::upper(back.unit, Tag(byte(tag))), value)
+    hand_out(back, measures::upper(back.unit, Tag(byte(tag))), value)
 }
 
 // The least latency of which no multiple is forbidden.
@@ -104,11 +94,7 @@ pub extern "C" fn limedarts_constant(file: &[u8], tag: u32, value: &mut u32) -> 
     ensures { λ _. ⌜ now (value .exit) ≡ handed (tagRefusal (now (file .entry)) tag) (constantOf (tableIn (now (file .entry))) (narrow tag)) (now (value .entry)) ⌝ }
 {
     let back = unit_file::read(file);
-    let answer = back.answer;
-    let Answer::Done = answer else {
-        return code(answer);
-    };
-    hand_out(collision::constant(back.unit, Tag(byte(tag))), value)
+    hand_out(back, measures::constant(back.unit, Tag(byte(tag))), value)
 }
 
 // Hands out 1 if the cycle, repeated without end, never collides, else 0.
@@ -118,10 +104,6 @@ pub extern "C" fn limedarts_judge(file: &[u8], tag: u32, cycle: &[u8], yes: &mut
     ensures { λ _. ⌜ now (yes .exit) ≡ handed (judgeRefusal (now (file .entry)) tag (now (cycle .entry))) (cond (meets (tableIn (now (file .entry))) (narrow tag) (now (cycle .entry))) 0 1) (now (yes .entry)) ⌝ }
 {
     let back = unit_file::read(file);
-    let answer = back.answer;
-    let Answer::Done = answer else {
-        return code(answer);
-    };
-    let verdict = collision::judge(back.unit, Tag(byte(tag)), cycle);
-    hand_out(verdict_number(verdict), yes)
+    let verdict = judge::judge(back.unit, Tag(byte(tag)), cycle);
+    hand_out(back, verdict_number(verdict), yes)
 }

@@ -1,16 +1,14 @@
--- Figures 1 and 2 of the paper: what their tables give, as theorems. Assumes nothing.
-use Prim.Native.Nat.{ℕ, _+_, _-_}
+-- Figures 1 and 2 of the paper: the vector and the rows of their tables, as theorems. Assumes nothing.
+use Prim.Native.Nat.{ℕ, _-_}
 use mathlib.Core.Path.{_≡_, refl, ap, _∙_, sym}
 use mathlib.Core.Bool.{Bool, false, _&&_, _||_}
 use mathlib.Core.List.{List, [], _∷_}
 use lib.Dec.{leb, eqb}
 use lib.ListN.{getD}
 use Rattle.words.specs.Bits.{isSet}
-use Rattle.words.specs.Below.{someBelow, countBelow, spanBelow, maxBelow, leastFrom, wordBelow}
+use Rattle.words.specs.Below.{someBelow, spanBelow, wordBelow}
 use Rattle.unit.specs.Table.{Table}
-use Rattle.collision.specs.Vector.{collides, rowWord, vectorWord, largestForbidden, boundOf, upperOf, constantOf}
-use Rattle.collision.specs.Inner.{freeOf, leastFree}
-use Rattle.collision.proofs.NumberLaws.{least-constant}
+use Rattle.collision.specs.Vector.{collides, rowWord, vectorWord, largestForbidden}
 use Rattle.collision.proofs.VectorLaws.{largest-span}
 
 -- c is one of the columns
@@ -33,18 +31,6 @@ figure1-vector = refl
 pub figure1-largest : largestForbidden figure1 1 ≡ 8
 unfolding spanBelow
 figure1-largest = sym (largest-span figure1 1) ∙ ap (λ w. spanBelow 32 (isSet w)) figure1-vector
-
-pub figure1-bound : boundOf figure1 1 ≡ 3
-unfolding figure1 boundOf maxBelow countBelow
-figure1-bound = refl
-
-pub figure1-upper : upperOf figure1 1 ≡ 5
-unfolding upperOf countBelow
-figure1-upper = ap (λ w. countBelow 32 (isSet w) + 1) figure1-vector
-
-pub figure1-constant : constantOf figure1 1 ≡ 7
-unfolding leastFree leastFrom freeOf someBelow
-figure1-constant = sym (least-constant figure1 1) ∙ ap leastFree figure1-vector
 
 -- Figure 2: A is tag 1, B is tag 2
 unfoldable pub figure2 : Table

@@ -1,12 +1,7 @@
 pub mod RowLaws
 pub mod CommonLaws
 pub mod AnswerLaws
-pub mod NumberLaws
 pub mod VectorLaws
 pub mod Examples
 pub mod ClashLaws
 pub mod StartLaws
-pub mod CycleLaws
-pub mod IntervalLaws
-pub mod VerdictLaws
-pub mod JudgeLaws

@@ -3,6 +3,7 @@ use mathlib.Core.Path.{_≡_, refl, ap, sym, _∙_}
 use mathlib.Core.List.{List, [], _∷_}
 use Prim.Native.Nat.{ℕ, zero, suc, _+_, _-_, _*_, _/_, _%_, _≤_, _<_}
 use native.Mathlib.Nat.{le-refl, le-of-lt, add-zero, add-suc, add-comm, zero-mul, suc-mul, add-mod-left, mod-eq-of-lt, mod-lt, not-suc-le-zero, le-of-suc-le-suc, div-add-mod'}
+use native.Mathlib.Numerals.{add-one}
 use native.Mathlib.Omega.{arith}
 use lib.ListN.{length, getD, take}
 use lib.Seq.{take-length}
@@ -14,6 +15,10 @@ pub total-suc : (l : List ℕ) (k : ℕ) → k < length l → total (take (suc k
 total-suc [] k h = absurd (not-suc-le-zero h)
 total-suc (t ∷ l) zero h = omega arith
 total-suc (t ∷ l) (suc k) h = omega (arith, total-suc l k (le-of-suc-le-suc h))
+
+-- one more latency added to a sum
+pub sum-more : (l : List ℕ) (k s : ℕ) → k < length l → s ≡ total (take k l) → s + getD l k 0 ≡ total (take (k + 1) l)
+sum-more l k s h e = rw (add-one k) (omega (arith, total-suc l k h))
 
 pub startAt-take : (l : List ℕ) (k : ℕ) → k ≤ length l → startAt l k ≡ total (take k l)
 startAt-take l zero h = refl

@@ -2,5 +2,4 @@ pub mod Pipeline
 pub mod Vector
 pub mod Meaning
 pub mod Answers
-pub mod Judge
 pub mod Inner

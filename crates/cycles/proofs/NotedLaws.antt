@@ -6,7 +6,7 @@ use native.Mathlib.Omega.{arith}
 use lib.ListN.{length, getD, set, take, drop, length-drop}
 use lib.Seq.{getD-take, getD-drop, length-take-le, take-length}
 use Rattle.collision.specs.Pipeline.{total}
-use Rattle.collision.proofs.CycleLaws.{sum-more}
+use Rattle.collision.proofs.StartLaws.{sum-more}
 use Rattle.diagram.proofs.CopyLaws.{front, front-length, front-more}
 use Rattle.cycles.specs.Inner.{notedIn, Copyable}
 

@@ -18,7 +18,8 @@ use Rattle.listing.specs.declared.Listed.{Listed}
 use Rattle.listing.specs.declared.Listed.the-variants as Listed
 use Rattle.listing.specs.Lines.{unitText}
 use Rattle.listing.specs.Listing.{roomAnswer, Printed, unitRefusal, UnitListed}
-use Rattle.listing.specs.Inner.{Put, ToldAll}
+use Rattle.text.specs.Wrote.{Put}
+use Rattle.listing.specs.Inner.{ToldAll}
 use Rattle.listing.proofs.UnitLaws.{functions-few}
 
 -- An area with and without the room

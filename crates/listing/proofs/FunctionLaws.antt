@@ -7,7 +7,7 @@ use native.Mathlib.Omega.{arith}
 use lib.Dec.{leb}
 use lib.ListN.{length}
 use Rattle.words.proofs.Tests.{nowhere}
-use Rattle.text.specs.Text.{ascii, digits, decimal, putIn, putEnd}
+use Rattle.text.specs.Text.{ascii, digits, decimal, vectorText, putIn, putEnd}
 use Rattle.text.proofs.DecimalLaws.{decimal-length}
 use Rattle.text.proofs.WroteLaws.{wrote-length}
 use Rattle.unit.specs.declared.FunctionUnit.{FunctionUnit}
@@ -18,9 +18,10 @@ use Rattle.collision.proofs.VectorLaws.{largest-span}
 use Rattle.diagram.specs.Diagram.{width}
 use Rattle.diagram.specs.Answers.{statesOf}
 use Rattle.cycles.specs.Greedy.{greedyOf}
-use Rattle.listing.specs.Lines.{newline, numberLine, vectorText, cycleLine, stateLines, vectorLine, boundLine, functionText}
-use Rattle.listing.specs.Inner.{Put, Told}
-use Rattle.listing.proofs.PutLaws.{put-more, put-word, put-as}
+use Rattle.listing.specs.Lines.{newline, numberLine, cycleLine, stateLines, vectorLine, boundLine, functionText}
+use Rattle.text.specs.Wrote.{Put}
+use Rattle.listing.specs.Inner.{Told}
+use Rattle.text.proofs.BoundedLaws.{put-more, put-word, put-as}
 use Rattle.listing.proofs.LineLaws.{append-line}
 
 -- Texts

@@ -1,8 +1,7 @@
-mod AreaLaws
+pub mod AreaLaws
 mod AskedLaws
 mod FileLaws
 mod FunctionLaws
 mod LineLaws
-pub mod PutLaws
 mod StandingLaws
 mod UnitLaws

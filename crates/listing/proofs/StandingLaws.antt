@@ -6,7 +6,7 @@ use native.Mathlib.Omega.{arith}
 use lib.ListN.{length, take, drop, replicate, length-append}
 use lib.Seq.{take-at}
 use borrow.Author.Tests.{leb-true}
-use Rattle.text.specs.Text.{ascii, decimal}
+use Rattle.text.specs.Text.{ascii, decimal, spaced}
 use Rattle.unit.specs.declared.FunctionUnit.{FunctionUnit}
 use Rattle.unit.specs.declared.Refusal.{Refusal}
 use Rattle.unit.specs.declared.Answer.{Answer}
@@ -22,9 +22,10 @@ use Rattle.cycles.specs.declared.GreedyAnswer.the-variants as GreedyAnswer
 use Rattle.cycles.specs.Greedy.{greedyOf, counting, greedyAnswer, greedyOut}
 use Rattle.cycles.proofs.GreedyLaws.{greedy-cycle}
 use Rattle.planner.specs.Plans.{searchAnswer, Found, SearchPromise}
-use Rattle.listing.specs.Lines.{newline, latencyText}
-use Rattle.listing.specs.Inner.{Put, Small}
-use Rattle.listing.proofs.PutLaws.{put-as}
+use Rattle.listing.specs.Lines.{newline}
+use Rattle.text.specs.Wrote.{Put}
+use Rattle.listing.specs.Inner.{Small}
+use Rattle.text.proofs.BoundedLaws.{put-as}
 use Rattle.listing.proofs.AskedLaws.{greedy-passes, search-passes}
 
 -- `count` and `sum` are the cycle's, and it is the first `count` of the bytes
@@ -42,8 +43,8 @@ standing-part s = s .counts ∙ ap length (sym (s .front))
 pub standing-line : {cycle : List ℕ} {count sum : ℕ} {bytes before : List ℕ} {at : ℕ} {after : List ℕ} {end : ℕ} (word : List ℕ) (n : ℕ)
     → Standing cycle count sum bytes → length word + 1040 ≤ n
     → Put (length word + 4 * length (take count bytes) + 16) before at
-    (word ++ latencyText (take count bytes) ++ ascii " sum " ++ decimal sum ++ newline) after end
-    → Put n before at (word ++ latencyText cycle ++ ascii " sum " ++ decimal (total cycle) ++ newline) after end
+    (word ++ spaced (take count bytes) ++ ascii " sum " ++ decimal sum ++ newline) after end
+    → Put n before at (word ++ spaced cycle ++ ascii " sum " ++ decimal (total cycle) ++ newline) after end
 standing-line word n s l p = put-as p (simp (s .front, s .adds)) (omega (arith, ap length (s .front)))
 
 -- A cycle in front of any bytes

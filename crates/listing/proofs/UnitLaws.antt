@@ -17,8 +17,7 @@ use Rattle.diagram.specs.Answers.{statesOf}
 use Rattle.planner.specs.Plans.{Best}
 use Rattle.listing.specs.Lines.{functionText}
 use Rattle.listing.specs.Inner.{Function, Told, ToldAll}
-use Rattle.listing.proofs.PutLaws.{put-as}
-use Rattle.listing.proofs.LineLaws.{put-join-start, put-join-more}
+use Rattle.text.proofs.BoundedLaws.{put-as, put-join-start, put-join-more}
 use Rattle.words.proofs.JoinLaws.{join-same}
 
 pub functions-few : (u : FunctionUnit) → soundOf u ≡ true → u .functions ≤ 4

@@ -6,7 +6,7 @@ use mathlib.Core.List.{List}
 use lib.Dec.{leb}
 use lib.ListN.{length}
 use Rattle.words.specs.Below.{joinBelow}
-use Rattle.text.specs.Wrote.{Wrote}
+use Rattle.text.specs.Wrote.{Put}
 use Rattle.unit.specs.declared.FunctionUnit.{FunctionUnit}
 use Rattle.unit.specs.Table.{Table}
 use Rattle.unit.specs.Unit.{inside, marked, soundOf}
@@ -15,11 +15,6 @@ use Rattle.collision.specs.declared.Number.the-variants as Number
 use Rattle.diagram.specs.Answers.{statesOf}
 use Rattle.planner.specs.Plans.{Best}
 use Rattle.listing.specs.Lines.{functionText}
-
--- text was written, of at most so many bytes
-pub record Put (most : ℕ) (before : List ℕ) (at : ℕ) (text after : List ℕ) (end : ℕ) : Type 0 where
-  pub wrote : Wrote before at text after end
-  pub few : end ≤ at + most
 
 -- the value of an answer that is not refused
 abbrev pub valueOf : Number → ℕ

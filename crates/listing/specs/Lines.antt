@@ -1,13 +1,12 @@
--- What the printer writes, line by line. Numbers are in decimal, without leading zeros.
-use Prim.Native.Nat.{ℕ, _+_, _-_}
+-- What the printer writes, line by line. Numbers are in decimal, without leading zeros; a vector's columns and a cycle's latencies are rows of crate text.
+use Prim.Native.Nat.{ℕ, _+_}
 use Prim.Native.String.{String}
 use mathlib.Core.Bool.{cond}
 use mathlib.Core.List.{List, [], _∷_, _++_}
-use lib.Dec.{leb, eqb}
-use lib.ListN.{length, getD}
-use Rattle.words.specs.Bits.{bit}
-use Rattle.words.specs.Below.{listBelow, joinBelow}
-use Rattle.text.specs.Text.{ascii, digit, decimal}
+use lib.Dec.{leb}
+use lib.ListN.{length}
+use Rattle.words.specs.Below.{joinBelow}
+use Rattle.text.specs.Text.{ascii, decimal, vectorText, spaced}
 use Rattle.unit.specs.declared.Refusal.{Refusal}
 use Rattle.unit.specs.declared.Refusal.the-variants.{TooManyStates}
 use Rattle.unit.specs.Numbers.{numberOf}
@@ -24,21 +23,9 @@ newline = 10 ∷ []
 abbrev pub numberLine : String → ℕ → List ℕ
 numberLine word n = ascii word ++ decimal n ++ newline
 
--- the columns c_n to c_1 of a word
-unfoldable pub columnText : ℕ → ℕ → List ℕ
-columnText n w = listBelow n (λ i. digit (bit w (n - 1 - i)))
-
--- c_n to c_1, or `-` if n is 0
-abbrev pub vectorText : ℕ → ℕ → List ℕ
-vectorText n w = cond (eqb n 0) (ascii "-") (columnText n w)
-
--- the latencies, each after a space
-unfoldable pub latencyText : List ℕ → List ℕ
-latencyText cycle = joinBelow (length cycle) (λ i. ascii " " ++ decimal (getD cycle i 0))
-
 -- a word, the latencies and their sum
 abbrev pub cycleLine : String → List ℕ → List ℕ
-cycleLine word cycle = ascii word ++ latencyText cycle ++ ascii " sum " ++ decimal (total cycle) ++ newline
+cycleLine word cycle = ascii word ++ spaced cycle ++ ascii " sum " ++ decimal (total cycle) ++ newline
 
 abbrev pub refusedLine : Refusal → List ℕ
 refusedLine why = numberLine "refused " (numberOf why)

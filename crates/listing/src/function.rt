@@ -7,7 +7,8 @@ ghost use Rattle.unit.specs.Unit.{marked};
 ghost use Rattle.collision.specs.Vector.{constantOf};
 ghost use Rattle.cycles.specs.Greedy.{greedyOf};
 ghost use Rattle.listing.specs.Lines.{numberLine, cycleLine, vectorLine, boundLine, stateLines, functionText};
-ghost use Rattle.listing.specs.Inner.{valueOf, Put, Function, Small, Told};
+ghost use Rattle.text.specs.Wrote.{Put};
+ghost use Rattle.listing.specs.Inner.{valueOf, Function, Small, Told};
 use collision::Number;
 use cycles::GreedyAnswer;
 use unit::FunctionUnit;
@@ -37,8 +38,8 @@ fn put_bound_line(out: &mut [u8], at: usize, u: FunctionUnit, tag: Tag) -> usize
     requires { ⌜ Function u (tag .0) × (at + 34 ≤ length (now out)) ⌝ }
     ensures { λ r. ⌜ Put 34 (now (out .entry)) at (boundLine (marked u) (tag .0)) (now (out .exit)) r ⌝ }
 {
-    let bound = value_of(collision::bound(u, tag));
-    let upper = value_of(collision::upper(u, tag));
+    let bound = value_of(measures::bound(u, tag));
+    let upper = value_of(measures::upper(u, tag));
     let after_word = text::put(out, at, b"bound ");
     let after_bound = text::put_number(out, after_word, bound);
     crate::lines::put_line(out, after_bound, b" upper ", upper)
@@ -48,7 +49,7 @@ fn put_constant_line(out: &mut [u8], at: usize, u: FunctionUnit, tag: Tag) -> us
     requires { ⌜ Function u (tag .0) × (at + 20 ≤ length (now out)) ⌝ }
     ensures { λ r. ⌜ Put 20 (now (out .entry)) at (numberLine "constant " (constantOf (marked u) (tag .0))) (now (out .exit)) r ⌝ }
 {
-    let constant = value_of(collision::constant(u, tag));
+    let constant = value_of(measures::constant(u, tag));
     crate::lines::put_line(out, at, b"constant ", constant)
 }
 

@@ -15,9 +15,9 @@ use Rattle.words.proofs.BelowLaws.{some-intro}
 use Rattle.unit.specs.Table.{Table}
 use Rattle.collision.specs.Pipeline.{Forbidden, total}
 use Rattle.collision.specs.Vector.{vectorWord}
-use Rattle.collision.specs.Inner.{leastFree}
+use Rattle.measures.specs.Inner.{leastFree}
 use Rattle.collision.specs.Meaning.{Bounded, IsLargest, IsConstant}
-use Rattle.collision.proofs.NumberLaws.{least-constant}
+use Rattle.measures.proofs.NumberLaws.{least-constant}
 use Rattle.collision.proofs.VectorLaws.{vector-bit, largest-span, largest-means, constant-means}
 use Rattle.diagram.specs.Diagram.{width, Reachable}
 use Rattle.diagram.specs.States.{Listed, Each, Distinct, has, states}

@@ -5,7 +5,7 @@ use Prim.Native.Nat.{ℕ}
 use lib.ListN.{getD}
 use Rattle.words.specs.Below.{someBelow, countBelow, spanBelow, maxBelow, leastFrom, wordBelow}
 use Rattle.collision.specs.Vector.{collides, rowWord, vectorWord, boundOf}
-use Rattle.collision.specs.Inner.{freeOf, leastFree}
+use Rattle.measures.specs.Inner.{freeOf, leastFree}
 use Rattle.collision.specs.Meaning.{IsBound}
 use Rattle.collision.proofs.VectorLaws.{bound-means}
 use Rattle.diagram.specs.States.{expand, listFrom}

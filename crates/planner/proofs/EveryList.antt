@@ -26,7 +26,7 @@ use Rattle.unit.proofs.EditLaws.{Edited, mark-accepted, unmark-accepted, mark-r
 use Rattle.collision.specs.Pipeline.{total}
 use Rattle.planner.specs.declared.Handed.{Handed}
 use Rattle.planner.specs.Plans.{Best, planOf, withPlan, searchAnswer, Found, SearchPromise, readAnswer, handing, readOf}
-use Rattle.planner.specs.Turns.{numberIn}
+use Rattle.planner.specs.Inner.{numberIn}
 use Rattle.planner.specs.Sheet.{Call, Reply, replyTo, readReply, Searching, Step, Run, Sheet, start, edited, owing, spotNumber, searchNumber, next, fed, told, Owed, ReadRight, Agrees, Right, EveryList}
 use Rattle.planner.specs.Sheet.Call.{Mark, Unmark, Search, Read}
 use Rattle.planner.specs.Sheet.Reply.{accepted, refused, handed}

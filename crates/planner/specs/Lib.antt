@@ -1,5 +1,3 @@
 pub mod Plans
 pub mod Sheet
 pub mod Inner
-pub mod Play
-pub mod Turns

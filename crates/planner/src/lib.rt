@@ -7,12 +7,8 @@ ghost use lib.ListN.{length, take, replicate};
 ghost use Rattle.cycles.specs.Rotation.{rotate};
 ghost use Rattle.planner.specs.Plans.{planOf, SearchPromise, readAnswer, readOf};
 ghost use Rattle.planner.specs.Inner.{found, inFirstRotation, Small, Standing, Sought};
-
-mod player;
-
 use collision::Number;
 use mean_cycle::Cycle;
-pub use player::play;
 use unit::Answer;
 use unit::FunctionUnit;
 use unit::Outcome;

@@ -5,10 +5,10 @@ mod files;
 ghost use mathlib.Core.Path.{_≡_};
 ghost use lib.ListN.{length};
 use collision::Number;
-use collision::Verdict;
 use controller::Bank;
 use controller::Event;
 use cycles::GreedyAnswer;
+use judge::Verdict;
 use unit::Answer;
 use unit::FunctionUnit;
 use unit::Outcome;
@@ -134,7 +134,7 @@ fn unit_of(functions: u8, segments: u8, columns: u8) -> FunctionUnit {
 }
 
 fn with_mark(u: FunctionUnit, tag: u8, segment: u8, column: u8) -> FunctionUnit {
-    let made = unit::mark(u, Tag(tag), Segment(segment), column);
+    let made = edits::mark(u, Tag(tag), Segment(segment), column);
     made.unit
 }
 
@@ -196,21 +196,21 @@ fn show_vector(name: &[u8], u: FunctionUnit) {
 
 fn show_bound(name: &[u8], u: FunctionUnit) {
     begin(name, b" bound");
-    print_asked(collision::bound(u, Tag(1)));
+    print_asked(measures::bound(u, Tag(1)));
     end_line();
 }
 
 fn show_bounds(name: &[u8], u: FunctionUnit) {
     begin(name, b" bound");
-    print_asked(collision::bound(u, Tag(1)));
+    print_asked(measures::bound(u, Tag(1)));
     io::write_all(1, b" upper");
-    print_asked(collision::upper(u, Tag(1)));
+    print_asked(measures::upper(u, Tag(1)));
     end_line();
 }
 
 fn show_constant(name: &[u8], u: FunctionUnit) {
     begin(name, b" constant");
-    print_asked(collision::constant(u, Tag(1)));
+    print_asked(measures::constant(u, Tag(1)));
     end_line();
 }
 
@@ -297,7 +297,7 @@ fn show_read(name: &[u8], u: FunctionUnit) {
 fn print_judged(u: FunctionUnit, list: &[u8], count: usize) {
     if count <= list.len() {
         io::write_all(1, b" judge");
-        print_verdict(collision::judge(u, Tag(1), &list[..count]));
+        print_verdict(judge::judge(u, Tag(1), &list[..count]));
     }
 }
 
@@ -332,12 +332,12 @@ fn show_judge(name: &[u8], u: FunctionUnit, cycle: &[u8]) {
         io::write_all(1, b" -");
     }
     print_cycle(cycle);
-    print_verdict(collision::judge(u, Tag(1), cycle));
+    print_verdict(judge::judge(u, Tag(1), cycle));
     end_line();
 }
 
 fn show_mark(name: &[u8], u: FunctionUnit, tag: u8, segment: u8, column: u8) {
-    let made = unit::mark(u, Tag(tag), Segment(segment), column);
+    let made = edits::mark(u, Tag(tag), Segment(segment), column);
     begin(name, b" mark");
     print_byte(tag);
     print_byte(segment);
@@ -508,7 +508,7 @@ fn show_better<'a>(first: &'a [u8], second: &'a [u8]) {
     io::write_all(1, b" and");
     print_cycle(second);
     io::write_all(1, b" is");
-    print_cycle(collision::better_of_two(first, first.len(), second, second.len()));
+    print_cycle(judge::better_of_two(first, first.len(), second, second.len()));
     end_line();
 }
 

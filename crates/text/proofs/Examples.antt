@@ -1,7 +1,8 @@
--- Numbers in decimal and text put into bytes, computed. Assumes nothing.
+-- Numbers in decimal, columns of a word and text put into bytes, computed. Assumes nothing.
 use mathlib.Core.Path.{_≡_, refl}
 use mathlib.Core.List.{[], _∷_}
-use Rattle.text.specs.Text.{ascii, digits, decimal, value, putIn, putEnd}
+use Rattle.words.specs.Below.{listBelow, joinBelow}
+use Rattle.text.specs.Text.{ascii, digits, decimal, columnText, vectorText, spaced, value, putIn, putEnd}
 
 pub nought : decimal 0 ≡ ascii "0"
 unfolding digits decimal
@@ -14,6 +15,30 @@ a-thousand-and-seven = refl
 pub largest-word : decimal 4294967295 ≡ ascii "4294967295"
 unfolding digits decimal
 largest-word = refl
+
+pub eight-columns : vectorText 8 177 ≡ ascii "10110001"
+unfolding columnText listBelow
+eight-columns = refl
+
+-- the columns above the third are left out
+pub three-columns : vectorText 3 177 ≡ ascii "001"
+unfolding columnText listBelow
+three-columns = refl
+
+pub no-columns : vectorText 0 177 ≡ ascii "-"
+no-columns = refl
+
+pub two-numbers : spaced (3 ∷ 4 ∷ []) ≡ ascii " 3 4"
+unfolding spaced joinBelow digits decimal
+two-numbers = refl
+
+pub three-numbers : spaced (0 ∷ 10 ∷ 4294967295 ∷ []) ≡ ascii " 0 10 4294967295"
+unfolding spaced joinBelow digits decimal
+three-numbers = refl
+
+pub no-numbers : spaced [] ≡ []
+unfolding spaced joinBelow
+no-numbers = refl
 
 pub read-again : value (ascii "1007") ≡ 1007
 unfolding value

@@ -1,11 +1,13 @@
--- Text as a list of bytes, numbers in decimal, and text put into lent bytes from an index on.
+-- Text as a list of bytes, numbers in decimal, the columns of a word, and text put into lent bytes from an index on.
 use mathlib.Core.Bool.{cond}
 use mathlib.Core.List.{List, [] as none, _∷_ as _then_, _++_, foldl}
 use Prim.Native.Nat.{ℕ, zero, suc, _+_, _-_, _*_, _/_, _%_}
 use Prim.Native.Char.{code}
 use Prim.Native.String.{String, [], _∷_}
-use lib.Dec.{leb, ltb}
-use lib.ListN.{length, take, drop}
+use lib.Dec.{leb, ltb, eqb}
+use lib.ListN.{length, getD, take, drop}
+use Rattle.words.specs.Bits.{bit}
+use Rattle.words.specs.Below.{listBelow, joinBelow}
 
 -- Text
 
@@ -28,6 +30,20 @@ digits (suc f) n = cond (ltb n 10) (digit n then none) (digits f (n / 10) ++ dig
 -- unless it is the only one)
 unfoldable pub decimal : ℕ → List ℕ
 decimal n = digits 10 n
+
+-- Rows
+
+-- the columns c_n to c_1 of a word
+unfoldable pub columnText : ℕ → ℕ → List ℕ
+columnText n w = listBelow n (λ i. digit (bit w (n - 1 - i)))
+
+-- c_n to c_1, or `-` if n is 0
+abbrev pub vectorText : ℕ → ℕ → List ℕ
+vectorText n w = cond (eqb n 0) (ascii "-") (columnText n w)
+
+-- numbers in decimal, each after a space
+unfoldable pub spaced : List ℕ → List ℕ
+spaced numbers = joinBelow (length numbers) (λ i. ascii " " ++ decimal (getD numbers i 0))
 
 -- Digits read
 

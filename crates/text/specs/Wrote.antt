@@ -10,3 +10,8 @@ pub record Wrote (before : List ℕ) (at : ℕ) (text after : List ℕ) (end : �
   pub bytes : after ≡ placed before at text
   pub next : end ≡ at + length text
   pub room : at + length text ≤ length before
+
+-- text was put, of at most so many bytes
+pub record Put (most : ℕ) (before : List ℕ) (at : ℕ) (text after : List ℕ) (end : ℕ) : Type 0 where
+  pub wrote : Wrote before at text after end
+  pub few : end ≤ at + most

@@ -1,8 +1,12 @@
-// Text in lent bytes: words and numbers, one after the other. Every function here is proved and ends, and no public one has a `requires`.
+// Text in lent bytes: words, numbers and the columns of a word, one after the other. Every function here is proved and ends, and no public one has a `requires`.
 ghost use mathlib.Core.Path.{_≡_};
+ghost use mathlib.Core.List.{_++_};
 ghost use Prim.Native.Nat.{_+_, _≤_, _<_};
+ghost use lib.Dec.{leb};
 ghost use lib.ListN.{length};
-ghost use Rattle.text.specs.Text.{decimal, placed, putIn, putEnd};
+ghost use Rattle.words.specs.Bits.{bit};
+ghost use Rattle.text.specs.Text.{ascii, digit, decimal, columnText, vectorText, spaced, placed, putIn, putEnd};
+ghost use Rattle.text.specs.Wrote.{Wrote};
 
 // Copies words over the bytes from an index on.
 fn copy_words(out: &mut [u8], at: usize, words: &[u8])
@@ -68,4 +72,146 @@ pub fn put_number(out: &mut [u8], at: usize, number: u32) -> usize
         return at;
     }
     put_digits(out, at, number)
+}
+
+// The byte of one column of a word.
+fn column_byte(word: u32, index: u32) -> u8
+    ensures { λ r. ⌜ r ≡ digit (bit word index) ⌝ }
+{
+    if words::test(word, index) {
+        return b'1';
+    }
+    b'0'
+}
+
+// The columns of a word, the highest first.
+fn write_columns(out: &mut [u8], at: usize, columns: u32, word: u32) -> usize
+    requires { ⌜ at + columns ≤ length (now out) ⌝ }
+    ensures { λ r. ⌜ Wrote (now (out .entry)) at (columnText columns word) (now (out .exit)) r ⌝ }
+{
+    let mut end = at;
+    let mut written = 0;
+    while written < columns {
+        out[end] = column_byte(word, columns - 1 - written);
+        end += 1;
+        written += 1;
+    }
+    end
+}
+
+// Puts the columns of a word from column n down to the first, or a dash where n is 0.
+pub fn put_columns(out: &mut [u8], at: usize, columns: u32, word: u32) -> usize
+    ensures { λ r. ⌜ r ≡ putEnd (now (out .entry)) at (vectorText columns word) ⌝ }
+    ensures { λ _. ⌜ now (out .exit) ≡ putIn (now (out .entry)) at (vectorText columns word) ⌝ }
+{
+    if columns == 0 {
+        return put(out, at, b"-");
+    }
+    let count = columns as usize;
+    if out.len() < count {
+        return at;
+    }
+    if out.len() - count < at {
+        return at;
+    }
+    write_columns(out, at, columns, word)
+}
+
+// A space and a number.
+fn write_spaced(out: &mut [u8], at: usize, number: u32) -> usize
+    requires { ⌜ at + length (ascii " " ++ decimal number) ≤ length (now out) ⌝ }
+    ensures { λ r. ⌜ Wrote (now (out .entry)) at (ascii " " ++ decimal number) (now (out .exit)) r ⌝ }
+{
+    out[at] = b' ';
+    put_digits(out, at + 1, number)
+}
+
+// Whether the numbers, each after a space, fit into so many bytes.
+fn bytes_fit(numbers: &[u8], room: usize) -> bool
+    ensures { λ r. ⌜ r ≡ leb (length (spaced (now (numbers .entry)))) room ⌝ }
+{
+    let mut left = room;
+    let mut i = 0;
+    while i < numbers.len() {
+        let count = digits_of(numbers[i] as u32);
+        if left <= count {
+            return false;
+        }
+        left = left - count - 1;
+        i += 1;
+    }
+    true
+}
+
+// The numbers, each after a space.
+fn write_bytes(out: &mut [u8], at: usize, numbers: &[u8]) -> usize
+    requires { ⌜ at + length (spaced (now numbers)) ≤ length (now out) ⌝ }
+    ensures { λ r. ⌜ Wrote (now (out .entry)) at (spaced (now (numbers .entry))) (now (out .exit)) r ⌝ }
+{
+    let mut end = at;
+    let mut i = 0;
+    while i < numbers.len() {
+        end = write_spaced(out, end, numbers[i] as u32);
+        i += 1;
+    }
+    end
+}
+
+// Puts numbers in decimal, each after a space.
+pub fn put_bytes(out: &mut [u8], at: usize, numbers: &[u8]) -> usize
+    ensures { λ r. ⌜ r ≡ putEnd (now (out .entry)) at (spaced (now (numbers .entry))) ⌝ }
+    ensures { λ _. ⌜ now (out .exit) ≡ putIn (now (out .entry)) at (spaced (now (numbers .entry))) ⌝ }
+{
+    if out.len() < at {
+        return at;
+    }
+    if bytes_fit(numbers, out.len() - at) {
+        return write_bytes(out, at, numbers);
+    }
+    at
+}
+
+// Whether numbers of 32 bits, each after a space, fit into so many bytes.
+fn words_fit(numbers: &[u32], room: usize) -> bool
+    ensures { λ r. ⌜ r ≡ leb (length (spaced (now (numbers .entry)))) room ⌝ }
+{
+    let mut left = room;
+    let mut i = 0;
+    while i < numbers.len() {
+        let count = digits_of(numbers[i]);
+        if left <= count {
+            return false;
+        }
+        left = left - count - 1;
+        i += 1;
+    }
+    true
+}
+
+// Numbers of 32 bits, each after a space.
+fn write_words(out: &mut [u8], at: usize, numbers: &[u32]) -> usize
+    requires { ⌜ at + length (spaced (now numbers)) ≤ length (now out) ⌝ }
+    ensures { λ r. ⌜ Wrote (now (out .entry)) at (spaced (now (numbers .entry))) (now (out .exit)) r ⌝ }
+{
+    let mut end = at;
+    let mut i = 0;
+    while i < numbers.len() {
+        end = write_spaced(out, end, numbers[i]);
+        i += 1;
+    }
+    end
+}
+
+// Puts numbers of 32 bits in decimal, each after a space.
+pub fn put_words(out: &mut [u8], at: usize, numbers: &[u32]) -> usize
+    ensures { λ r. ⌜ r ≡ putEnd (now (out .entry)) at (spaced (now (numbers .entry))) ⌝ }
+    ensures { λ _. ⌜ now (out .exit) ≡ putIn (now (out .entry)) at (spaced (now (numbers .entry))) ⌝ }
+{
+    if out.len() < at {
+        return at;
+    }
+    if words_fit(numbers, out.len() - at) {
+        return write_words(out, at, numbers);
+    }
+    at
 }

@@ -34,16 +34,21 @@ copied-all columns marks first n h f =
     ext-getD 0 columns (take 32 (drop first marks)) (n ∙ sym (part-length marks first h))
     (λ k l. f k (omega (arith, n)) ∙ sym (getD-drop first marks k 0) ∙ sym (getD-take 32 (drop first marks) k 0 (omega (arith, n))))
 
--- column c of a function has the unit's marks
-pub columns-marked : (u : FunctionUnit) (q s c : ℕ) → 1 ≤ q → q ≤ 4 → 1 ≤ s → s ≤ 16 → 1 ≤ c → c ≤ 32
-    → marked u q s c ≡ isSet (getD (columnsOf u q) (c - 1) 0) (s - 1)
-unfolding marked columnsOf
-columns-marked u q s c q1 q4 s1 s16 c1 c32 =
-    ap (λ b. b && isSet (wordAt u q c) (s - 1)) (somewhere-of q s c q1 q4 s1 s16 c1 c32)
-    ∙ ap (λ w. isSet w (s - 1)) (sym (ap (λ l. getD l (c - 1) 0) chosen ∙ here))
+-- word c - 1 of a function's columns is the unit's word of column c
+pub columns-word : (u : FunctionUnit) (q c : ℕ) → 1 ≤ q → q ≤ 4 → 1 ≤ c → c ≤ 32 → getD (columnsOf u q) (c - 1) 0 ≡ wordAt u q c
+unfolding columnsOf
+columns-word u q c q1 q4 c1 c32 = ap (λ l. getD l (c - 1) 0) chosen ∙ here
   where
     here : getD (take 32 (drop ((q - 1) * 32) (u .marks))) (c - 1) 0 ≡ wordAt u q c
     here = getD-take 32 (drop ((q - 1) * 32) (u .marks)) (c - 1) 0 (omega arith) ∙ getD-drop ((q - 1) * 32) (u .marks) (c - 1) 0
 
     chosen : columnsOf u q ≡ take 32 (drop ((q - 1) * 32) (u .marks))
     chosen = ap (λ b. cond b (take 32 (drop ((q - 1) * 32) (u .marks))) (replicate 32 0)) (inside-of q 4 q1 q4)
+
+-- column c of a function has the unit's marks
+pub columns-marked : (u : FunctionUnit) (q s c : ℕ) → 1 ≤ q → q ≤ 4 → 1 ≤ s → s ≤ 16 → 1 ≤ c → c ≤ 32
+    → marked u q s c ≡ isSet (getD (columnsOf u q) (c - 1) 0) (s - 1)
+unfolding marked
+columns-marked u q s c q1 q4 s1 s16 c1 c32 =
+    ap (λ b. b && isSet (wordAt u q c) (s - 1)) (somewhere-of q s c q1 q4 s1 s16 c1 c32)
+    ∙ ap (λ w. isSet w (s - 1)) (sym (columns-word u q c q1 q4 c1 c32))

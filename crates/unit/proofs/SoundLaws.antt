@@ -4,9 +4,10 @@ use mathlib.Core.Path.{_≡_, refl, ap, _∙_, sym, subst}
 use mathlib.Core.Bool.{Bool, true, false, cond, not, _&&_}
 use mathlib.Core.Logic.{_↔_}
 use native.Mathlib.Omega.{arith}
-use native.Mathlib.Decide.{decLt}
+use native.Mathlib.Decide.{decLt, ℕ-discrete}
 use lib.Dec.{eqb, leb}
 use lib.ListN.{length, getD}
+use lib.Pow.{pow-pos}
 use borrow.Author.Tests.{ne-eqb, eqb-false, leb-true, le-leb, not-true}
 use Rattle.words.specs.Bits.{isSet}
 use Rattle.words.specs.Below.{someBelow}
@@ -149,3 +150,13 @@ sound-means u = (
         marks = inside-test u (d .marks);
       })),
 )
+
+-- the words of a sound unit have marks in its segments only
+pub sound-word : (u : FunctionUnit) (k : ℕ) → Words u → soundOf u ≡ true → k < 128 → getD (u .marks) k 0 < 2 ^ (u .segments)
+sound-word u k n h l = go (ℕ-discrete (getD (u .marks) k 0) 0)
+  where
+    go : Dec (getD (u .marks) k 0 ≡ 0) → getD (u .marks) k 0 < 2 ^ (u .segments)
+    go (yes e) = omega (arith, pow-pos (u .segments))
+    go (no ne) =
+        let d = sound-has u h in
+        inside-clean u (within (u .segments) 16 (d .segments)) (λ j i. n .small j) (inside-means u (d .marks)) k l ne .small

@@ -1,4 +1,5 @@
--- Units and tables: the unit of a table has that table and no other unit of its counts has; what an accepted column's word changes. Assumes nothing.
+-- Units and tables: the unit of a table has that table and no other unit of its counts has; what an accepted column's word changes; mark and unmark as
+-- the giving of a column's word. Assumes nothing.
 use Prim.Native.Nat.{ℕ, _+_, _-_, _/_, _%_, _^_, _<_, _≤_}
 use mathlib.Core.Path.{_≡_, refl, ap, ap₂, _∙_, sym, subst}
 use mathlib.Core.Bool.{Bool, true, false, cond, _&&_}
@@ -11,22 +12,24 @@ use lib.ListN.{length, getD, set, length-set, List·getD-eq-default}
 use lib.Pow.{pow-mono}
 use lib.Seq.{getD-set-same, getD-set-other}
 use borrow.Author.Tests.{eq-eqb, eqb-true, lt-ltb}
-use Rattle.words.specs.Bits.{isSet}
+use Rattle.words.specs.Bits.{isSet, setBit, clearBit}
 use Rattle.words.specs.Below.{wordBelow, listBelow}
 use Rattle.words.proofs.Tests.{nowhere, and-left, and-right, and-true, and-cong, not-passed, by-test}
-use Rattle.words.proofs.BitLaws.{set-below}
+use Rattle.words.proofs.BitLaws.{set-below, set-lt, clear-lt}
 use Rattle.words.proofs.BelowLaws.{word-lt, word-set}
 use Rattle.words.proofs.ListLaws.{list-length, list-at}
 use Rattle.unit.specs.declared.FunctionUnit.{FunctionUnit}
 use Rattle.unit.specs.declared.Plan.{Plan}
+use Rattle.unit.specs.declared.Outcome.{Outcome}
 use Rattle.unit.specs.declared.Answer.{Answer}
 use Rattle.unit.specs.declared.Answer.the-variants.{Done, Refused}
 use Rattle.unit.specs.Table.{Table}
-use Rattle.unit.specs.Unit.{inside, somewhere, place, wordAt, marked, goodCounts, soundOf}
+use Rattle.unit.specs.Unit.{inside, somewhere, place, wordAt, marked, columnsOf, goodCounts, soundOf}
 use Rattle.unit.specs.Inner.{Somewhere}
-use Rattle.unit.specs.Calls.{tagAnswer, columnAnswer, noPlan, unitOf, withWord, outcome, columnOf}
-use Rattle.unit.proofs.Laws.{within, inside-of, somewhere-of, placed, sound-has, sound-of, column-accepted, column-range}
-use Rattle.unit.proofs.SoundLaws.{Words, Inside, inside-means, inside-test, marked-place}
+use Rattle.unit.specs.Calls.{tagAnswer, spotAnswer, columnAnswer, noPlan, unitOf, withWord, outcome, markOf, unmarkOf, columnOf}
+use Rattle.unit.proofs.Laws.{within, inside-of, somewhere-of, placed, sound-has, sound-of, accepted, edit-ranges, column-accepted, column-range}
+use Rattle.unit.proofs.SoundLaws.{Words, Inside, inside-means, inside-test, marked-place, sound-word}
+use Rattle.unit.proofs.ColumnLaws.{columns-word}
 use Rattle.unit.proofs.EditLaws.{same-words}
 
 -- The unit of a table
@@ -201,3 +204,31 @@ column-given u q c w n e = subst (λ (a : Answer). ColumnGiven u (outcome a u (w
           });
           words = column-words u q c w n r (lt-of-lt-of-le (a .word) (pow-mono (s .most)));
         }
+
+-- An edit by the word of its column
+
+module _ (u : FunctionUnit) (q s c : ℕ) (n : Words u) (e : spotAnswer u q s c ≡ Done) where
+  old-word : getD (columnsOf u q) (c - 1) 0 ≡ wordAt u q c
+  old-word = let r = edit-ranges u q s c e in columns-word u q c (r .tag1) (r .tag4) (r .column1) (r .column32)
+
+  old-fits : wordAt u q c < 2 ^ (u .segments)
+  old-fits = let r = edit-ranges u q s c e in sound-word u (place q c) n (accepted u q s c e .sound) (omega arith)
+
+  word-done : (w : ℕ) → w < 2 ^ (u .segments) → columnAnswer u q c w ≡ Done
+  word-done w l = let a = accepted u q s c e in column-done u q c w (a .sound) (a .tag) (a .column) l
+
+  -- an accepted mark gives the column its old word with one mark more, an accepted unmark the old word with one less
+  pub mark-by-column : {columns : List ℕ} {w : ℕ} {r : Outcome} → columns ≡ columnsOf u q → w ≡ setBit (getD columns (c - 1) 0) (s - 1)
+      → r ≡ columnOf u q c w → r ≡ markOf u q s c
+  unfolding columnOf markOf
+  mark-by-column f g h =
+      let k = edit-ranges u q s c e in
+      let d = word-done (setBit (wordAt u q c) (s - 1)) (set-lt (u .segments) (wordAt u q c) (s - 1) (omega arith) old-fits) in
+      h ∙ rw (g, f, old-word, e, d) refl
+
+  pub unmark-by-column : {columns : List ℕ} {w : ℕ} {r : Outcome} → columns ≡ columnsOf u q → w ≡ clearBit (getD columns (c - 1) 0) (s - 1)
+      → r ≡ columnOf u q c w → r ≡ unmarkOf u q s c
+  unfolding columnOf unmarkOf
+  unmark-by-column f g h =
+      let d = word-done (clearBit (wordAt u q c) (s - 1)) (clear-lt (u .segments) (wordAt u q c) (s - 1) old-fits) in
+      h ∙ rw (g, f, old-word, e, d) refl

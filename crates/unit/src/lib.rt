@@ -2,12 +2,11 @@
 // Every function here is proved, total and without a `requires`. Only this crate knows how the marks are laid out: the
 // crates above go by `marked` (specs/Unit.antt) and by the columns that `columns_of` hands out.
 ghost use mathlib.Core.Path.{_≡_};
-ghost use Prim.Native.Nat.{_-_, _≤_};
-ghost use Rattle.words.specs.Bits.{setBit, clearBit};
+ghost use Prim.Native.Nat.{_≤_};
 ghost use Rattle.unit.specs.Inner.{Between, Beyond, Joins, Tested, Somewhere};
 ghost use Rattle.unit.specs.Numbers.{numberOf};
-ghost use Rattle.unit.specs.Unit.{inside, goodCounts, soundPlan, soundOf, place, wordAt, columnsOf};
-ghost use Rattle.unit.specs.Calls.{noPlan, withWord, tagAnswer, spotAnswer, freshOf, markOf, unmarkOf, columnAnswer, columnOf};
+ghost use Rattle.unit.specs.Unit.{inside, goodCounts, soundPlan, soundOf, place, columnsOf};
+ghost use Rattle.unit.specs.Calls.{noPlan, withWord, tagAnswer, spotAnswer, freshOf, columnAnswer, columnOf};
 
 // The number of a function, 1 to 4.
 pub struct Tag(pub u8);
@@ -208,7 +207,7 @@ pub fn check_tag(u: FunctionUnit, tag: Tag) -> Answer
 }
 
 // Whether the mark of a tag at a segment in a column can be edited.
-fn check_spot(u: FunctionUnit, tag: Tag, segment: Segment, column: u8) -> Answer
+pub fn check_spot(u: FunctionUnit, tag: Tag, segment: Segment, column: u8) -> Answer
     ensures { λ r. ⌜ r ≡ spotAnswer u (tag .0) (segment .0) column ⌝ }
 {
     let first = check_tag(u, tag);
@@ -234,14 +233,6 @@ fn place_of(tag: u8, column: u8) -> usize
     (tag as usize - 1) * 32 + (column as usize - 1)
 }
 
-fn word_at(u: FunctionUnit, tag: u8, column: u8) -> u16
-    requires { ⌜ Somewhere tag column ⌝ }
-    ensures { λ r. ⌜ r ≡ wordAt u tag column ⌝ }
-{
-    let i = place_of(tag, column);
-    u.marks[i]
-}
-
 // The unit with another word for a tag in a column, and without plan.
 fn with_word(u: FunctionUnit, tag: u8, column: u8, word: u16) -> FunctionUnit
     requires { ⌜ Somewhere tag column ⌝ }
@@ -258,22 +249,6 @@ fn with_word(u: FunctionUnit, tag: u8, column: u8, word: u16) -> FunctionUnit
         marks,
         plan: kept,
     }
-}
-
-// A column's word with the mark of a segment.
-fn with_mark(word: u16, segment: u8) -> u16
-    requires { ⌜ (1 ≤ segment) × (segment ≤ 16) ⌝ }
-    ensures { λ r. ⌜ r ≡ setBit word (segment - 1) ⌝ }
-{
-    words::set(word as u32, segment as u32 - 1) as u16
-}
-
-// A column's word without the mark of a segment.
-fn without_mark(word: u16, segment: u8) -> u16
-    requires { ⌜ (1 ≤ segment) × (segment ≤ 16) ⌝ }
-    ensures { λ r. ⌜ r ≡ clearBit word (segment - 1) ⌝ }
-{
-    words::clear(word as u32, segment as u32 - 1) as u16
 }
 
 // The unit of the three counts, without marks or plan. Where a count is outside its range the unit that is handed out has
@@ -299,50 +274,6 @@ pub fn fresh(functions: u8, segments: u8, columns: u8) -> Outcome
         Outcome {
             answer: Answer::Refused(Refusal::NotSound),
             unit,
-        }
-    }
-}
-
-// Sets one mark and drops the plan.
-pub fn mark(u: FunctionUnit, tag: Tag, segment: Segment, column: u8) -> Outcome
-    ensures { λ r. ⌜ r ≡ markOf u (tag .0) (segment .0) column ⌝ }
-{
-    let answer = check_spot(u, tag, segment, column);
-    match answer {
-        Answer::Refused(why) => Outcome {
-            answer: Answer::Refused(why),
-            unit: u,
-        },
-        Answer::Done => {
-            let old = word_at(u, tag.0, column);
-            let word = with_mark(old, segment.0);
-            let unit = with_word(u, tag.0, column, word);
-            Outcome {
-                answer: Answer::Done,
-                unit,
-            }
-        }
-    }
-}
-
-// Clears one mark and drops the plan.
-pub fn unmark(u: FunctionUnit, tag: Tag, segment: Segment, column: u8) -> Outcome
-    ensures { λ r. ⌜ r ≡ unmarkOf u (tag .0) (segment .0) column ⌝ }
-{
-    let answer = check_spot(u, tag, segment, column);
-    match answer {
-        Answer::Refused(why) => Outcome {
-            answer: Answer::Refused(why),
-            unit: u,
-        },
-        Answer::Done => {
-            let before = word_at(u, tag.0, column);
-            let after = without_mark(before, segment.0);
-            let unit = with_word(u, tag.0, column, after);
-            Outcome {
-                answer: Answer::Done,
-                unit,
-            }
         }
     }
 }

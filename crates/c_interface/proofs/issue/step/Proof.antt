@@ -5,13 +5,10 @@ use Rattle.c_interface.proofs.BankLaws.{step-short, step-made}
 use Rattle.c_interface.proofs.issue.step.Statement.{statement}
 use Rattle.c_interface.proofs.issue.step.Tie as tie
 
-number-requires : tie.Need-number-requires
-number-requires c κs = search needs
-
 returns : tie.Need-returns
 returns c =
-    let a = c .before .before .before .args in
-    step-short (a .u) (a .event) (a .words .now) (c .number .result) (omega (arith, c .before .if1 .taken)) (c .number .ensures)
+    let a = c .before .before .args in
+    step-short (a .u) (a .event) (a .words .now) (omega (arith, c .if1 .taken))
 
 load-requires : tie.Need-load-requires
 load-requires c κs = search needs
@@ -42,7 +39,6 @@ pub step-spec : {M : Type 1} → statement M
 step-spec =
     tie.close
     (tie.spec
-    number-requires
     returns
     load-requires
     step-requires

@@ -3,30 +3,17 @@ use mathlib.Core.Path.{ap, _∙_}
 use mathlib.Core.Bool.{cond}
 use Rattle.unit.specs.Unit.{marked}
 use Rattle.unit.specs.Calls.{tagAnswer}
-use Rattle.collision.specs.Judge.{meets, cycleAnswer, judgeAnswer}
+use Rattle.judge.specs.Judge.{meets, cycleAnswer, judgeAnswer}
 use Rattle.c_interface.specs.Codes.{narrow}
 use Rattle.c_interface.specs.Calls.{judgeRefusal}
 use Rattle.c_interface.specs.Inner.{verdictNumber}
-use Rattle.c_interface.proofs.ThenLaws.{verdict-number, file-refused, number-handed}
+use Rattle.c_interface.proofs.ThenLaws.{verdict-number, number-handed}
 use borrow.Author.Needs.{needs}
 use Rattle.c_interface.proofs.questions.limedarts_judge.Statement.{statement}
 use Rattle.c_interface.proofs.questions.limedarts_judge.Tie as tie
 
 read-requires : tie.Need-read-requires
 read-requires c κs = search needs
-
-enum-told : tie.Need-enum-told
-enum-told c = search needs
-
-enum-told-2 : tie.Need-enum-told-2
-enum-told-2 c = search needs
-
-code-requires : tie.Need-code-requires
-code-requires c κs = search needs
-
-returns : tie.Need-returns
-unfolding judgeRefusal
-returns c = file-refused _ _ (c .before .before .before .read .ensures) _ _ _ (c .before .enum-told2 .given .1) (c .code .ensures)
 
 byte-requires : tie.Need-byte-requires
 byte-requires c κs = search needs
@@ -40,18 +27,18 @@ verdict-number-requires c κs = search needs
 hand-out-requires : tie.Need-hand-out-requires
 hand-out-requires c κs = search needs
 
-returns-2 : tie.Need-returns-2
+returns : tie.Need-returns
 unfolding judgeRefusal judgeAnswer
-returns-2 c =
+returns c =
     let n = c .before .before in
     let j = n .before in
     let b = j .before in
-    let r = b .before .before .before in
+    let r = b .before in
     let u = r .read .result .unit in
     let a = r .before .before .before .args in
     let tag = narrow (a .tag) in
     let l = a .cycle .now in
-    number-handed _ _ (r .read .ensures) (λ v. cycleAnswer (tagAnswer v tag) l) (λ T. cond (meets T tag l) 0 1) _ (b .before .enum-told .given .1)
+    number-handed _ _ (r .read .ensures) (λ v. cycleAnswer (tagAnswer v tag) l) (λ T. cond (meets T tag l) 0 1) _
     (n .verdict-number .ensures ∙ ap verdictNumber (j .judge .ensures ∙ ap (λ q. judgeAnswer u q l) (b .byte .ensures))
     ∙ verdict-number (cycleAnswer (tagAnswer u tag) l) (meets (marked u) tag l)) (c .hand-out .ensures)
 
@@ -60,12 +47,8 @@ limedarts-judge-spec =
     tie.close
     (tie.spec
     read-requires
-    enum-told
-    enum-told-2
-    code-requires
-    returns
     byte-requires
     judge-requires
     verdict-number-requires
     hand-out-requires
-    returns-2)
+    returns)

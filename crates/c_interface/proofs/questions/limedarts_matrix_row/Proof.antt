@@ -4,26 +4,13 @@ use Rattle.collision.specs.Vector.{rowWord}
 use Rattle.collision.specs.Answers.{tagsAnswer, rowAnswer}
 use Rattle.c_interface.specs.Codes.{narrow}
 use Rattle.c_interface.specs.Calls.{tagsRefusal}
-use Rattle.c_interface.proofs.ThenLaws.{file-refused, number-handed}
+use Rattle.c_interface.proofs.ThenLaws.{number-handed}
 use borrow.Author.Needs.{needs}
 use Rattle.c_interface.proofs.questions.limedarts_matrix_row.Statement.{statement}
 use Rattle.c_interface.proofs.questions.limedarts_matrix_row.Tie as tie
 
 read-requires : tie.Need-read-requires
 read-requires c κs = search needs
-
-enum-told : tie.Need-enum-told
-enum-told c = search needs
-
-enum-told-2 : tie.Need-enum-told-2
-enum-told-2 c = search needs
-
-code-requires : tie.Need-code-requires
-code-requires c κs = search needs
-
-returns : tie.Need-returns
-unfolding tagsRefusal
-returns c = file-refused _ _ (c .before .before .before .read .ensures) _ _ _ (c .before .enum-told2 .given .1) (c .code .ensures)
 
 byte-requires : tie.Need-byte-requires
 byte-requires c κs = search needs
@@ -37,15 +24,15 @@ matrix-row-requires c κs = search needs
 hand-out-requires : tie.Need-hand-out-requires
 hand-out-requires c κs = search needs
 
-returns-2 : tie.Need-returns-2
+returns : tie.Need-returns
 unfolding tagsRefusal rowAnswer
-returns-2 c =
+returns c =
     let v = c .before .before in
     let b = v .before in
-    let r = b .before .before .before .before in
+    let r = b .before .before in
     let tag = narrow (r .before .before .args .tag) in
     let other = narrow (r .before .before .args .other) in
-    number-handed _ _ (r .read .ensures) (λ u. tagsAnswer u tag other) (λ T. rowWord T tag other) _ (b .before .before .enum-told .given .1)
+    number-handed _ _ (r .read .ensures) (λ u. tagsAnswer u tag other) (λ T. rowWord T tag other) _
     (v .matrix-row .ensures ∙ ap₂ (rowAnswer (r .read .result .unit)) (b .before .byte .ensures) (b .byte2 .ensures)) (c .hand-out .ensures)
 
 pub limedarts-matrix-row-spec : {M : Type 1} → statement M
@@ -53,12 +40,8 @@ limedarts-matrix-row-spec =
     tie.close
     (tie.spec
     read-requires
-    enum-told
-    enum-told-2
-    code-requires
-    returns
     byte-requires
     byte-requires-2
     matrix-row-requires
     hand-out-requires
-    returns-2)
+    returns)

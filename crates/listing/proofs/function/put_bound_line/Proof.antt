@@ -6,8 +6,8 @@ use Rattle.text.specs.Text.{ascii, decimal}
 use Rattle.unit.specs.Unit.{marked}
 use Rattle.collision.specs.Vector.{boundOf, upperOf}
 use Rattle.collision.specs.Answers.{boundAnswer, upperAnswer}
-use Rattle.listing.specs.Inner.{Put}
-use Rattle.listing.proofs.LineLaws.{put-one}
+use Rattle.text.specs.Wrote.{Put}
+use Rattle.text.proofs.BoundedLaws.{put-one}
 use Rattle.listing.proofs.AskedLaws.{value-answering}
 use Rattle.listing.proofs.FunctionLaws.{put-decimal, put-room, bound-line}
 use borrow.Author.Needs.{needs}

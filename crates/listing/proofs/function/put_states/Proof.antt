@@ -2,7 +2,7 @@
 use native.Mathlib.Omega.{arith}
 use Rattle.text.specs.Text.{ascii}
 use Rattle.listing.specs.Inner.{Small}
-use Rattle.listing.proofs.LineLaws.{put-one}
+use Rattle.text.proofs.BoundedLaws.{put-one}
 use Rattle.listing.proofs.AskedLaws.{Counted, states-counted, states-refused}
 use Rattle.listing.proofs.FunctionLaws.{number-line, lines-many, lines-few}
 use borrow.Author.Needs.{needs}

@@ -5,8 +5,8 @@ use Rattle.text.specs.Text.{ascii}
 use Rattle.unit.specs.Unit.{marked}
 use Rattle.collision.specs.Vector.{vectorWord}
 use Rattle.collision.specs.Answers.{vectorAnswer}
-use Rattle.listing.specs.Inner.{Put}
-use Rattle.listing.proofs.LineLaws.{put-one}
+use Rattle.text.specs.Wrote.{Put}
+use Rattle.text.proofs.BoundedLaws.{put-one}
 use Rattle.listing.proofs.AskedLaws.{value-answering}
 use Rattle.listing.proofs.FunctionLaws.{put-room, vector-line}
 use borrow.Author.Needs.{needs}

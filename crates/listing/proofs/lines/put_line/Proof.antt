@@ -6,8 +6,7 @@ use borrow.Author.Needs.{needs}
 use lib.ListN.{length}
 use Rattle.text.specs.Text.{decimal}
 use Rattle.text.proofs.DecimalLaws.{decimal-length}
-use Rattle.listing.proofs.PutLaws.{put-word, put-as}
-use Rattle.listing.proofs.LineLaws.{put-one}
+use Rattle.text.proofs.BoundedLaws.{put-word, put-as, put-one}
 use Rattle.listing.proofs.lines.put_line.Statement.{statement}
 use Rattle.listing.proofs.lines.put_line.Tie as tie
 

@@ -1,0 +1,126 @@
+-- The words after the name of a command, one by one: which are numbers, how many they are, and the first three numbers. Assumes nothing.
+use mathlib.Core.Path.{_≡_, refl, sym, ap, _∙_}
+use mathlib.Core.Bool.{Bool, true, false, cond, _&&_}
+use mathlib.Core.List.{List, [], _∷_}
+use Prim.Native.Nat.{ℕ, zero, suc, _+_, _≤_, _<_}
+use native.Mathlib.Omega.{arith}
+use borrow.Author.Tests.{eq-eqb, ne-eqb}
+use lib.Dec.{eqb}
+use lib.ListN.{length}
+use Rattle.text.specs.Text.{value}
+use Rattle.command.specs.declared.scan.Scan.{Scan}
+use Rattle.command.specs.Lines.{wordAt, isNumber, numberIn, allNumbers}
+use Rattle.command.specs.Inner.{wordFrom, wordsAfter, noted, withWord, scanned}
+use Rattle.command.proofs.WordLaws.{part, word-part, word-after, end-word, rest-none, rest-word}
+
+-- a scan by its five parts
+abbrev scan : Bool → ℕ → ℕ → ℕ → ℕ → Scan
+scan good count first second third = record { good = good; count = count; first = first; second = second; third = third }
+
+same-scan : {g h : Bool} {m n a b d e x y : ℕ} → g ≡ h → m ≡ n → a ≡ b → d ≡ e → x ≡ y → scan g m a d x ≡ scan h n b e y
+same-scan p q r s t = λ i. scan (p i) (q i) (r i) (s i) (t i)
+
+-- no word yet
+abbrev pub noWords : Scan
+noWords = scan true 0 0 0 0
+
+-- more words
+abbrev pub scanFrom : Scan → List (List ℕ) → Scan
+scanFrom s [] = s
+scanFrom s (w ∷ words) = scanFrom (withWord s w) words
+
+pub all-cons : (w : List ℕ) (words : List (List ℕ)) → allNumbers (w ∷ words) ≡ isNumber w && allNumbers words
+unfolding allNumbers
+all-cons w words = refl
+
+pub all-none : allNumbers [] ≡ true
+unfolding allNumbers
+all-none = refl
+
+pub number-none : numberIn [] ≡ 0
+unfolding numberIn isNumber
+number-none = refl
+
+and-one : (a : Bool) → a && true ≡ a
+and-one true = refl
+and-one false = refl
+
+and-assoc : (a b d : Bool) → (a && b) && d ≡ a && (b && d)
+and-assoc true b d = refl
+and-assoc false b d = refl
+
+-- the first three numbers stay
+later : (g : Bool) (n a b d : ℕ) (words : List (List ℕ)) → 3 ≤ n → scanFrom (scan g n a b d) words ≡ scan (g && allNumbers words) (n + length words) a b d
+later g n a b d [] h = same-scan (sym (ap (λ t. g && t) all-none ∙ and-one g)) (omega arith) refl refl refl
+later g n a b d (w ∷ words) h =
+    let t₀ : eqb n 0 ≡ false = ne-eqb n 0 (λ e. omega arith) in
+    let t₁ : eqb n 1 ≡ false = ne-eqb n 1 (λ e. omega arith) in
+    let t₂ : eqb n 2 ≡ false = ne-eqb n 2 (λ e. omega arith) in
+    ap (λ s. scanFrom s words)
+    (same-scan {g = g && isNumber w} {m = n + 1} refl refl (ap (λ t. cond t (numberIn w) a) t₀) (ap (λ t. cond t (numberIn w) b) t₁) (ap (λ t. cond t (numberIn w) d) t₂))
+    ∙ later (g && isNumber w) (n + 1) a b d words (omega arith)
+    ∙ same-scan (and-assoc g (isNumber w) (allNumbers words) ∙ ap (λ t. g && t) (sym (all-cons w words))) (omega arith) refl refl refl
+
+-- all words, one after the other
+pub scan-all : (words : List (List ℕ)) → scanFrom noWords words ≡ scanned words
+scan-all [] = same-scan (sym all-none) refl (sym number-none) (sym number-none) (sym number-none)
+scan-all (a ∷ []) =
+    same-scan (sym (all-cons a [] ∙ ap (λ t. isNumber a && t) all-none ∙ and-one (isNumber a))) refl refl (sym number-none) (sym number-none)
+scan-all (a ∷ b ∷ []) =
+    same-scan
+    (sym (all-cons a (b ∷ []) ∙ ap (λ t. isNumber a && t) (all-cons b [] ∙ ap (λ t. isNumber b && t) all-none ∙ and-one (isNumber b))))
+    refl
+    refl
+    refl
+    (sym number-none)
+scan-all (a ∷ b ∷ d ∷ words) =
+    later ((isNumber a && isNumber b) && isNumber d) 3 (numberIn a) (numberIn b) (numberIn d) words (omega arith)
+    ∙ same-scan
+    (and-assoc (isNumber a && isNumber b) (isNumber d) (allNumbers words) ∙ and-assoc (isNumber a) (isNumber b) (isNumber d && allNumbers words)
+    ∙ sym (all-cons a (b ∷ d ∷ words) ∙ ap (λ t. isNumber a && t) (all-cons b (d ∷ words) ∙ ap (λ t. isNumber b && t) (all-cons d words))))
+    (omega arith)
+    refl
+    refl
+    refl
+
+-- Along the line
+
+-- the words before an index, at which one ends, are noted
+pub record Scanned (line : List ℕ) (from : ℕ) (words : Scan) (at : ℕ) : Type 0 where
+  pub few : words .count ≤ at
+  pub ends : length (wordFrom line at) ≡ 0
+  pub rest : scanFrom words (wordsAfter line at) ≡ scanned (wordsAfter line from)
+
+pub scan-start : (line : List ℕ) (from : ℕ) → length (wordFrom line from) ≡ 0 → Scanned line from noWords from
+scan-start line from e = record { few = omega arith; ends = e; rest = scan-all (wordsAfter line from) }
+
+pub scan-more : {line : List ℕ} {from : ℕ} {words : Scan} {at : ℕ} (end : ℕ) (next : Scan) → Scanned line from words at → at < length line
+    → end ≡ at + 1 + length (wordFrom line (at + 1)) → next ≡ withWord words (part (at + 1) end line) → Scanned line from next end
+scan-more {line} {from} {words} {at} end next s h e n =
+    let word : part (at + 1) end line ≡ wordFrom line (at + 1) = word-part line (at + 1) end e in
+    let step : next ≡ withWord words (wordFrom line (at + 1)) = n ∙ ap (withWord words) word in
+    record {
+      few = omega (arith, ap (λ (x : Scan). x .count) step, s .few);
+      ends = end-word line (at + 1) end e;
+      rest = ap (λ x. scanFrom x (wordsAfter line end)) step ∙ ap (scanFrom words) (sym (rest-word line at end h (s .ends) e)) ∙ s .rest;
+    }
+
+pub scan-end : {line : List ℕ} {from : ℕ} {words : Scan} {at : ℕ} → Scanned line from words at → length line ≤ at → words ≡ scanned (wordsAfter line from)
+scan-end {line} {from} {words} {at} s h = sym (ap (scanFrom words) (rest-none line at h)) ∙ s .rest
+
+-- One word
+
+-- a number, and another word
+pub noted-number : (s : Scan) (word : List ℕ) (n : ℕ) → isNumber word ≡ true → n ≡ numberIn word → noted s (s .good) n ≡ withWord s word
+noted-number s word n t e = ap (noted s (s .good)) e ∙ ap (λ b. noted s b (numberIn word)) (sym (ap (λ b. s .good && b) t ∙ and-one (s .good)))
+
+pub noted-other : (s : Scan) (word : List ℕ) → isNumber word ≡ false → 0 ≡ numberIn word → noted s false 0 ≡ withWord s word
+noted-other s word t e = ap (noted s false) e ∙ ap (λ b. noted s b (numberIn word)) (sym (ap (λ b. s .good && b) t ∙ and-zero (s .good)))
+  where
+    and-zero : (a : Bool) → a && false ≡ false
+    and-zero true = refl
+    and-zero false = refl
+
+pub noted-parts : (s : Scan) (good : Bool) (n : ℕ) {a b d : ℕ} → a ≡ cond (eqb (s .count) 0) n (s .first) → b ≡ cond (eqb (s .count) 1) n (s .second)
+    → d ≡ cond (eqb (s .count) 2) n (s .third) → scan good (s .count + 1) a b d ≡ noted s good n
+noted-parts s good n p q r = same-scan refl refl p q r

@@ -1,0 +1,83 @@
+-- `command::scan::latencies_after` meets its contract. Assumes nothing.
+use mathlib.Core.Path.{_∙_}
+use Prim.Native.Nat.{_-_}
+use native.Mathlib.Omega.{arith}
+use lib.ListN.{length}
+use Rattle.command.proofs.WordLaws.{word-inside}
+use Rattle.command.proofs.FillLaws.{Filled, fill-start, fill-length, fill-more, fill-end, fill-full}
+use borrow.Author.Needs.{needs}
+use Rattle.command.proofs.scan.latencies_after.Statement.{statement}
+use Rattle.command.proofs.scan.latencies_after.Tie as tie
+
+abbrev Inv-loop : tie.InvT-loop
+Inv-loop line from cycle₀ count₀ at₀ cycle count at = Filled line from cycle₀ cycle count at
+
+abbrev μ-loop : tie.MeasureT-loop
+μ-loop line from cycle₀ count₀ at₀ cycle count at = length line - at
+
+loop-holds : tie.Need-loop-holds Inv-loop μ-loop
+loop-holds c = fill-start _ _ _ (c .before .before .pre)
+
+same-length : tie.Need-same-length Inv-loop μ-loop
+same-length c = fill-length (c .before .before .loop .inv)
+
+returns : tie.Need-returns Inv-loop μ-loop
+returns c = let l = c .before .before in fill-full (l .loop .inv) (c .if1 .taken ∙ fill-length (l .loop .inv))
+
+add-start : tie.Need-add-start Inv-loop μ-loop
+add-start c = search needs
+
+word-end-requires : tie.Need-word-end-requires Inv-loop μ-loop
+word-end-requires c κs = search needs
+
+sub-latency-of : tie.Need-sub-latency-of Inv-loop μ-loop
+sub-latency-of c = search needs
+
+part-latency-of-start : tie.Need-part-latency-of-start Inv-loop μ-loop
+part-latency-of-start c = search needs
+
+part-latency-of-end : tie.Need-part-latency-of-end Inv-loop μ-loop
+part-latency-of-end c = word-inside _ _ _ (c .word-end .ensures) (omega arith)
+
+latency-of-requires : tie.Need-latency-of-requires Inv-loop μ-loop
+latency-of-requires c κs = search needs
+
+slice-write-cycle : tie.Need-slice-write-cycle Inv-loop μ-loop
+slice-write-cycle c = let f = c .before .before .before .before .before .loop .inv in omega (arith, fill-length f, f .room, c .before .before .before .if1 .left)
+
+add-count : tie.Need-add-count Inv-loop μ-loop
+add-count c = search needs
+
+loop-less : tie.Need-loop-less Inv-loop μ-loop
+loop-less c = omega (arith, c .before .before .word-end .ensures)
+
+loop-again : tie.Need-loop-again Inv-loop μ-loop
+loop-again c = let e = c .before .before in let i = e .before in let l = i .before in let f = l .before .loop .inv in fill-more _ _ f (l .loop-test .taken) (omega (arith, fill-length f, f .room, i .if1 .left)) (e .word-end .ensures) (c .latency-of .ensures)
+
+same-length-2 : tie.Need-same-length-2 Inv-loop μ-loop
+same-length-2 c = fill-length (c .before .loop .inv)
+
+returns-2 : tie.Need-returns-2 Inv-loop μ-loop
+returns-2 c = fill-end (c .before .loop .inv) (c .loop-test .left)
+
+pub latencies-after-spec : {M : Type 1} → statement M
+latencies-after-spec =
+    tie.close
+    (tie.spec
+    Inv-loop
+    μ-loop
+    loop-holds
+    same-length
+    returns
+    add-start
+    word-end-requires
+    sub-latency-of
+    part-latency-of-start
+    part-latency-of-end
+    latency-of-requires
+    slice-write-cycle
+    add-count
+    loop-less
+    loop-again
+    same-length-2
+    returns-2)

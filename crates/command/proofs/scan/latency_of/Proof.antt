@@ -1,0 +1,41 @@
+-- `command::scan::latency_of` meets its contract. Assumes nothing.
+use mathlib.Core.Path.{_∙_, sym, ap}
+use borrow.Author.Needs.{needs}
+use borrow.Author.Tests.{lt-ltb, le-ltb}
+use Rattle.command.specs.Lines.{narrow}
+use Rattle.command.proofs.NumberLaws.{number-told, other-told}
+use Rattle.command.proofs.scan.latency_of.Statement.{statement}
+use Rattle.command.proofs.scan.latency_of.Tie as tie
+
+number-of-requires : tie.Need-number-of-requires
+number-of-requires c κs = search needs
+
+enum-known-number : tie.Need-enum-known-number
+enum-known-number c = search needs
+
+enum-told : tie.Need-enum-told
+enum-told c = search needs
+
+returns : tie.Need-returns
+returns c = ap narrow (other-told _ (sym (c .enum-told .given .1) ∙ c .before .before .number-of .ensures) .1)
+
+cast-result : tie.Need-cast-result
+cast-result c = search needs
+
+returns-2 : tie.Need-returns-2
+returns-2 c = let n = c .before .before in rw (← number-told _ _ (sym (n .number .given .1) ∙ n .before .before .number-of .ensures) .1, lt-ltb _ _ (c .if1 .taken))
+
+returns-3 : tie.Need-returns-3
+returns-3 c = let n = c .before .before in rw (← number-told _ _ (sym (n .number .given .1) ∙ n .before .before .number-of .ensures) .1, le-ltb _ _ (c .if1 .left))
+
+pub latency-of-spec : {M : Type 1} → statement M
+latency-of-spec =
+    tie.close
+    (tie.spec
+    number-of-requires
+    enum-known-number
+    enum-told
+    returns
+    cast-result
+    returns-2
+    returns-3)

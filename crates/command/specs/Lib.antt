@@ -1,0 +1,3 @@
+pub mod Verbs
+pub mod Lines
+pub mod Inner

@@ -1,0 +1,157 @@
+// Words of a line, and the numbers that they say.
+ghost use mathlib.Core.Path.{_≡_};
+ghost use mathlib.Core.Bool.{cond};
+ghost use Prim.Native.Nat.{_+_, _≤_, _<_, min};
+ghost use lib.Dec.{eqb};
+ghost use lib.ListN.{length};
+ghost use Rattle.command.specs.Lines.{numberIn, narrow, inFront};
+ghost use Rattle.command.specs.Inner.{wordFrom, wordsAfter, numeral, noted, withWord, scanned, narrowed};
+
+// Whether all words are numbers, how many they are, and the first three numbers, 0 where there is none.
+pub struct Scan {
+    pub good: bool,
+    pub count: usize,
+    pub first: u32,
+    pub second: u32,
+    pub third: u32,
+}
+
+// The number that a word says, if it says one.
+pub enum Numeral {
+    Number(u32),
+    Other,
+}
+
+// The index at which the word from an index on ends: that of the next space, or of the line's end.
+pub fn word_end(line: &[u8], from: usize) -> usize
+    requires { ⌜ from ≤ length (now line) ⌝ }
+    ensures { λ r. ⌜ r ≡ from + length (wordFrom (now (line .entry)) from) ⌝ }
+{
+    let mut at = from;
+    while at < line.len() {
+        if line[at] == 32 {
+            return at;
+        }
+        at += 1;
+    }
+    at
+}
+
+// The number that a word says: one or more digits, and not above 4294967295. The digits so far say no more than all of them.
+fn number_of(word: &[u8]) -> Numeral
+    ensures { λ r. ⌜ r ≡ numeral (now (word .entry)) ⌝ }
+{
+    if word.len() == 0 {
+        return Numeral::Other;
+    }
+    let mut number: u64 = 0;
+    let mut i = 0;
+    while i < word.len() {
+        let byte = word[i];
+        if byte < 48 {
+            return Numeral::Other;
+        }
+        if 57 < byte {
+            return Numeral::Other;
+        }
+        number = number * 10 + (byte - 48) as u64;
+        if 4294967295 < number {
+            return Numeral::Other;
+        }
+        i += 1;
+    }
+    Numeral::Number(number as u32)
+}
+
+// The number at a place among the first three: that of the word that comes there, or the one that is there already.
+fn at_place(count: usize, place: usize, number: u32, old: u32) -> u32
+    ensures { λ r. ⌜ r ≡ cond (eqb count place) number old ⌝ }
+{
+    if count == place {
+        return number;
+    }
+    old
+}
+
+// One number more.
+fn note(words: Scan, good: bool, number: u32) -> Scan
+    requires { ⌜ words .count < 18446744073709551615 ⌝ }
+    ensures { λ r. ⌜ r ≡ noted words good number ⌝ }
+{
+    let count = words.count;
+    Scan {
+        good: good,
+        count: count + 1,
+        first: at_place(count, 0, number, words.first),
+        second: at_place(count, 1, number, words.second),
+        third: at_place(count, 2, number, words.third),
+    }
+}
+
+// One word more.
+fn with_word(words: Scan, word: &[u8]) -> Scan
+    requires { ⌜ words .count < 18446744073709551615 ⌝ }
+    ensures { λ r. ⌜ r ≡ withWord words (now (word .entry)) ⌝ }
+{
+    let numeral = number_of(word);
+    match numeral {
+        Numeral::Number(number) => note(words, words.good, number),
+        Numeral::Other => note(words, false, 0),
+    }
+}
+
+// The words after the one that ends at an index.
+pub fn scan_words(line: &[u8], from: usize) -> Scan
+    requires { ⌜ length (wordFrom (now line) from) ≡ 0 ⌝ }
+    ensures { λ r. ⌜ r ≡ scanned (wordsAfter (now (line .entry)) from) ⌝ }
+{
+    let mut words = Scan {
+        good: true,
+        count: 0,
+        first: 0,
+        second: 0,
+        third: 0,
+    };
+    let mut at = from;
+    while at < line.len() {
+        let start = at + 1;
+        let end = word_end(line, start);
+        words = with_word(words, &line[start..end]);
+        at = end;
+    }
+    words
+}
+
+// The number that a word says as a byte: 0 where it is too large for one, or where the word says none.
+fn latency_of(word: &[u8]) -> u8
+    ensures { λ r. ⌜ r ≡ narrow (numberIn (now (word .entry))) ⌝ }
+{
+    let Numeral::Number(number) = number_of(word) else {
+        return 0;
+    };
+    if number < 256 {
+        return number as u8;
+    }
+    0
+}
+
+// The latencies in the words after the one that ends at an index, as many as there is room for.
+pub fn latencies_after(line: &[u8], from: usize, cycle: &mut [u8]) -> usize
+    requires { ⌜ length (wordFrom (now line) from) ≡ 0 ⌝ }
+    ensures { λ r. ⌜ r ≡ min (length (narrowed (wordsAfter (now (line .entry)) from))) (length (now (cycle .entry))) ⌝ }
+    ensures { λ _. ⌜ now (cycle .exit) ≡ inFront (narrowed (wordsAfter (now (line .entry)) from)) (now (cycle .entry)) ⌝ }
+{
+    let mut count = 0;
+    let mut at = from;
+    while at < line.len() {
+        if count == cycle.len() {
+            return count;
+        }
+        let start = at + 1;
+        let end = word_end(line, start);
+        cycle[count] = latency_of(&line[start..end]);
+        count += 1;
+        at = end;
+    }
+    count
+}

@@ -1,0 +1,4 @@
+mod JudgeLaws
+mod LineLaws
+mod SessionLaws
+mod TurnLaws

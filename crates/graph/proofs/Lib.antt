@@ -1,0 +1,4 @@
+pub mod AnswerLaws
+pub mod BoldLaws
+mod DotLaws
+mod Examples

@@ -1,0 +1,4 @@
+pub mod ReplyLaws
+pub mod TurnLaws
+pub mod PlayLaws
+pub mod PlayedLaws

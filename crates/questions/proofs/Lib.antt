@@ -1,0 +1,5 @@
+mod Examples
+mod GreedyLaws
+mod ReplyLaws
+mod StatesLaws
+mod WidthLaws

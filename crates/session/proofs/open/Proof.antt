@@ -1,0 +1,15 @@
+-- `session::open` meets its contract. Assumes nothing.
+use Rattle.unit.specs.Calls.{freshOf}
+use borrow.Author.Needs.{needs}
+use Rattle.session.proofs.open.Statement.{statement}
+use Rattle.session.proofs.open.Tie as tie
+
+fresh-requires : tie.Need-fresh-requires
+fresh-requires c κs = search needs
+
+returns : tie.Need-returns
+unfolding freshOf
+returns c = rw (c .before .fresh .ensures)
+
+pub open-spec : {M : Type 1} → statement M
+open-spec = tie.close (tie.spec fresh-requires returns)

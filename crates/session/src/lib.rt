@@ -1,0 +1,135 @@
+// A designer's session: the unit and the bank that commands work on; how it opens, and how a fresh unit or one from a file is taken into it.
+// Every public function here is proved, total and without a `requires`.
+ghost use mathlib.Core.Path.{_≡_};
+ghost use Prim.Native.Nat.{_≤_};
+ghost use lib.ListN.{length};
+ghost use Rattle.text.specs.Wrote.{Wrote};
+ghost use Rattle.unit_file.specs.Read.{readOf};
+ghost use Rattle.listing.specs.Lines.{refusedLine};
+ghost use Rattle.command.specs.Lines.{narrow};
+ghost use Rattle.session.specs.Sessions.{opening, taken, answerLine, Line, freshAsked, Made};
+ghost use Rattle.session.specs.Inner.{Gives};
+use command::Request;
+use controller::Bank;
+use unit::Answer;
+use unit::FunctionUnit;
+use unit::Outcome;
+use unit::Refusal;
+
+// Whether there is a unit, the unit, and the bank.
+pub struct Session {
+    pub present: bool,
+    pub unit: FunctionUnit,
+    pub bank: Bank,
+}
+
+// The session after a command, and how many bytes the answer has.
+pub struct Reply {
+    pub session: Session,
+    pub end: usize,
+}
+
+// A session without a unit.
+pub fn open() -> Session
+    ensures { λ r. ⌜ r ≡ opening ⌝ }
+{
+    let made = unit::fresh(0, 0, 0);
+    let unit = made.unit;
+    let bank = Bank {
+        r1: 0,
+        r2: 0,
+        r3: 0,
+        r4: 0,
+    };
+    Session {
+        present: false,
+        unit,
+        bank,
+    }
+}
+
+// A number too large for a byte becomes 0, which is no count, no tag, no segment and no column.
+pub fn byte(number: u32) -> u8
+    ensures { λ r. ⌜ r ≡ narrow number ⌝ }
+{
+    if number < 256 {
+        return number as u8;
+    }
+    0
+}
+
+// Lines that answer
+
+// `refused` and the number of the refusal.
+fn write_refused(line: &mut [u8], why: Refusal) -> usize
+    requires { ⌜ 64 ≤ length (now line) ⌝ }
+    ensures { λ r. ⌜ Wrote (now (line .entry)) 0 (refusedLine why) (now (line .exit)) r ⌝ }
+{
+    let after_word = text::put(line, 0, b"refused ");
+    let after_number = text::put_number(line, after_word, unit::number(why) as u32);
+    text::put(line, after_number, b"\n")
+}
+
+fn put_refused(out: &mut [u8], why: Refusal) -> usize
+    ensures { λ r. ⌜ Line (refusedLine why) (now (out .entry)) (now (out .exit)) r ⌝ }
+{
+    let mut line = [0u8; 64];
+    let end = write_refused(&mut line, why);
+    text::put(out, 0, &line[..end])
+}
+
+// `ok`, or `refused` and the number.
+pub fn put_answer(out: &mut [u8], answer: Answer) -> usize
+    ensures { λ r. ⌜ Line (answerLine answer) (now (out .entry)) (now (out .exit)) r ⌝ }
+{
+    match answer {
+        Answer::Done => text::put(out, 0, b"ok\n"),
+        Answer::Refused(why) => put_refused(out, why),
+    }
+}
+
+// Takes the unit that was made, with an empty bank; where none was made the session stays.
+fn take_unit(session: Session, made: Outcome, out: &mut [u8]) -> Reply
+    ensures { λ r. ⌜ Gives (answerLine (made .answer)) (λ after. after ≡ taken session (made .answer) (made .unit)) (now (out .entry)) (now (out .exit)) r ⌝ }
+{
+    let answer = made.answer;
+    let end = put_answer(out, answer);
+    match answer {
+        Answer::Refused(_) => Reply { session, end },
+        Answer::Done => {
+            let unit = made.unit;
+            let bank = Bank {
+                r1: 0,
+                r2: 0,
+                r3: 0,
+                r4: 0,
+            };
+            let next = Session {
+                present: true,
+                unit,
+                bank,
+            };
+            Reply { session: next, end }
+        }
+    }
+}
+
+// A unit of three counts, without marks.
+pub fn fresh(session: Session, request: Request, out: &mut [u8]) -> Reply
+    ensures { λ r. ⌜ Made session (freshAsked request) (now (out .entry)) (now (out .exit)) r ⌝ }
+{
+    let made = unit::fresh(
+        byte(request.first),
+        byte(request.second),
+        byte(request.third),
+    );
+    take_unit(session, made, out)
+}
+
+// The unit of a file that was read.
+pub fn load(session: Session, file: &[u8], out: &mut [u8]) -> Reply
+    ensures { λ r. ⌜ Made session (readOf (now (file .entry))) (now (out .entry)) (now (out .exit)) r ⌝ }
+{
+    let made = unit_file::read(file);
+    take_unit(session, made, out)
+}

@@ -1,0 +1,364 @@
+//! The program's output held against the answers that were worked out before: byte by byte, but for the best cycles, of which the paper
+//! leaves free which one is handed out. A plan that was shown once is known from then on.
+
+use crate::console_folder::Folder;
+use crate::console_model::*;
+use crate::console_program::Ending;
+use crate::console_script::Script;
+use crate::model::*;
+use std::collections::{BTreeMap, HashMap, HashSet};
+use std::ops::Range;
+
+/// What a program did: what it wrote, how it ended and what its folder holds after it.
+pub struct Run {
+    pub output: Vec<u8>,
+    pub ending: Ending,
+    /// Where each line waits for the answer to the one before: the first line that was not answered.
+    pub unanswered: Option<usize>,
+    pub folder: Folder,
+}
+
+/// The first difference: the line at which it shows (one more than the lines where it shows after all of them), and a text of several
+/// lines.
+#[derive(Debug)]
+pub struct Difference {
+    pub line: usize,
+    pub why: String,
+}
+
+// ---------------------------------------------------------------------------------------------------------------------------------
+// Counts
+
+/// How often each sort of answer and each special case was met.
+#[derive(Default)]
+pub struct Counts {
+    pub lines: usize,
+    sorts: BTreeMap<Sort, u64>,
+    met: BTreeMap<&'static str, u64>,
+}
+
+/// The refusals and the words that each command can answer with. Besides, each can be told what was expected.
+const ANSWERS: [(&str, &[u32], &[&str]); 21] = [
+    ("fresh", &[1], &["ok"]),
+    ("mark", &[2, 3, 4], &["ok", "no unit"]),
+    ("unmark", &[2, 3, 4], &["ok", "no unit"]),
+    ("search", &[2, 7], &["ok", "no unit"]),
+    ("read", &[8], &["ok", "no unit"]),
+    ("vector", &[2], &["ok", "no unit"]),
+    ("row", &[2], &["ok", "no unit"]),
+    ("states", &[2, 7], &["ok", "no unit"]),
+    ("greedy", &[2, 7], &["ok", "no unit"]),
+    ("bound", &[2], &["ok", "no unit"]),
+    ("upper", &[2], &["ok", "no unit"]),
+    ("constant", &[2], &["ok", "no unit"]),
+    ("judge", &[2, 9], &["yes", "no", "no unit"]),
+    ("tick", &[], &["ok", "no unit"]),
+    ("start", &[2, 10], &["ok", "no unit"]),
+    ("bank", &[], &["ok", "no unit"]),
+    ("load", &[1, 11, 12, 13], &["ok", "no file"]),
+    ("save", &[], &["ok", "not written", "no unit"]),
+    ("list", &[], &["ok", "no unit"]),
+    ("table", &[2], &["ok", "no unit"]),
+    ("diagram", &[2, 7], &["ok", "no unit"]),
+];
+
+const OTHERS: [(Sort, &str); 4] =
+    [(Sort::ExpectedCommand, "expected a command"), (Sort::TooLong, "too long"), (Sort::Empty, "empty lines"), (Sort::Comment, "comments")];
+
+impl Counts {
+    pub fn meet(&mut self, what: &'static str) {
+        debug_assert!(WANTED.contains(&what), "{what}");
+        *self.met.entry(what).or_default() += 1;
+    }
+
+    fn line(&mut self, answer: &Answer) {
+        self.lines += 1;
+        *self.sorts.entry(answer.sort.clone()).or_default() += 1;
+        for what in &answer.met {
+            self.meet(what);
+        }
+    }
+
+    /// Every sort of answer, in the order of the table, with how often it was met.
+    fn table(&self) -> Vec<(Sort, String, u64)> {
+        let mut rows = Vec::new();
+        for (name, refusals, words) in ANSWERS {
+            for told in words.iter().map(|word| word.to_string()).chain(refusals.iter().map(|number| format!("refused {number}"))) {
+                let label = format!("{name} {}", told.replace("refused ", "refused by "));
+                rows.push((Sort::Of(name, told), label));
+            }
+            rows.push((Sort::Of(name, "expected".to_string()), format!("{name} not as expected")));
+        }
+        rows.extend(OTHERS.map(|(sort, label)| (sort, label.to_string())));
+        rows.into_iter().map(|(sort, label)| (sort.clone(), label, self.sorts.get(&sort).copied().unwrap_or(0))).collect()
+    }
+
+    /// What should have been met and was not.
+    pub fn gaps(&self) -> Vec<String> {
+        let never = self.table().into_iter().filter(|row| row.2 == 0).map(|row| row.1);
+        never.chain(WANTED.iter().filter(|what| !self.met.contains_key(*what)).map(|what| what.to_string())).collect()
+    }
+
+    /// One line: for each command what it answered and how often, a refusal by its number in brackets; then the other lines.
+    pub fn told(&self) -> String {
+        let mut parts: Vec<String> = Vec::new();
+        for (sort, label, count) in self.table() {
+            let Sort::Of(name, told) = sort else {
+                parts.push(format!("; {label} {count}"));
+                continue;
+            };
+            if told == "ok" || told == "yes" {
+                parts.push(format!("; {name}"));
+            }
+            parts.push(match told.strip_prefix("refused ") {
+                Some(number) => format!(" ({number}) {count}"),
+                None => format!(" {told} {count}"),
+            });
+        }
+        format!("{} lines{}", self.lines, parts.concat())
+    }
+
+    /// The special cases, one a line.
+    pub fn special(&self) -> String {
+        WANTED.iter().map(|what| format!("{:>7}  {what}\n", self.met.get(what).copied().unwrap_or(0))).collect()
+    }
+}
+
+// ---------------------------------------------------------------------------------------------------------------------------------
+// One run beside its script
+
+/// Reads the output from its beginning.
+struct Reader<'a> {
+    output: &'a [u8],
+    at: usize,
+    /// The plans that were shown, by the number of their search.
+    plans: HashMap<usize, Vec<u8>>,
+    yard: Yard,
+    counts: &'a mut Counts,
+}
+
+impl Reader<'_> {
+    /// Goes on by a text, or as far as the output agrees with it.
+    fn take(&mut self, text: &str) -> Result<(), String> {
+        let alike = self.output[self.at..].iter().zip(text.as_bytes()).take_while(|(found, expected)| found == expected).count();
+        self.at += alike;
+        if alike < text.len() {
+            return Err(String::new());
+        }
+        Ok(())
+    }
+
+    fn takes(&mut self, text: &str) -> bool {
+        let stands = self.output[self.at..].starts_with(text.as_bytes());
+        if stands {
+            self.at += text.len();
+        }
+        stands
+    }
+
+    fn part(&mut self, part: &Part) -> Result<(), String> {
+        match part {
+            Part::Text(text) => self.take(text),
+            Part::Best(drawn) => self.cycle().and_then(|cycle| drawn.check_best(&cycle, &mut self.yard)),
+            Part::Plan(search, drawn) => {
+                let cycle = self.cycle()?;
+                self.plan(*search, drawn, cycle)
+            }
+            Part::Drawing(search, tag, drawn) => self.drawing(*search, *tag, drawn),
+        }
+    }
+
+    /// Latencies and sum up to the end of the line, written as they have to be.
+    fn cycle(&mut self) -> Result<Cycle, String> {
+        let rest = &self.output[self.at..];
+        let line = &rest[..rest.iter().position(|byte| *byte == b'\n').unwrap_or(rest.len())];
+        let no_cycle = || "no latencies and sum".to_string();
+        let text = std::str::from_utf8(line).map_err(|_| no_cycle())?;
+        let (list, sum) = text.split_once(" sum ").ok_or_else(no_cycle)?;
+        let latencies: Vec<u8> = list.split(' ').map(|word| word.parse().ok()).collect::<Option<_>>().ok_or_else(no_cycle)?;
+        let sum: u32 = sum.parse().map_err(|_| no_cycle())?;
+        let words: Vec<String> = latencies.iter().map(|latency| latency.to_string()).collect();
+        if format!("{} sum {sum}", words.join(" ")) != text {
+            return Err("numbers with something besides digits, or with zeros in front".to_string());
+        }
+        self.at += line.len();
+        Ok(Cycle { latencies, sum })
+    }
+
+    /// A plan that is shown: a best cycle, and the same as it was before.
+    fn plan(&mut self, search: usize, drawn: &Drawn, cycle: Cycle) -> Result<(), String> {
+        drawn.check_best(&cycle, &mut self.yard)?;
+        if cycle.sum > 255 {
+            self.counts.meet("a plan with a sum above 255");
+        }
+        if cycle.latencies.len() > 1 {
+            self.counts.meet("a plan of two or more latencies");
+        }
+        let known = self.plans.entry(search).or_insert_with(|| cycle.latencies.clone());
+        if *known != cycle.latencies {
+            return Err(format!("the plan was {} before", cycle_text(known)));
+        }
+        Ok(())
+    }
+
+    /// "Arcs are bold exactly where the unit has a plan of that tag and the arc is one that the plan's cycle runs along in the diagram."
+    fn drawing(&mut self, search: usize, tag: u32, drawn: &Drawn) -> Result<(), String> {
+        let known = self.plans.get(&search).map(|latencies| {
+            let course = drawn.graph.course(latencies).expect("a cycle of the diagram");
+            course.into_iter().collect::<HashSet<_>>()
+        });
+        self.take(&drawing_begin(tag))?;
+        let mut bold = Vec::new();
+        for (line, state, latency) in drawn.graph.arc_lines() {
+            let begin = self.at;
+            self.take(&line)?;
+            let is = self.takes(BOLD);
+            self.take(ARC_END)?;
+            if known.as_ref().is_some_and(|known| known.contains(&(state, latency)) != is) {
+                self.at = begin;
+                return Err(format!("the arc {} one of the plan's", if is { "is not" } else { "is" }));
+            }
+            if is {
+                bold.push((state, latency));
+            }
+        }
+        self.take(DRAWING_END)?;
+        if known.is_some() {
+            return Ok(());
+        }
+        // the plan is seen here for the first time
+        let latencies = around(&bold, &drawn.graph.diagram).ok_or("the bold arcs are no cycle")?;
+        self.plan(search, drawn, Cycle { sum: sum_of(&latencies), latencies })
+    }
+}
+
+/// The latencies of arcs that go once around a cycle and are nothing more, in the rotation that comes first.
+fn around(arcs: &[(usize, u32)], diagram: &Diagram) -> Option<Vec<u8>> {
+    let leading: HashMap<usize, u32> = arcs.iter().copied().collect();
+    let begin = arcs.first()?.0;
+    let mut latencies: Vec<u8> = Vec::new();
+    let mut state = begin;
+    while latencies.len() < arcs.len() {
+        let latency = *leading.get(&state)?;
+        latencies.push(latency as u8);
+        state = diagram.arcs[state].iter().find(|arc| arc.0 == latency)?.1;
+        if state == begin {
+            break;
+        }
+    }
+    if state != begin || latencies.len() != arcs.len() {
+        return None;
+    }
+    while !is_first_rotation(&latencies) {
+        latencies.rotate_left(1);
+    }
+    Some(latencies)
+}
+
+/// Compares a run with its script. The counts are those of the lines that agree.
+pub fn check(script: &Script, run: &Run, counts: &mut Counts) -> Result<(), Difference> {
+    let mut reader = Reader { output: &run.output, at: 0, plans: HashMap::new(), yard: Yard::new(), counts };
+    for (place, line) in (1..).zip(&script.lines) {
+        let begin = reader.at;
+        for part in &line.answer.parts {
+            if let Err(why) = reader.part(part) {
+                return Err(told(script, place, run, begin..reader.at, &reader.plans, &why));
+            }
+        }
+        if run.unanswered == Some(place) {
+            let why = "the answer is right, but it came only when no line was left to come";
+            return Err(Difference { line: place, why: format!("DIFFERENCE at line {place} of {}\n{why}", script.name) });
+        }
+        reader.counts.line(&line.answer);
+    }
+    let after = script.lines.len() + 1;
+    let end = |why: String| {
+        Err(Difference { line: after, why: format!("DIFFERENCE at line {after}, after the last, of {}\n{why}", script.name) })
+    };
+    if reader.at < run.output.len() {
+        return end(format!("left over:\n{}", shown(&run.output[reader.at..], 5)));
+    }
+    if run.ending != Ending::Status(0) {
+        return end(format!("all answers are right, but the program {}", run.ending.told()));
+    }
+    if let Some(why) = script.after.difference(&run.folder) {
+        return end(why);
+    }
+    for what in &script.met {
+        reader.counts.meet(what);
+    }
+    Ok(())
+}
+
+// ---------------------------------------------------------------------------------------------------------------------------------
+// A difference in words
+
+/// The first lines of a text, other bytes than printable ones written as escapes, and no line longer than a few hundred bytes.
+fn shown(text: &[u8], lines: usize) -> String {
+    let whole: Vec<&[u8]> = text.split_inclusive(|byte| *byte == b'\n').collect();
+    let mut parts: Vec<String> = whole.iter().take(lines).map(|line| format!("    {}", line_shown(line))).collect();
+    if whole.len() > lines {
+        parts.push(format!("    .. {} lines more", whole.len() - lines));
+    }
+    if parts.is_empty() {
+        parts.push("    nothing".to_string());
+    }
+    parts.join("\n")
+}
+
+pub fn line_shown(line: &[u8]) -> String {
+    const MOST: usize = 300;
+    let line = line.strip_suffix(b"\n").map_or_else(|| format!("{}<no newline>", cut(line)), cut);
+    fn cut(line: &[u8]) -> String {
+        let text = line[..line.len().min(MOST)].escape_ascii().to_string().replace("\\\"", "\"");
+        if line.len() > MOST {
+            return format!("{text} .. {} bytes in all", line.len());
+        }
+        text
+    }
+    line
+}
+
+/// The expected answer as text. A best cycle is free where none was shown before.
+fn expected_text(answer: &Answer, plans: &HashMap<usize, Vec<u8>>) -> String {
+    let mut text = String::new();
+    for part in &answer.parts {
+        match part {
+            Part::Text(part) => text += part,
+            Part::Best(_) => text += "<a best cycle>",
+            Part::Plan(search, _) => text += &plans.get(search).map_or("<a best cycle>".to_string(), |latencies| cycle_text(latencies)),
+            Part::Drawing(search, tag, drawn) => {
+                let course = plans.get(search).and_then(|latencies| drawn.graph.course(latencies)).unwrap_or_default();
+                text += &drawing(*tag, &drawn.graph, &course.into_iter().collect());
+            }
+        }
+    }
+    text
+}
+
+/// `agreed` is where in the output the answer begins and how far it is right.
+fn told(script: &Script, place: usize, run: &Run, agreed: Range<usize>, plans: &HashMap<usize, Vec<u8>>, why: &str) -> Difference {
+    let line = &script.lines[place - 1];
+    let expected = expected_text(&line.answer, plans);
+    let lines_of = |text: &[u8]| -> Vec<Vec<u8>> { text.split_inclusive(|byte| *byte == b'\n').map(|line| line.to_vec()).collect() };
+    let expected = lines_of(expected.as_bytes());
+    let found = &run.output[agreed.start..];
+    let found: Vec<Vec<u8>> = lines_of(found).into_iter().take(expected.len().max(1)).collect();
+    // of a long answer the lines from the first one that differs
+    let alike = run.output[agreed].iter().filter(|byte| **byte == b'\n').count();
+    let from = if expected.len() > 8 { alike } else { 0 };
+    let mut text =
+        format!("DIFFERENCE at line {place} of {}\nline:\n    {}\n", script.name, line_shown(&[&line.bytes[..], b"\n"].concat()));
+    if from > 0 {
+        text += &format!("from line {} of the answer\n", from + 1);
+    }
+    let rest = |lines: &[Vec<u8>]| shown(&lines.get(from..).unwrap_or(&[]).concat(), 8);
+    text += &format!("expected:\n{}\nfound:\n{}", rest(&expected), rest(&found));
+    if !why.is_empty() {
+        text += &format!("\nbecause: {why}");
+    }
+    if run.ending != Ending::Status(0) {
+        text += &format!("\nand the program {}", run.ending.told());
+    }
+    Difference { line: place, why: text }
+}

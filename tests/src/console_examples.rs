@@ -1,0 +1,271 @@
+//! The console's answers by hand, for the lines of its description and the paper's tables: the model has to give them before it may judge.
+
+use crate::console_check::{check, Counts, Run};
+use crate::console_folder::Folder;
+use crate::console_model::Console;
+use crate::console_program::Ending;
+use crate::console_script::{Feed, Line, Script};
+use crate::model_check;
+
+/// A session as it is to be seen: after `>` what is typed. The paper's Fig. 1 and Fig. 2, its tables "No marks" and "Marks 1 11", and the
+/// lines of the console's description.
+const EXAMPLES: &str = "\
+>tick
+no unit
+>
+># a comment
+>load missing
+no file
+>fresh 0 1 1
+refused 1
+>fresh 1 1
+line 6: expected fresh P S C
+>mark 1 1
+line 7: expected mark Q R C
+>unmark 1 1 1 1
+line 8: expected unmark Q R C
+>row 1
+line 9: expected row Q R
+>judge
+line 10: expected judge Q L L ..
+>load
+line 11: expected load FILE
+>save a b
+line 12: expected save FILE
+>search
+line 13: expected search Q
+>read 1
+line 14: expected read
+>tick\u{20}
+line 15: expected tick
+>bank  1
+line 16: expected bank
+>Tick
+line 17: expected a command
+>\u{20}tick
+line 18: expected a command
+>vector 4294967296
+line 19: expected vector Q
+>vector 4294967295
+no unit
+>fresh 1 5 9
+ok
+>mark 1 1 1
+ok
+>mark 1 1 9
+ok
+>mark 1 2 2
+ok
+>mark 1 2 3
+ok
+>mark 1 2 8
+ok
+>mark 1 3 4
+ok
+>mark 1 4 5
+ok
+>mark 1 4 6
+ok
+>mark 1 5 7
+ok
+>mark 1 5 8
+ok
+>vector 1
+vector 10110001
+>states 1
+states 5: 177 189 183 187 191
+>greedy 1
+greedy 2 2 7 sum 11
+>bound 1
+bound 3
+>upper 1
+upper 5
+>constant 1
+constant 7
+>read
+refused 8
+>search 1
+ok
+>read
+plan 1 cycle 3 4 sum 7
+>judge 1 3 4
+yes
+>judge 1 3
+no
+>judge 1
+refused 9
+>judge 1 256
+refused 9
+>judge 2
+refused 2
+>table 1
+     1  2  3  4  5  6  7  8  9
+  1  x  .  .  .  .  .  .  .  x
+  2  .  x  x  .  .  .  .  x  .
+  3  .  .  .  x  .  .  .  .  .
+  4  .  .  .  .  x  x  .  .  .
+  5  .  .  .  .  .  .  x  x  .
+>diagram 1
+digraph function_1 {
+  \"10110001\" -> \"10111101\" [label=2];
+  \"10110001\" -> \"10110111\" [label=3];
+  \"10110001\" -> \"10111011\" [label=4];
+  \"10110001\" -> \"10110001\" [label=7];
+  \"10110001\" -> \"10110001\" [label=9];
+  \"10111101\" -> \"10111111\" [label=2];
+  \"10111101\" -> \"10110001\" [label=7];
+  \"10111101\" -> \"10110001\" [label=9];
+  \"10110111\" -> \"10111011\" [label=4, style=bold];
+  \"10110111\" -> \"10110001\" [label=7];
+  \"10110111\" -> \"10110001\" [label=9];
+  \"10111011\" -> \"10110111\" [label=3, style=bold];
+  \"10111011\" -> \"10110001\" [label=7];
+  \"10111011\" -> \"10110001\" [label=9];
+  \"10111111\" -> \"10110001\" [label=7];
+  \"10111111\" -> \"10110001\" [label=9];
+}
+>list
+function 1
+vector 10110001
+bound 3 upper 5
+states 5
+greedy 2 2 7 sum 11
+best 3 4 sum 7
+constant 7
+>start 1
+ok
+>bank
+177 0 0 0
+>start 1
+refused 10
+>tick
+ok
+>bank
+88 0 0 0
+>mark 2 6 10
+refused 2
+>mark 1 6 10
+refused 3
+>mark 1 5 10
+refused 4
+>mark 256 1 1
+refused 2
+>mark 257 1 1
+refused 2
+>fresh 1 1 4294967295
+refused 1
+>read
+plan 1 cycle 3 4 sum 7
+>save missing/figure
+not written
+>save figure
+ok
+>mark 1 1 1
+ok
+>read
+refused 8
+>bank
+88 0 0 0
+>load figure
+ok
+>bank
+0 0 0 0
+>row 1 1
+row 10110001
+>fresh 02 03 0000000000000005
+ok
+>mark 1 1 1
+ok
+>mark 1 1 4
+ok
+>mark 1 2 2
+ok
+>mark 1 3 3
+ok
+>mark 1 3 5
+ok
+>mark 2 1 2
+ok
+>mark 2 1 5
+ok
+>mark 2 2 4
+ok
+>mark 2 3 1
+ok
+>mark 2 3 3
+ok
+>row 1 1
+row 0110
+>row 2 1
+row 1010
+>row 1 2
+row 1011
+>row 2 2
+row 0110
+>row 1 3
+refused 2
+>fresh 1 1 1
+ok
+>vector 1
+vector -
+>row 1 1
+row -
+>states 1
+states 1: 0
+>diagram 1
+digraph function_1 {
+  \"-\" -> \"-\" [label=1];
+}
+>search 1
+ok
+>diagram 1
+digraph function_1 {
+  \"-\" -> \"-\" [label=1, style=bold];
+}
+>read
+plan 1 cycle 1 sum 1
+>fresh 1 1 11
+ok
+>mark 1 1 1
+ok
+>mark 1 1 11
+ok
+>search 1
+refused 7
+>states 1
+refused 7
+>greedy 1
+refused 7
+>diagram 1
+refused 7
+>list
+function 1
+vector 1000000000
+bound 2 upper 2
+refused 7
+constant 3
+";
+
+/// A script of lines, with the answers that the model gives.
+fn script_of(name: &str, lines: &[&str], before: Folder) -> Script {
+    let mut console = Console::new(before.clone());
+    let answered =
+        (1..).zip(lines).map(|(place, line)| Line { bytes: line.as_bytes().to_vec(), answer: console.answer(line.as_bytes(), place) });
+    let lines = answered.collect();
+    Script { name: name.to_string(), lines, newline: true, feed: Feed::Pieces, before, after: console.shelf, met: Vec::new() }
+}
+
+/// The model's answers are those written by hand above.
+pub fn examples() -> Result<(), String> {
+    let typed: Vec<&str> = EXAMPLES.lines().filter_map(|line| line.strip_prefix('>')).collect();
+    let seen: String = EXAMPLES.lines().filter(|line| !line.starts_with('>')).map(|line| format!("{line}\n")).collect();
+    let script = script_of("the examples", &typed, Folder::default());
+    let run = Run { output: seen.into_bytes(), ending: Ending::Status(0), unanswered: None, folder: script.after.clone() };
+    check(&script, &run, &mut Counts::default()).map_err(|difference| difference.why)
+}
+
+/// The model against the paper's tables and its own definitions, and against the examples.
+pub fn check_model() -> Result<(), String> {
+    model_check::run()?;
+    examples()
+}

@@ -1,0 +1,725 @@
+//! What the console answers to each line, worked out from its description and from the paper, before the program is run.
+//!
+//! A line is taken apart by the standard library's `split` and its answer is put together from `model.rs`. Of a plan only the number of
+//! the search that made it is known here: which best cycle it holds is free, and is seen when the program first shows it.
+
+use crate::console_folder::Shelf;
+use crate::model::*;
+use std::cell::OnceCell;
+use std::collections::{HashMap, HashSet};
+use std::rc::Rc;
+
+/// "over 4,096 bytes: `line N: too long`"
+pub const LONGEST_LINE: usize = 4_096;
+
+/// Each command with what it wants after its name: `FILE` is a file's name, `..` any number of numbers, all else a number.
+pub const COMMANDS: [(&str, &str); 21] = [
+    ("fresh", " P S C"),
+    ("mark", " Q R C"),
+    ("unmark", " Q R C"),
+    ("search", " Q"),
+    ("read", ""),
+    ("vector", " Q"),
+    ("row", " Q R"),
+    ("states", " Q"),
+    ("greedy", " Q"),
+    ("bound", " Q"),
+    ("upper", " Q"),
+    ("constant", " Q"),
+    ("judge", " Q L L .."),
+    ("tick", ""),
+    ("start", " Q"),
+    ("bank", ""),
+    ("load", " FILE"),
+    ("save", " FILE"),
+    ("list", ""),
+    ("table", " Q"),
+    ("diagram", " Q"),
+];
+
+// ---------------------------------------------------------------------------------------------------------------------------------
+// What is known of a function
+
+/// A state diagram within the limit.
+pub struct Graph {
+    pub diagram: Diagram,
+    pub greedy: Vec<u8>,
+    least: OnceCell<(i64, i64)>,
+}
+
+impl Graph {
+    /// The least average of a cycle, as a sum and a count.
+    pub fn least(&self) -> (i64, i64) {
+        *self.least.get_or_init(|| self.diagram.least_average())
+    }
+
+    /// The arcs that a cycle runs along, each as a state and a latency. It is one cycle at most: the state after many turns is made by the
+    /// starts of the last turns alone, so that no two states can lead by the same latencies back to themselves.
+    pub fn course(&self, latencies: &[u8]) -> Option<Vec<(usize, u32)>> {
+        (0..self.diagram.states.len()).find_map(|begin| {
+            let mut state = begin;
+            let mut course = Vec::new();
+            for &latency in latencies {
+                course.push((state, latency as u32));
+                state = self.diagram.arcs[state].iter().find(|arc| arc.0 == latency as u32)?.1;
+            }
+            (state == begin).then_some(course)
+        })
+    }
+
+    /// The drawing's lines, one for each arc, up to where `, style=bold` may stand; with the state and the latency of the arc.
+    pub fn arc_lines(&self) -> impl Iterator<Item = (String, usize, u32)> + '_ {
+        let name = |state: usize| vector_text(&self.diagram.states[state]);
+        self.diagram.arcs.iter().enumerate().flat_map(move |(from, leading)| {
+            leading.iter().map(move |&(latency, to)| {
+                let line = format!("  \"{}\" -> \"{}\" [label={latency}", name(from), name(to));
+                (line, from, latency)
+            })
+        })
+    }
+}
+
+pub const BOLD: &str = ", style=bold";
+pub const ARC_END: &str = "];\n";
+
+pub fn drawing_begin(tag: u32) -> String {
+    format!("digraph function_{tag} {{\n")
+}
+
+pub const DRAWING_END: &str = "}\n";
+
+pub fn drawing(tag: u32, graph: &Graph, bold: &HashSet<(usize, u32)>) -> String {
+    let mut text = drawing_begin(tag);
+    for (line, state, latency) in graph.arc_lines() {
+        text += &line;
+        if bold.contains(&(state, latency)) {
+            text += BOLD;
+        }
+        text += ARC_END;
+    }
+    text + DRAWING_END
+}
+
+/// A function of at most 256 states: its marks and its diagram.
+#[derive(Clone)]
+pub struct Drawn {
+    pub spots: Rc<Vec<Spot>>,
+    pub graph: Rc<Graph>,
+}
+
+impl Drawn {
+    /// "It finds a cycle of the diagram in which no state occurs twice and whose S / K is least. The cycle is given in the rotation that
+    /// comes first"; "K and S are the cycle's own".
+    pub fn check_best(&self, cycle: &Cycle, yard: &mut Yard) -> Result<(), String> {
+        let Cycle { latencies, sum } = cycle;
+        if latencies.is_empty() || latencies.len() > MOST_LATENCIES {
+            return Err(format!("a cycle of {} latencies", latencies.len()));
+        }
+        if *sum != sum_of(latencies) {
+            return Err(format!("the sum is {}", sum_of(latencies)));
+        }
+        if !self.graph.diagram.has_cycle(latencies) {
+            return Err("no cycle of the diagram with no state twice".to_string());
+        }
+        if !is_first_rotation(latencies) {
+            return Err("another rotation comes before it".to_string());
+        }
+        if !never_collides(&self.spots, latencies, yard) {
+            return Err("the cycle collides".to_string());
+        }
+        let (least, of) = self.graph.least();
+        if least * latencies.len() as i64 != *sum as i64 * of {
+            return Err(format!("not a best cycle: the least average is {least} / {of}"));
+        }
+        Ok(())
+    }
+}
+
+struct Function {
+    spots: Rc<Vec<Spot>>,
+    vector: Vec<bool>,
+}
+
+/// Functions that were met before: many tables have the same collision vector, and so the same diagram.
+struct Book {
+    functions: HashMap<Vec<Spot>, Rc<Function>>,
+    graphs: HashMap<Vec<bool>, Option<Rc<Graph>>>,
+    yard: Yard,
+}
+
+impl Book {
+    fn function(&mut self, unit: &Unit, tag: u32) -> Rc<Function> {
+        let spots = unit.spots(tag);
+        let yard = &mut self.yard;
+        let make = |spots: &Vec<Spot>| Rc::new(Function { spots: Rc::new(spots.clone()), vector: collision_vector(spots, yard) });
+        self.functions.entry(spots).or_insert_with_key(make).clone()
+    }
+
+    /// None where there are more than 256 states.
+    fn drawn(&mut self, unit: &Unit, tag: u32) -> Option<Drawn> {
+        let function = self.function(unit, tag);
+        let make = |vector: &Vec<bool>| {
+            let diagram = diagram(vector, MOST_STATES)?;
+            Some(Rc::new(Graph { greedy: diagram.greedy(), diagram, least: OnceCell::new() }))
+        };
+        let graph = self.graphs.entry(function.vector.clone()).or_insert_with_key(make).clone()?;
+        Some(Drawn { spots: function.spots.clone(), graph })
+    }
+}
+
+// ---------------------------------------------------------------------------------------------------------------------------------
+// Answers
+
+/// An answer is text, but for what a best cycle decides.
+pub enum Part {
+    Text(String),
+    /// Latencies and sum of the plan that this search made.
+    Plan(usize, Drawn),
+    /// Latencies and sum of any best cycle.
+    Best(Drawn),
+    /// The whole drawing for this tag, with the arcs of the plan that this search made.
+    Drawing(usize, u32, Drawn),
+}
+
+/// What sort of answer a line got: a command's, which begins with its name, or that of a line that is none.
+#[derive(Clone, PartialEq, Eq, PartialOrd, Ord, Debug)]
+pub enum Sort {
+    Of(&'static str, String),
+    ExpectedCommand,
+    TooLong,
+    Empty,
+    Comment,
+}
+
+pub struct Answer {
+    pub sort: Sort,
+    pub parts: Vec<Part>,
+    /// Special cases that the line is one of.
+    pub met: Vec<&'static str>,
+}
+
+impl Answer {
+    /// How many lines it has.
+    pub fn height(&self) -> usize {
+        let height = |part: &Part| match part {
+            Part::Text(text) => text.matches('\n').count(),
+            Part::Plan(..) | Part::Best(_) => 0,
+            Part::Drawing(_, _, drawn) => drawn.graph.arc_lines().count() + 2,
+        };
+        self.parts.iter().map(height).sum()
+    }
+}
+
+fn said(text: String) -> Vec<Part> {
+    vec![Part::Text(text + "\n")]
+}
+
+/// The sort of a command's answer: `refused N`, `yes`, `no`, `no unit`, `no file`, `not written`, and else `ok`.
+fn sort_of(name: &'static str, parts: &[Part]) -> Sort {
+    let text = match &parts[0] {
+        Part::Text(text) => text.trim_end(),
+        _ => "",
+    };
+    let told = ["yes", "no", "no unit", "no file", "not written"].contains(&text) || text.starts_with("refused ");
+    Sort::Of(name, if told { text } else { "ok" }.to_string())
+}
+
+/// "A number is one or more digits 0 to 9 that say at most 4294967295; zeros in front are allowed."
+pub fn number(word: &[u8]) -> Option<u32> {
+    if word.is_empty() || !word.iter().all(|byte| byte.is_ascii_digit()) {
+        return None;
+    }
+    let digits = std::str::from_utf8(word).ok()?.trim_start_matches('0');
+    if digits.is_empty() {
+        return Some(0);
+    }
+    digits.parse().ok()
+}
+
+/// The words after a command's name, where they are what it wants.
+struct Arguments<'a> {
+    numbers: Vec<u32>,
+    file: &'a [u8],
+}
+
+fn arguments<'a>(wants: &str, words: &[&'a [u8]]) -> Option<Arguments<'a>> {
+    if wants == " FILE" {
+        return match words {
+            [file] if !file.is_empty() => Some(Arguments { numbers: Vec::new(), file }),
+            _ => None,
+        };
+    }
+    let numbers: Vec<u32> = words.iter().map(|word| number(word)).collect::<Option<_>>()?;
+    let enough = match wants.strip_suffix(" L L ..") {
+        Some(first) => numbers.len() >= first.split_whitespace().count(),
+        None => numbers.len() == wants.split_whitespace().count(),
+    };
+    enough.then_some(Arguments { numbers, file: b"" })
+}
+
+/// The plan: its tag and the number of the search that made it.
+#[derive(Clone, Copy, PartialEq, Eq)]
+pub struct Plan {
+    pub tag: u32,
+    search: usize,
+}
+
+/// What the console holds between lines.
+pub struct Console<S: Shelf> {
+    book: Book,
+    pub unit: Option<Unit>,
+    pub plan: Option<Plan>,
+    searches: usize,
+    pub bank: Bank,
+    pub shelf: S,
+    met: Vec<&'static str>,
+    /// What the line before did, for the special cases.
+    before: Before,
+    /// The search whose plan was last shown.
+    shown: usize,
+}
+
+#[derive(Clone, Copy, PartialEq, Eq)]
+enum Before {
+    RefusedFresh,
+    RefusedLoad,
+    NoFile,
+    Emptied,
+    Edited,
+    RefusedEdit,
+    RefusedSearch,
+    Bad,
+    Other,
+}
+
+fn empty_bank() -> Bank {
+    Bank::of_words(&[0; REGISTERS])
+}
+
+impl<S: Shelf> Console<S> {
+    pub fn new(shelf: S) -> Console<S> {
+        let book = Book { functions: HashMap::new(), graphs: HashMap::new(), yard: Yard::new() };
+        let before = Before::Other;
+        Console { book, unit: None, plan: None, searches: 0, bank: empty_bank(), shelf, met: Vec::new(), before, shown: 0 }
+    }
+
+    /// A console as a new process has it, which knows of the same functions.
+    pub fn again(self, shelf: S) -> Console<S> {
+        Console { book: self.book, ..Console::new(shelf) }
+    }
+
+    pub fn drawn(&mut self, tag: u32) -> Option<Drawn> {
+        let unit = self.unit.as_ref()?;
+        unit.check_tag(tag).ok()?;
+        self.book.drawn(unit, tag)
+    }
+
+    /// The answer to a line, the newline left out, which is line `place` of the input, counted from 1.
+    pub fn answer(&mut self, line: &[u8], place: usize) -> Answer {
+        self.met.clear();
+        self.meet_line(line);
+        let (sort, parts) = self.sort_and_parts(line, place);
+        let before = std::mem::replace(&mut self.before, Before::Other);
+        self.before = match &sort {
+            Sort::Of(name, said) => self.what_was_done(name, said, before),
+            Sort::ExpectedCommand | Sort::TooLong => Before::Bad,
+            Sort::Empty | Sort::Comment => before,
+        };
+        Answer { sort, parts, met: std::mem::take(&mut self.met) }
+    }
+
+    fn sort_and_parts(&mut self, line: &[u8], place: usize) -> (Sort, Vec<Part>) {
+        let expected = |what: &str| said(format!("line {place}: {what}"));
+        // "A line of more than 4,096 bytes is too long whatever it begins with."
+        if line.len() > LONGEST_LINE {
+            return (Sort::TooLong, expected("too long"));
+        }
+        // "An empty line or one that begins with `#` answers nothing."
+        if line.is_empty() {
+            return (Sort::Empty, Vec::new());
+        }
+        if line.starts_with(b"#") {
+            return (Sort::Comment, Vec::new());
+        }
+        // "Words are the parts between spaces (byte 32)"
+        let words: Vec<&[u8]> = line.split(|byte| *byte == b' ').collect();
+        let Some((name, wants)) = COMMANDS.into_iter().find(|(name, _)| name.as_bytes() == words[0]) else {
+            return (Sort::ExpectedCommand, expected("expected a command"));
+        };
+        let Some(arguments) = arguments(wants, &words[1..]) else {
+            return (Sort::Of(name, "expected".to_string()), expected(&format!("expected {name}{wants}")));
+        };
+        let parts = self.obey(name, &arguments.numbers, arguments.file);
+        (sort_of(name, &parts), parts)
+    }
+
+    fn obey(&mut self, name: &str, numbers: &[u32], file: &[u8]) -> Vec<Part> {
+        let reply = match name {
+            "fresh" => Unit::fresh(numbers[0], numbers[1], numbers[2]).map(|unit| self.take_unit(unit)),
+            "load" => match self.shelf.load(file) {
+                Some(Err(11)) if self.shelf.length(file).is_some_and(|length| length >= 1 << 32) => {
+                    self.met.push("a file longer than 2^32 bytes");
+                    Err(11)
+                }
+                None => return said("no file".to_string()),
+                Some(read) => read.map(|unit| self.take_unit(unit)),
+            },
+            // "before the first fresh every call but `load` and `fresh` answers `no unit`"
+            _ => match self.unit.take() {
+                None => return said("no unit".to_string()),
+                Some(mut unit) => {
+                    let reply = self.ask(&mut unit, name, numbers, file);
+                    self.unit = Some(unit);
+                    reply
+                }
+            },
+        };
+        reply.unwrap_or_else(|number| said(format!("refused {number}")))
+    }
+
+    /// "the bank is emptied by `fresh` and `load`", and "there is no plan".
+    fn take_unit(&mut self, unit: Unit) -> Vec<Part> {
+        self.met_if(self.bank != empty_bank(), "a bank in use emptied by a new unit");
+        self.met_if(self.plan.is_some(), "a plan dropped by a new unit");
+        self.unit = Some(unit);
+        self.plan = None;
+        self.bank = empty_bank();
+        said("ok".to_string())
+    }
+
+    fn ask(&mut self, unit: &mut Unit, name: &str, numbers: &[u32], file: &[u8]) -> Reply<Vec<Part>> {
+        let done = || Ok(said("ok".to_string()));
+        match (name, numbers) {
+            ("mark" | "unmark", &[tag, segment, column]) => {
+                let mark = Mark { tag, segment, column };
+                let stood = unit.marks.contains(&mark);
+                if name == "mark" { unit.mark(mark) } else { unit.unmark(mark) }?;
+                self.met_if(stood && name == "mark", "a mark that stood");
+                self.met_if(!stood && name == "unmark", "an unmark of no mark");
+                // "An accepted one drops the plan, even where the mark already stood so"
+                self.plan = None;
+                done()
+            }
+            ("read", []) => self.read(unit),
+            ("tick", []) => {
+                self.bank.tick();
+                done()
+            }
+            ("bank", []) => {
+                self.meet_bank();
+                let words: Vec<String> = self.bank.words().iter().map(|word| word.to_string()).collect();
+                Ok(said(words.join(" ")))
+            }
+            ("list", []) => Ok(self.list(unit)),
+            ("save", []) => {
+                let shorter = self.shelf.length(file).is_some_and(|length| length > file_length(unit.functions, unit.segments) as u64);
+                let known = self.shelf.length(file).is_some();
+                let written = self.shelf.save(file, unit);
+                self.met_if(written && known, "a save over another file");
+                self.met_if(written && shorter, "a save over a longer file");
+                Ok(said(if written { "ok" } else { "not written" }.to_string()))
+            }
+            // all others have a tag first
+            (_, &[tag, ref others @ ..]) => {
+                unit.check_tag(tag)?;
+                self.ask_of(unit, tag, name, others)
+            }
+            _ => unreachable!("a command with the arguments that it wants"),
+        }
+    }
+
+    fn read(&mut self, unit: &Unit) -> Reply<Vec<Part>> {
+        // "8 read without a plan"
+        let Plan { tag, search } = self.plan.ok_or(8u32)?;
+        let drawn = self.book.drawn(unit, tag).expect("a search that was accepted");
+        self.meet_plan(search);
+        let (least, of) = drawn.graph.least();
+        let greedy = &drawn.graph.greedy;
+        self.met_if(sum_of(greedy) as i64 * of > least * greedy.len() as i64, "a plan better than greedy");
+        let begin = Part::Text(format!("plan {tag} cycle "));
+        Ok(vec![begin, Part::Plan(search, drawn), Part::Text("\n".to_string())])
+    }
+
+    /// A question about a function of the unit.
+    fn ask_of(&mut self, unit: &Unit, tag: u32, name: &str, others: &[u32]) -> Reply<Vec<Part>> {
+        let function = self.book.function(unit, tag);
+        let text = match name {
+            "vector" => format!("vector {}", vector_text(&function.vector)),
+            "bound" => format!("bound {}", bound(&function.spots)),
+            "upper" => format!("upper {}", upper(&function.vector)),
+            "constant" => format!("constant {}", constant(&function.vector)),
+            "row" => self.row(unit, tag, others[0])?,
+            "judge" => self.judge(&function.spots, others)?,
+            "start" => {
+                // `rows[R − 1]` is row R of M_Q
+                let yard = &mut self.book.yard;
+                let rows: Vec<Vec<bool>> = (1..=unit.functions).map(|later| meetings(&function.spots, &unit.spots(later), yard)).collect();
+                self.bank.start(tag, &rows)?;
+                "ok".to_string()
+            }
+            "table" => {
+                self.met_if(unit.segments > 9 && unit.columns > 9, "a table of 10 or more rows and columns");
+                return Ok(vec![Part::Text(table(unit, tag))]);
+            }
+            _ => return self.ask_diagram(unit, tag, name),
+        };
+        Ok(said(text))
+    }
+
+    /// A question about a function's diagram. "7 more than 256 states"
+    fn ask_diagram(&mut self, unit: &Unit, tag: u32, name: &str) -> Reply<Vec<Part>> {
+        let drawn = self.book.drawn(unit, tag).ok_or(7u32)?;
+        let states = &drawn.graph.diagram.states;
+        self.met_if(states.len() == 1 && states[0].is_empty(), "a diagram with n = 0");
+        self.met_if(states.len() == MOST_STATES, "a diagram of 256 states");
+        let text = match name {
+            "states" => {
+                let words: Vec<String> = states.iter().map(|state| word_of(state).to_string()).collect();
+                format!("states {}: {}", states.len(), words.join(" "))
+            }
+            "greedy" => format!("greedy {}", cycle_text(&drawn.graph.greedy)),
+            "search" => {
+                self.searches += 1;
+                self.met_if(self.plan.is_some_and(|plan| plan.tag != tag), "a plan in place of another function's");
+                self.plan = Some(Plan { tag, search: self.searches });
+                "ok".to_string()
+            }
+            "diagram" => match self.plan {
+                Some(plan) if plan.tag == tag => {
+                    self.met_if(self.shown != plan.search, "a drawing of a plan that was not read before");
+                    self.meet_plan(plan.search);
+                    return Ok(vec![Part::Drawing(plan.search, tag, drawn)]);
+                }
+                plan => {
+                    self.met.push(if plan.is_none() { "a drawing without a plan" } else { "a drawing beside another function's plan" });
+                    return Ok(vec![Part::Text(drawing(tag, &drawn.graph, &HashSet::new()))]);
+                }
+            },
+            _ => unreachable!("{name} is a command"),
+        };
+        Ok(said(text))
+    }
+
+    /// "columns n to 1, n the largest column with a 1 in any row of M_R; `-` where there is none"
+    fn row(&mut self, unit: &Unit, tag: u32, other: u32) -> Reply<String> {
+        unit.check_tag(other)?;
+        let yard = &mut self.book.yard;
+        let earlier = unit.spots(other);
+        let rows: Vec<Vec<bool>> = (1..=unit.functions).map(|later| meetings(&earlier, &unit.spots(later), yard)).collect();
+        let last = |row: &Vec<bool>| row.iter().rposition(|collides| *collides).map_or(0, |place| place + 1);
+        let width = rows.iter().map(last).max().unwrap_or(0);
+        let row = &rows[tag as usize - 1];
+        self.met_if(width == 0, "a row of no columns");
+        self.met_if(width > 0 && last(row) == 0, "a row of zeros");
+        self.met_if(last(row) > 0 && width > last(row), "a row as wide as another");
+        Ok(format!("row {}", vector_text(&row[..width])))
+    }
+
+    /// "9 an empty list, one above 256, or a latency 0": and "a latency above 255: refused 9".
+    fn judge(&mut self, spots: &[Spot], numbers: &[u32]) -> Reply<String> {
+        self.met_if(numbers.is_empty(), "judge: no latency");
+        self.met_if(numbers.len() == MOST_LATENCIES, "judge: 256 latencies");
+        self.met_if(numbers.len() == MOST_LATENCIES + 1, "judge: 257 latencies");
+        self.met_if(numbers.len() >= 2_000, "judge: 2,000 latencies or more");
+        self.met_if(numbers.contains(&0), "judge: a latency 0");
+        self.met_if(numbers.contains(&256), "judge: a latency 256");
+        self.met_if(numbers.iter().any(|latency| *latency > 256), "judge: a latency above 256");
+        let latencies: Option<Vec<u8>> = numbers.iter().map(|latency| (*latency).try_into().ok()).collect();
+        let latencies = latencies.ok_or(9u32)?;
+        check_cycle(&latencies)?;
+        let never = never_collides(spots, &latencies, &mut self.book.yard);
+        self.met_if(never && latencies.len() == MOST_LATENCIES, "judge: yes to 256 latencies");
+        let only_later = !never && one_turn_never_collides(spots, &latencies, &mut self.book.yard);
+        self.met_if(only_later, "judge: collides only across turns");
+        Ok(if never { "yes" } else { "no" }.to_string())
+    }
+
+    fn list(&mut self, unit: &Unit) -> Vec<Part> {
+        let drawn: Vec<Option<Drawn>> = (1..=unit.functions).map(|tag| self.book.drawn(unit, tag)).collect();
+        self.met_if(drawn.iter().any(|drawn| drawn.is_none()), "a listing with refused 7");
+        self.met_if(drawn.len() == 4, "a listing of 4 functions");
+        let greedy_of = |tag: u32| {
+            let graph = &drawn[tag as usize - 1].as_ref()?.graph;
+            Some((graph.diagram.states.len(), graph.greedy.clone()))
+        };
+        let pieces = listing(&Ok(unit.clone()), &mut self.book.yard, greedy_of).into_iter();
+        let best = |tag: u32| Part::Best(drawn[tag as usize - 1].clone().expect("a diagram within the limit"));
+        pieces
+            .map(|piece| match piece {
+                Piece::Text(text) => Part::Text(text),
+                Piece::Best(tag) => best(tag),
+            })
+            .collect()
+    }
+
+    // -----------------------------------------------------------------------------------------------------------------------------
+    // Special cases
+
+    fn met_if(&mut self, holds: bool, what: &'static str) {
+        if holds {
+            self.met.push(what);
+        }
+    }
+
+    fn meet_line(&mut self, line: &[u8]) {
+        let has = |byte: u8| line.contains(&byte);
+        let whole = line.len();
+        self.met_if(whole == 4_095, "a line of 4,095 bytes");
+        self.met_if(whole == 4_096, "a line of 4,096 bytes");
+        self.met_if(whole == 4_097, "a line of 4,097 bytes");
+        self.met_if(whole == 100_000, "a line of 100,000 bytes");
+        self.met_if(whole > LONGEST_LINE && line[0] == b'#', "a comment that is too long");
+        self.met_if(has(0), "a line with a NUL");
+        self.met_if(has(b'\t'), "a line with a tab");
+        self.met_if(has(b'\r'), "a line with a carriage return");
+        self.met_if(line.iter().any(|byte| *byte > 127), "a line with a byte above 127");
+        self.met_if(line.starts_with(b" "), "a line with a space in front");
+        let words: Vec<&[u8]> = line.split(|byte| *byte == b' ').collect();
+        if !COMMANDS.iter().any(|(name, _)| name.as_bytes() == words[0]) {
+            let lower = words[0].to_ascii_lowercase();
+            self.met_if(COMMANDS.iter().any(|(name, _)| name.as_bytes() == lower), "a command in upper case");
+            return;
+        }
+        self.met_if(whole == 4_096 && words.len() > 1, "a command of 4,096 bytes");
+        self.met_if(words.len() > 1 && words.last() == Some(&&b""[..]), "a command with a space at its end");
+        self.met_if(words.len() > 2 && words[1..words.len() - 1].contains(&&b""[..]), "a command with two spaces side by side");
+        let zeros = words[1..].iter().any(|word| word.len() > 1 && word[0] == b'0' && number(word).is_some_and(|number| number > 0));
+        self.met_if(zeros, "a number with zeros in front");
+        let large = |word: &&[u8]| word.len() > 9 && word.iter().all(|byte| byte.is_ascii_digit()) && number(word).is_none();
+        self.met_if(words[1..].iter().any(large), "a number above 4294967295");
+        self.met_if(words[1..].iter().any(|word| number(word) == Some(u32::MAX)), "a number 4294967295");
+    }
+
+    fn what_was_done(&mut self, name: &str, said: &str, before: Before) -> Before {
+        match (name, said) {
+            ("fresh", "ok") => Before::Emptied,
+            ("load", "ok") => Before::Emptied,
+            ("fresh", "expected") | ("load", "expected") => Before::Bad,
+            ("fresh", _) => Before::RefusedFresh,
+            ("load", "no file") => Before::NoFile,
+            ("load", _) => Before::RefusedLoad,
+            ("mark" | "unmark", "ok") => Before::Edited,
+            ("mark" | "unmark", "refused 2" | "refused 3" | "refused 4") => Before::RefusedEdit,
+            ("search", "refused 2" | "refused 7") => Before::RefusedSearch,
+            // what only looks leaves what was done before in place
+            ("read" | "bank" | "diagram" | "vector" | "bound" | "upper" | "constant" | "row" | "list" | "table", _) => before,
+            (_, "expected") => Before::Bad,
+            _ => Before::Other,
+        }
+    }
+
+    fn meet_plan(&mut self, search: usize) {
+        let kept = match self.before {
+            Before::RefusedFresh => "a plan kept by a refused fresh",
+            Before::RefusedLoad => "a plan kept by a refused load",
+            Before::NoFile => "a plan kept by a load of no file",
+            Before::RefusedEdit => "a plan kept by a refused edit",
+            Before::RefusedSearch => "a plan kept by a refused search",
+            Before::Bad => "a plan kept by a line that is no command",
+            _ => "a plan",
+        };
+        self.met.push(kept);
+        self.met_if(self.shown == search, "a plan shown again");
+        self.shown = search;
+    }
+
+    fn meet_bank(&mut self) {
+        if self.bank == empty_bank() {
+            self.met_if(self.before == Before::Emptied, "a bank emptied");
+            return;
+        }
+        let kept = match self.before {
+            Before::RefusedFresh => "a bank kept by a refused fresh",
+            Before::RefusedLoad => "a bank kept by a refused load",
+            Before::Edited => "a bank kept by an edit",
+            _ => "a bank in use",
+        };
+        self.met.push(kept);
+    }
+}
+
+/// The special cases that a run must have met.
+pub const WANTED: [&str; 65] = [
+    "a line of 4,095 bytes",
+    "a line of 4,096 bytes",
+    "a line of 4,097 bytes",
+    "a line of 100,000 bytes",
+    "a comment that is too long",
+    "a command of 4,096 bytes",
+    "a line with a NUL",
+    "a line with a tab",
+    "a line with a carriage return",
+    "a line with a byte above 127",
+    "a line with a space in front",
+    "a command in upper case",
+    "a command with a space at its end",
+    "a command with two spaces side by side",
+    "a number with zeros in front",
+    "a number above 4294967295",
+    "a number 4294967295",
+    "a last line without a newline",
+    "a mark that stood",
+    "an unmark of no mark",
+    "a save over another file",
+    "a save over a longer file",
+    "a plan",
+    "a plan shown again",
+    "a plan better than greedy",
+    "a plan in place of another function's",
+    "a plan dropped by a new unit",
+    "a plan kept by a refused fresh",
+    "a plan kept by a refused load",
+    "a plan kept by a load of no file",
+    "a plan kept by a refused edit",
+    "a plan kept by a refused search",
+    "a plan kept by a line that is no command",
+    "a plan with a sum above 255",
+    "a plan of two or more latencies",
+    "a drawing of a plan that was not read before",
+    "a drawing without a plan",
+    "a drawing beside another function's plan",
+    "a diagram with n = 0",
+    "a diagram of 256 states",
+    "a listing with refused 7",
+    "a listing of 4 functions",
+    "a table of 10 or more rows and columns",
+    "a row of no columns",
+    "a row of zeros",
+    "a row as wide as another",
+    "judge: no latency",
+    "judge: 256 latencies",
+    "judge: 257 latencies",
+    "judge: 2,000 latencies or more",
+    "judge: a latency 0",
+    "judge: a latency 256",
+    "judge: a latency above 256",
+    "judge: yes to 256 latencies",
+    "judge: collides only across turns",
+    "a bank in use",
+    "a bank emptied",
+    "a bank in use emptied by a new unit",
+    "a bank kept by a refused fresh",
+    "a bank kept by a refused load",
+    "a bank kept by an edit",
+    "an input of no bytes",
+    "an input that comes byte by byte",
+    "an input that waits for each answer",
+    "a file longer than 2^32 bytes",
+];
+
+/// "the reservation table, a row for each segment, `x` for a mark and `.` for none, with column numbers": cells of three bytes.
+fn table(unit: &Unit, tag: u32) -> String {
+    let mut lines = vec![String::from("   ")];
+    for column in 1..=unit.columns {
+        lines[0] += &format!("{column:>3}");
+    }
+    for segment in 1..=unit.segments {
+        let mut line = format!("{segment:>3}");
+        for column in 1..=unit.columns {
+            let marked = unit.marks.contains(&Mark { tag, segment, column });
+            line += &format!("{:>3}", if marked { 'x' } else { '.' });
+        }
+        lines.push(line);
+    }
+    lines.join("\n") + "\n"
+}

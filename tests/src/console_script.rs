@@ -1,0 +1,1013 @@
+//! Scripts for the console, good lines and bad ones, made from fixed seeds. Each line has its answer before the program is run.
+
+use crate::console_folder::{File, Folder, FULL, INNER, NULL};
+use crate::console_model::*;
+use crate::model::*;
+use crate::random::{seed_of, Random};
+use crate::units;
+use std::path::Path;
+
+pub struct Line {
+    /// Without the newline.
+    pub bytes: Vec<u8>,
+    pub answer: Answer,
+}
+
+/// How the input comes to the program.
+#[derive(Clone, Copy, PartialEq, Eq, Debug)]
+pub enum Feed {
+    /// In pieces of all sizes, which don't end where lines end.
+    Pieces,
+    Bytes,
+    /// A line comes when all lines before it are answered, as from somebody who reads the answers.
+    Turns,
+}
+
+pub struct Script {
+    pub name: String,
+    pub lines: Vec<Line>,
+    /// Whether the last line ends in a newline.
+    pub newline: bool,
+    pub feed: Feed,
+    pub before: Folder,
+    pub after: Folder,
+    /// Special cases that the script is one of.
+    pub met: Vec<&'static str>,
+}
+
+impl Script {
+    pub fn input(&self) -> Vec<u8> {
+        let mut input: Vec<u8> = self.lines.iter().flat_map(|line| line.bytes.iter().chain(b"\n")).copied().collect();
+        if !self.newline {
+            input.pop();
+        }
+        input
+    }
+
+    /// Each line with its newline, and how many lines the answers have up to it.
+    pub fn turns(&self) -> Vec<(Vec<u8>, usize)> {
+        let mut height = 0;
+        let turn = |line: &Line| {
+            height += line.answer.height();
+            ([&line.bytes[..], b"\n"].concat(), height)
+        };
+        self.lines.iter().map(turn).collect()
+    }
+}
+
+// ---------------------------------------------------------------------------------------------------------------------------------
+// Files
+
+/// Files in order: one for each hard diagram, some of the outermost counts, and random units.
+const GOOD_FILES: usize = 90;
+const DAMAGED_FILES: usize = 160;
+/// So many of them, the first ones, are refused for certain. Of the others a few are in order, with other marks.
+const REFUSED_FILES: usize = 17;
+const LONG_FILES: usize = 3;
+
+fn good_name(place: usize) -> String {
+    format!("unit{place}")
+}
+
+fn damaged_name(place: usize) -> String {
+    format!("damaged{place}")
+}
+
+fn long_name(place: usize) -> String {
+    format!("long{place}")
+}
+
+/// The unit of the most counts, with marks in so many of its places.
+fn full_unit(part: u64, whole: u64, random: &mut Random) -> Unit {
+    let mut unit = Unit::fresh(MOST_FUNCTIONS, MOST_SEGMENTS, MOST_COLUMNS).expect("counts in their ranges");
+    for tag in 1..=MOST_FUNCTIONS {
+        for segment in 1..=MOST_SEGMENTS {
+            for column in 1..=MOST_COLUMNS {
+                if random.chance(part, whole) {
+                    unit.marks.insert(Mark { tag, segment, column });
+                }
+            }
+        }
+    }
+    unit
+}
+
+fn good_unit(place: usize, random: &mut Random) -> Unit {
+    if let Some((_, forbidden)) = units::HARD.get(place) {
+        let mut unit = Unit::fresh(random.between(1, 3), MOST_SEGMENTS, MOST_COLUMNS).expect("counts in their ranges");
+        let tag = random.between(1, unit.functions);
+        units::forbid(&mut unit, tag, forbidden, random);
+        return unit;
+    }
+    match place - units::HARD.len() {
+        0 => full_unit(1, 1, random),
+        1 => full_unit(1, 2, random),
+        2 => full_unit(1, 20, random),
+        3 => full_unit(0, 1, random),
+        4 => Unit::fresh(1, 1, 1).expect("counts in their ranges"),
+        _ => units::unit(random),
+    }
+}
+
+fn files(random: &mut Random) -> Folder {
+    let mut folder = Folder::default();
+    let mut put = |name: String, file: File| {
+        folder.files.insert(name.into_bytes(), file);
+    };
+    for place in 0..GOOD_FILES {
+        put(good_name(place), File::Bytes(encode(&good_unit(place, random))));
+    }
+    for place in 0..DAMAGED_FILES {
+        let bytes = match place {
+            // a file of the most counts, cut after 0 to 12 bytes and before its last one, and with bytes too many
+            0..=12 => encode(&full_unit(1, 4, random))[..place].to_vec(),
+            13 => encode(&full_unit(1, 4, random))[..267].to_vec(),
+            14..=16 => {
+                let mut file = encode(&full_unit(1, 4, random));
+                file.extend(vec![0; [1, 256, 65_536][place - 14]]);
+                file
+            }
+            _ => {
+                let mut file = encode(&units::unit(random));
+                units::damage(&mut file, random);
+                file
+            }
+        };
+        put(damaged_name(place), File::Bytes(bytes));
+    }
+    // lengths that are right if one takes their last 32 bits alone, and zeros after a file in order
+    let file = encode(&units::unit(random));
+    let length = file.len() as u64;
+    for (place, more) in [1 << 20, 1 << 32, 5 << 30].into_iter().enumerate() {
+        put(long_name(place), File::Long(file.clone(), length + more));
+    }
+    folder
+}
+
+// ---------------------------------------------------------------------------------------------------------------------------------
+// Lines
+
+struct Writer {
+    random: Random,
+    console: Console<Folder>,
+    lines: Vec<Line>,
+    most: usize,
+    /// How many files were saved under a name of their own.
+    saved: usize,
+    /// Whether the system has the devices that the script may name.
+    has_devices: bool,
+}
+
+/// No program that reads the line in some wrong way shall write outside its folder: every `/` has to come after a letter, a digit, a dot
+/// or another `/`, and no two dots may stand together.
+fn harmless(line: &[u8]) -> bool {
+    if [NULL, FULL].iter().any(|device| line.ends_with(device.as_bytes()) && line.len() == 5 + device.len()) {
+        return true;
+    }
+    let inside = |byte: u8| byte.is_ascii_alphanumeric() || byte == b'.' || byte == b'/';
+    let mut slashes = (0..line.len()).filter(|place| line[*place] == b'/');
+    slashes.all(|place| place > 0 && inside(line[place - 1])) && !line.windows(2).any(|pair| pair == b"..")
+}
+
+const MANY: [&str; 8] = ["255", "256", "300", "65536", "65537", "2147483648", "4294967040", "4294967295"];
+const TOO_MANY: [&str; 9] = [
+    "4294967296",
+    "4294967297",
+    "5000000000",
+    "9999999999",
+    "42949672950",
+    "99999999999",
+    "18446744073709551616",
+    "18446744073709551617",
+    "340282366920938463463374607431768211457",
+];
+/// Words that are no numbers.
+const NO_NUMBERS: [&[u8]; 20] = [
+    b"",
+    b"x",
+    b"1x",
+    b"x1",
+    b"-1",
+    b"+1",
+    b"0x1",
+    b"1.0",
+    b"1e0",
+    b"1,",
+    b"1\t",
+    b"\t1",
+    b"1\0",
+    b"\0",
+    b"\xff",
+    b"\xd9\xa1",
+    b"1_0",
+    b"1\r",
+    b"Q",
+    b"1/1",
+];
+const NO_COMMANDS: [&[u8]; 23] = [
+    b"help",
+    b"quit",
+    b"exit",
+    b"x",
+    b"?",
+    b"1",
+    b"1 1 1",
+    b"marks 1 1 1",
+    b"mar 1 1 1",
+    b"ma",
+    b"freshen 1 1 1",
+    b"starts 1",
+    b"star 1",
+    b"state 1",
+    b"statess 1",
+    b"un mark 1 1 1",
+    b"unmarked 1 1 1",
+    b"tick;tick",
+    b"ticktick",
+    b"bank,",
+    b"judge1 1",
+    b"\xef\xbb\xbftick",
+    b"line 1: expected a command",
+];
+/// File names with bytes that mean something elsewhere.
+const ODD_NAMES: [&[u8]; 16] =
+    [b"-", b"--", b"~", b"*", b"#", b"%s%n", b"$HOME", b"a;b", b"'q'", b"\\", b"\"", b"a\tb", b"\r", b"\xe9t\xe9", b"\xff\xfe", b"FILE"];
+/// In how many forms long lines come.
+const LONG_FORMS: u64 = 16;
+/// Lengths of lines: around the limit, around multiples of it, and far above it.
+const LENGTHS: [usize; 21] = [
+    4_095, 4_095, 4_096, 4_096, 4_096, 4_097, 4_097, 4_098, 5_000, 8_190, 8_191, 8_192, 8_193, 8_194, 12_288, 12_289, 16_384, 65_535,
+    65_536, 65_537, 100_000,
+];
+
+impl Writer {
+    fn new(seed: u64, most: usize, console: Console<Folder>) -> Writer {
+        let has_devices = Path::new(FULL).exists() && Path::new(NULL).exists();
+        Writer { random: Random::new(seed), console, lines: Vec::new(), most, saved: 0, has_devices }
+    }
+
+    fn put(&mut self, line: impl AsRef<[u8]>) {
+        let bytes = line.as_ref().to_vec();
+        if self.lines.len() == self.most || bytes.contains(&b'\n') || !harmless(&bytes) {
+            return;
+        }
+        let answer = self.console.answer(&bytes, self.lines.len() + 1);
+        self.lines.push(Line { bytes, answer });
+    }
+
+    fn full(&self) -> bool {
+        self.lines.len() == self.most
+    }
+
+    /// Functions, segments and columns of the unit, or some where there is none.
+    fn counts(&self) -> (u32, u32, u32) {
+        self.console.unit.as_ref().map_or((2, 3, 8), |unit| (unit.functions, unit.segments, unit.columns))
+    }
+
+    // -----------------------------------------------------------------------------------------------------------------------------
+    // Words
+
+    /// A number as it is written, now and then with zeros in front.
+    fn digits(&mut self, number: u32) -> String {
+        let zeros = match self.random.below(400) {
+            0..=15 => self.random.pick(&[1, 1, 2, 3, 9, 10, 11, 20]),
+            16 => self.random.pick(&[40, 255, 256, 1_000]),
+            _ => 0,
+        };
+        format!("{}{number}", "0".repeat(zeros))
+    }
+
+    /// A number that is wanted from 1 to `most`: mostly it is.
+    fn argument(&mut self, most: u32) -> String {
+        let inside = self.random.between(1, most);
+        match self.random.below(100) {
+            0 => self.digits(0),
+            1 => self.digits(most + 1),
+            2 => self.random.pick(&MANY).to_string(),
+            3 => {
+                let wide = self.random.pick(&[256, 65_536, 1 << 24, 1 << 31, u32::MAX - 255]);
+                self.digits(wide + inside)
+            }
+            4 if self.random.chance(1, 2) => self.random.pick(&TOO_MANY).to_string(),
+            // its last 32 or 64 bits are inside
+            4 => {
+                let bits = self.random.pick(&[32, 33, 64]);
+                format!("{}", (1u128 << bits) + inside as u128)
+            }
+            _ => self.digits(inside),
+        }
+    }
+
+    fn tag(&mut self) -> String {
+        if self.random.chance(1, 2) {
+            let tag = self.good_tag();
+            return self.digits(tag);
+        }
+        let (functions, _, _) = self.counts();
+        self.argument(functions)
+    }
+
+    /// A mark that stands, where there is one.
+    fn standing(&mut self) -> Option<Mark> {
+        let unit = self.console.unit.as_ref()?;
+        let count = unit.marks.len() as u64;
+        let place = if count == 0 { 0 } else { self.random.below(count) };
+        unit.marks.iter().nth(place as usize).copied()
+    }
+
+    /// A tag of the unit, more often one with marks.
+    fn good_tag(&mut self) -> u32 {
+        let (functions, _, _) = self.counts();
+        let any = self.random.between(1, functions);
+        match self.standing() {
+            Some(mark) if self.random.chance(2, 3) => mark.tag,
+            _ => any,
+        }
+    }
+
+    fn fresh_counts(&mut self) -> (u32, u32, u32) {
+        let random = &mut self.random;
+        match random.below(20) {
+            0 => (4, 16, 32),
+            1 => (random.pick(&[1, 4]), random.pick(&[1, 16]), random.pick(&[1, 31, 32])),
+            2 => (random.between(1, 4), random.between(1, 16), random.between(1, 32)),
+            3 | 4 => (random.between(1, 4), random.between(1, 4), random.between(11, 32)),
+            5..=7 => (random.between(1, 2), random.between(1, 2), random.between(1, 3)),
+            _ => (random.between(1, 4), random.between(1, 5), random.between(2, 10)),
+        }
+    }
+
+    fn load_name(&mut self) -> Vec<u8> {
+        let random = &mut self.random;
+        let good = good_name(random.below(GOOD_FILES as u64) as usize);
+        let text = match random.below(64) {
+            0..=15 => damaged_name(random.below(DAMAGED_FILES as u64) as usize),
+            16 => long_name(random.below(LONG_FILES as u64) as usize),
+            17..=24 => format!("again{}", random.below(12)),
+            25..=28 => format!("out{}", random.below(self.saved as u64 + 1)),
+            29 | 30 => format!("{INNER}/again{}", random.below(3)),
+            31 => format!("./{good}"),
+            32 => format!(".///./{good}"),
+            33 => format!("{INNER}/{good}"),
+            34 => format!("missing/{good}"),
+            35 => format!("{good}/"),
+            36 => format!("{good}\0"),
+            37 => format!("{good}\0x"),
+            38 => format!("{good}."),
+            39 => good.to_uppercase(),
+            40 => random.pick(&[INNER, ".", "./", "inner/", "missing"]).to_string(),
+            41 => "n".repeat(random.pick(&[254, 255, 256, 257, 300, 1_000, 4_091])),
+            42 if self.has_devices => NULL.to_string(),
+            43 | 44 => return random.pick(&ODD_NAMES).to_vec(),
+            45 => format!("missing{}", random.below(100)),
+            _ => good,
+        };
+        text.into_bytes()
+    }
+
+    fn save_name(&mut self) -> Vec<u8> {
+        let random = &mut self.random;
+        let text = match random.below(40) {
+            0..=15 => format!("again{}", random.below(12)),
+            16..=18 => format!("{INNER}/again{}", random.below(3)),
+            19 => format!("./again{}", random.below(12)),
+            20 | 21 => format!("missing/out{}", random.below(9)),
+            22 => format!("{INNER}/missing/out{}", random.below(9)),
+            23 => random.pick(&[INNER, ".", "./", "inner/", "./inner", "new/"]).to_string(),
+            24 => format!("again{}\0x", random.below(12)),
+            25 => format!("new{}\0", random.below(100)),
+            26 => "n".repeat(random.pick(&[254, 255, 256, 257, 300, 4_091])),
+            27 if self.has_devices => FULL.to_string(),
+            28 if self.has_devices => NULL.to_string(),
+            29 | 30 => return random.pick(&ODD_NAMES).to_vec(),
+            // over a file that is damaged, which is longer now and then
+            31 | 32 => damaged_name(random.below(DAMAGED_FILES as u64) as usize),
+            _ => {
+                self.saved += 1;
+                format!("out{}", self.saved)
+            }
+        };
+        text.into_bytes()
+    }
+
+    // -----------------------------------------------------------------------------------------------------------------------------
+    // Commands
+
+    fn fresh(&mut self) -> Vec<u8> {
+        let (functions, segments, columns) = self.fresh_counts();
+        format!("fresh {} {} {}", self.digits(functions), self.digits(segments), self.digits(columns)).into_bytes()
+    }
+
+    fn refused_fresh(&mut self) -> Vec<u8> {
+        let mut counts = [1, 5, 9];
+        let (place, most) = self.random.pick(&[(0, MOST_FUNCTIONS), (1, MOST_SEGMENTS), (2, MOST_COLUMNS)]);
+        counts[place] = self.random.pick(&[0, most + 1, most + 2, 255, 256, 256 + most, 300, 65_537, u32::MAX - 255 + most, u32::MAX]);
+        format!("fresh {} {} {}", counts[0], counts[1], counts[2]).into_bytes()
+    }
+
+    fn mark(&mut self) -> Vec<u8> {
+        let (functions, segments, columns) = self.counts();
+        let (tag, segment, column) = (self.argument(functions), self.argument(segments), self.argument(columns));
+        format!("mark {tag} {segment} {column}").into_bytes()
+    }
+
+    /// Mostly of a mark that stands.
+    fn unmark(&mut self) -> Vec<u8> {
+        match self.standing() {
+            Some(Mark { tag, segment, column }) if self.random.chance(2, 3) => format!("unmark {tag} {segment} {column}").into_bytes(),
+            _ => [b"un", &self.mark()[..]].concat(),
+        }
+    }
+
+    fn judge(&mut self) -> Vec<u8> {
+        let tag = self.tag();
+        let drawn = number(tag.as_bytes()).and_then(|tag| self.console.drawn(tag));
+        let mut latencies: Vec<String> = match self.random.below(60) {
+            0 => (0..2_000).map(|_| self.random.between(1, 9).to_string()).collect(),
+            1 => vec![self.random.pick(&["31", "32", "33", "255"]).to_string(); 256],
+            // short ones, which collide more often
+            2..=20 => (0..self.random.between(1, 5)).map(|_| self.random.between(1, 6).to_string()).collect(),
+            _ => units::cycle(drawn.as_ref().map(|drawn| &drawn.graph.diagram), &mut self.random)
+                .iter()
+                .map(|latency| latency.to_string())
+                .collect(),
+        };
+        if !latencies.is_empty() && self.random.chance(1, 12) {
+            let place = self.random.below(latencies.len() as u64) as usize;
+            let last = latencies.len() - 1;
+            let place = if self.random.chance(1, 3) { last } else { place };
+            latencies[place] = match self.random.below(6) {
+                0 => "0".to_string(),
+                1 => "256".to_string(),
+                2 => self.random.pick(&MANY).to_string(),
+                3 => (256 + self.random.between(1, 40)).to_string(),
+                4 => self.random.pick(&TOO_MANY).to_string(),
+                _ => format!("000{}", latencies[place]),
+            };
+        }
+        let mut line = format!("judge {tag}");
+        for latency in latencies {
+            line += " ";
+            line += &latency;
+        }
+        line.into_bytes()
+    }
+
+    /// A command about a tag. Drawings and lists of many states are long, so most of those are left out.
+    fn about(&mut self, name: &str) -> Vec<u8> {
+        let mut name = name;
+        let tag = self.tag();
+        if ["diagram", "states"].contains(&name) {
+            let drawn = number(tag.as_bytes()).and_then(|tag| self.console.drawn(tag));
+            if drawn.is_some_and(|drawn| drawn.graph.diagram.states.len() > 60) && self.random.chance(14, 15) {
+                name = "vector";
+            }
+        }
+        format!("{name} {tag}").into_bytes()
+    }
+
+    fn command(&mut self) -> Vec<u8> {
+        match self.random.below(110) {
+            0..=22 => self.mark(),
+            23..=29 => self.unmark(),
+            30..=38 => self.about("search"),
+            39..=44 => b"read".to_vec(),
+            45..=48 => self.about("vector"),
+            49..=54 => format!("row {} {}", self.tag(), self.tag()).into_bytes(),
+            55..=58 => self.about("states"),
+            59..=61 => self.about("greedy"),
+            62 | 63 => self.about("bound"),
+            64 | 65 => self.about("upper"),
+            66 | 67 => self.about("constant"),
+            68..=76 => self.judge(),
+            77..=79 => b"tick".to_vec(),
+            80..=87 => self.about("start"),
+            88..=91 => b"bank".to_vec(),
+            92 | 93 => [b"load ", &self.load_name()[..]].concat(),
+            94..=97 => [b"save ", &self.save_name()[..]].concat(),
+            98 | 99 => b"list".to_vec(),
+            100..=102 => self.about("table"),
+            103..=107 => self.about("diagram"),
+            108 => self.refused_fresh(),
+            _ => {
+                let (functions, segments, columns) =
+                    (self.argument(MOST_FUNCTIONS), self.argument(MOST_SEGMENTS), self.argument(MOST_COLUMNS));
+                format!("fresh {functions} {segments} {columns}").into_bytes()
+            }
+        }
+    }
+
+    /// A byte of any value but those of a newline and of what leads out of a folder.
+    fn any_byte(&mut self) -> u8 {
+        loop {
+            let byte = self.random.byte();
+            if ![b'\n', b'/', b'.'].contains(&byte) {
+                return byte;
+            }
+        }
+    }
+
+    /// A place of the line at which one of its bytes stands.
+    fn some_place(&mut self, line: &[u8]) -> usize {
+        self.random.below(line.len() as u64) as usize
+    }
+
+    /// A line with one thing wrong in it, mostly: now and then it is a command all the same.
+    fn spoiled(&mut self) -> Vec<u8> {
+        let mut line = self.command();
+        let place = self.some_place(&line);
+        let spaces: Vec<usize> = (0..line.len()).filter(|place| line[*place] == b' ').collect();
+        let space = if spaces.is_empty() { line.len() } else { spaces[self.random.below(spaces.len() as u64) as usize] };
+        match self.random.below(28) {
+            0 | 1 => line.insert(space, b' '),
+            2 => line.insert(0, b' '),
+            3 => line.push(b' '),
+            4 => {
+                line.truncate(space);
+                line.push(b'\t');
+            }
+            5 if space < line.len() => line[space] = b'\t',
+            5 => line.push(b'\t'),
+            6 => line[0].make_ascii_uppercase(),
+            7 => line.make_ascii_uppercase(),
+            8 => line.truncate(*spaces.last().unwrap_or(&line.len())),
+            9 => {
+                let more: &[u8] = self.random.pick(&[b" 1", b" 0", b" x", b" 1 1", b" #", b" tick"]);
+                line.extend_from_slice(more);
+            }
+            10 | 11 => line[place] = self.any_byte(),
+            12 => line.insert(place, 0),
+            13 => {
+                let byte = self.any_byte() | 128;
+                line.insert(place, byte);
+            }
+            14 => line.push(b'\r'),
+            15 => drop(line.remove(place)),
+            16..=19 => {
+                // one word that is no number, or too large a one
+                line.truncate(space);
+                let rest: Vec<&[u8]> = line.split(|byte| *byte == b' ').collect();
+                let (name, mut words) = (rest[0].to_vec(), rest[1..].to_vec());
+                let wrong = if self.random.chance(1, 2) { self.random.pick(&NO_NUMBERS) } else { self.random.pick(&TOO_MANY).as_bytes() };
+                words.push(wrong);
+                while words.len() < 3 && self.random.chance(1, 2) {
+                    words.push(b"1");
+                }
+                if self.random.chance(1, 2) {
+                    words.rotate_right(1);
+                }
+                line = [&name[..], &words.join(&b' ')].join(&b' ');
+            }
+            20 => line.swap(place, 0),
+            21 | 22 => line = self.random.pick(&NO_COMMANDS).to_vec(),
+            23 | 24 => {
+                let count = self.random.between(1, 60);
+                line = (0..count).map(|_| self.any_byte()).collect();
+            }
+            25 => {
+                let two = self.command();
+                let between = self.random.pick(&[b' ', b'\r', b';', 0, b'\t', 11, 12]);
+                line = [&line[..], &two].join(&between);
+            }
+            26 => {
+                line = [&b" "[..], &b" "[..], &b" #"[..], &b"\t"[..], &b"\r"[..], &b"\0"[..], &b"   "[..]][self.random.below(7) as usize]
+                    .to_vec()
+            }
+            _ => line.push(self.random.pick(&[11, 12, 0, 127, 255, b'#', b',', b';'])),
+        }
+        line
+    }
+
+    fn comment(&mut self) -> Vec<u8> {
+        let count = self.random.between(0, 30);
+        let mut line = b"#".to_vec();
+        match self.random.below(4) {
+            0 => line.extend(self.command()),
+            1 => line.extend((0..count).map(|_| self.any_byte())),
+            2 => line.extend(b" a comment"),
+            _ => {}
+        }
+        line
+    }
+
+    // -----------------------------------------------------------------------------------------------------------------------------
+    // Long lines
+
+    /// A line of exactly this length, at least 4,000, in one of `LONG_FORMS` forms.
+    fn long(&mut self, form: u64, length: usize) -> Vec<u8> {
+        let tag = self.good_tag();
+        // a number that fills the line with zeros in front of it
+        let filled = |begin: String, end: String| {
+            let zeros = length - begin.len() - end.len();
+            format!("{begin}{}{end}", "0".repeat(zeros)).into_bytes()
+        };
+        match form {
+            0 => vec![b'x'; length],
+            1 => [b"#", &vec![b'-'; length - 1][..]].concat(),
+            2 => vec![b' '; length],
+            3 => vec![0; length],
+            4 => filled("vector ".to_string(), tag.to_string()),
+            5 => filled(format!("mark {tag} 1 "), "1".to_string()),
+            6 => filled(format!("start {tag} "), "1".to_string()),
+            7 => filled("table ".to_string(), format!("{tag}0")),
+            8 => filled("fresh 1 2 ".to_string(), "3".to_string()),
+            9 | 10 => {
+                // latencies of one digit, and one with the zeros that are missing
+                let count = self.random.pick(&[1, 2, 255, 256, 256, 257, 1_900]);
+                let latencies = " 9".repeat(count - 1);
+                filled(format!("judge {tag}{latencies} "), "9".to_string())
+            }
+            11 | 12 => {
+                // a name with many ways to say this folder
+                let name =
+                    if self.random.chance(1, 4) { "missing".to_string() } else { good_name(self.random.below(GOOD_FILES as u64) as usize) };
+                self.long_name_line("load", &name, length)
+            }
+            13 => {
+                let name = format!("again{}", self.random.below(12));
+                self.long_name_line("save", &name, length)
+            }
+            14 => [&b"mark 1 1 "[..], &vec![b'9'; length - 9]].concat(),
+            _ => {
+                let mut line: Vec<u8> = (0..length).map(|_| self.any_byte()).collect();
+                line[0] = b'~';
+                line
+            }
+        }
+    }
+
+    fn long_name_line(&mut self, name: &str, file: &str, length: usize) -> Vec<u8> {
+        let begin = format!("{name} ");
+        let room = length - begin.len() - file.len();
+        let odd = if room % 2 == 1 { ".//" } else { "" };
+        format!("{begin}{}{odd}{file}", "./".repeat((room - odd.len()) / 2)).into_bytes()
+    }
+
+    fn some_long(&mut self) {
+        // the longest ones are few
+        let mut length = self.random.pick(&LENGTHS);
+        if length > 20_000 && self.random.chance(3, 4) {
+            length = 4_096;
+        }
+        let form = self.random.below(LONG_FORMS);
+        let line = self.long(form, length);
+        self.put(line);
+    }
+
+    /// Any line.
+    fn some_line(&mut self) {
+        let line = match self.random.below(600) {
+            0..=5 => Vec::new(),
+            6..=13 => self.comment(),
+            14..=60 => self.spoiled(),
+            61 => return self.some_long(),
+            _ => self.command(),
+        };
+        self.put(line);
+    }
+
+    // -----------------------------------------------------------------------------------------------------------------------------
+    // Several lines that belong together
+
+    /// A search, and what may come before its plan is seen.
+    fn search_and_read(&mut self) {
+        let tag = self.good_tag();
+        self.put(format!("search {tag}"));
+        match self.random.below(18) {
+            0 => {
+                let line = self.refused_fresh();
+                self.put(line);
+            }
+            1 => {
+                let name = damaged_name(self.random.below(DAMAGED_FILES as u64) as usize);
+                self.put(format!("load {name}"));
+            }
+            2 => self.put("load missing"),
+            3 => {
+                let line = self.spoiled();
+                self.put(line);
+            }
+            4 => self.put(format!("mark {} 0 0", self.counts().0 + 1)),
+            5 => self.put(format!("unmark {tag} {} 0", self.counts().1 + 1)),
+            6 => self.put(format!("mark {tag} 1 {}", self.counts().2 + 1)),
+            7 => {
+                let line = self.about("search");
+                self.put(line);
+            }
+            8 => self.put("list"),
+            9 => self.put("search 0"),
+            10 | 11 => self.draw(tag),
+            12 => {
+                let line = self.mark();
+                self.put(line);
+            }
+            // edits that leave the table as it is
+            13 => {
+                if let Some(Mark { tag, segment, column }) = self.standing() {
+                    self.put(format!("mark {tag} {segment} {column}"));
+                }
+            }
+            14 => {
+                let line = [b"un", &self.mark()[..]].concat();
+                self.put(line);
+            }
+            _ => {}
+        }
+        self.put("read");
+        match self.random.below(6) {
+            0 => self.draw(tag),
+            1 => {
+                let other = self.good_tag();
+                self.draw(other);
+            }
+            2 => self.put("read"),
+            _ => {}
+        }
+    }
+
+    /// A drawing, unless it is long.
+    fn draw(&mut self, tag: u32) {
+        let states = self.console.drawn(tag).map_or(0, |drawn| drawn.graph.diagram.states.len());
+        if states <= 60 || self.random.chance(1, 15) {
+            self.put(format!("diagram {tag}"));
+        }
+    }
+
+    /// Every question about a function.
+    fn questions(&mut self) {
+        let tag = self.good_tag();
+        for name in ["table", "vector", "bound", "upper", "constant", "states", "greedy"] {
+            let line = if name == "states" { self.about("states") } else { format!("{name} {tag}").into_bytes() };
+            self.put(line);
+        }
+        for other in 1..=self.counts().0 {
+            self.put(format!("row {tag} {other}"));
+        }
+        self.search_and_read();
+        self.put("list");
+    }
+
+    /// The issue controller at work, and what leaves its bank as it is or empties it.
+    fn events(&mut self) {
+        for _ in 0..self.random.between(4, 20) {
+            let line = match self.random.below(10) {
+                0..=4 => format!("start {}", self.good_tag()).into_bytes(),
+                5..=7 => b"tick".to_vec(),
+                _ => b"bank".to_vec(),
+            };
+            self.put(line);
+        }
+        let line = match self.random.below(8) {
+            0 => self.refused_fresh(),
+            1 => format!("load {}", damaged_name(self.random.below(DAMAGED_FILES as u64) as usize)).into_bytes(),
+            2 => self.mark(),
+            3 => self.unmark(),
+            4 => self.fresh(),
+            5 => format!("load {}", good_name(self.random.below(GOOD_FILES as u64) as usize)).into_bytes(),
+            _ => b"tick".to_vec(),
+        };
+        self.put(line);
+        self.put("bank");
+    }
+
+    /// What was saved is loaded, and is the same unit without its plan.
+    fn save_and_load(&mut self) {
+        let name = format!("again{}", self.random.below(12));
+        let tag = self.good_tag();
+        if self.random.chance(1, 2) {
+            self.put(format!("search {tag}"));
+        }
+        self.put(format!("save {name}"));
+        if self.random.chance(1, 2) {
+            let line = self.mark();
+            self.put(line);
+        }
+        if self.random.chance(1, 3) {
+            let line = self.fresh();
+            self.put(line);
+        }
+        self.put(format!("load {name}"));
+        for line in ["read", "bank", "list"] {
+            self.put(line);
+        }
+        self.put(format!("table {tag}"));
+    }
+
+    /// A new unit.
+    fn begin(&mut self) {
+        if self.random.chance(1, 3) {
+            let name = good_name(self.random.below(GOOD_FILES as u64) as usize);
+            return self.put(format!("load {name}"));
+        }
+        let line = self.fresh();
+        self.put(line);
+        if self.random.chance(9, 10) {
+            self.marks();
+        }
+    }
+
+    /// Marks, a few or many.
+    fn marks(&mut self) {
+        let (functions, segments, columns) = self.counts();
+        match self.random.below(11) {
+            // anywhere
+            0 | 1 => {
+                let most = (functions * segments * columns).min(60);
+                for _ in 0..self.random.between(1, most) {
+                    let line = self.mark();
+                    self.put(line);
+                }
+            }
+            // two in each of some segments, each of which forbids a latency
+            2..=7 => {
+                for tag in [self.good_tag(), self.good_tag()] {
+                    for segment in 1..=segments.min(8) {
+                        for _ in 0..2 {
+                            let column = self.random.between(1, columns);
+                            self.put(format!("mark {tag} {segment} {column}"));
+                        }
+                    }
+                }
+            }
+            // a task that goes from segment to segment and comes back now and then
+            8 | 9 => {
+                let tag = self.good_tag();
+                for column in 1..=columns {
+                    let segment = if self.random.chance(1, 3) { self.random.between(1, segments) } else { (column - 1) % segments + 1 };
+                    self.put(format!("mark {tag} {segment} {column}"));
+                }
+            }
+            // two far apart: more than 256 states where there are columns enough
+            _ => {
+                let (tag, segment) = (self.good_tag(), self.random.between(1, segments));
+                let last = self.random.between(columns.min(9), columns);
+                self.put(format!("mark {tag} {segment} 1"));
+                self.put(format!("mark {tag} {segment} {last}"));
+            }
+        }
+    }
+
+    fn session(&mut self) {
+        self.begin();
+        for _ in 0..self.random.between(3, 70) {
+            if self.console.unit.as_ref().is_some_and(|unit| unit.marks.len() < 3) && self.random.chance(1, 3) {
+                self.marks();
+            }
+            match self.random.below(64) {
+                0..=5 => self.search_and_read(),
+                6 => self.questions(),
+                7 => self.events(),
+                8 => self.save_and_load(),
+                _ => self.some_line(),
+            }
+        }
+    }
+
+    /// Lines of all sorts in front of the first unit. What could make one is replaced by what is refused.
+    fn no_unit(&mut self, count: usize) {
+        let end = (self.lines.len() + count).min(self.most);
+        for (name, wants) in COMMANDS {
+            let words = wants.replace("FILE", "missing").replace(" L L ..", " 1 1").replace(['P', 'S', 'Q', 'R', 'C'], "0");
+            self.put(format!("{name}{words}"));
+            self.put(format!("{name}{words} 1 x"));
+        }
+        while self.lines.len() < end {
+            let mut line = match self.random.below(10) {
+                0 => self.refused_fresh(),
+                1 | 2 => self.spoiled(),
+                3 => self.comment(),
+                _ => self.command(),
+            };
+            if line.starts_with(b"fresh ") {
+                line = self.refused_fresh();
+            } else if line.starts_with(b"load ") {
+                let damaged = damaged_name(self.random.below(REFUSED_FILES as u64) as usize);
+                line = format!("load {}", self.random.pick(&["missing", INNER, &damaged])).into_bytes();
+            }
+            self.put(line);
+        }
+    }
+
+    fn script(self, name: &str, before: Folder) -> (Script, Console<Folder>) {
+        let script = Script {
+            name: name.to_string(),
+            lines: self.lines,
+            newline: true,
+            feed: Feed::Pieces,
+            before,
+            after: self.console.shelf.clone(),
+            met: Vec::new(),
+        };
+        (script, self.console)
+    }
+}
+
+// ---------------------------------------------------------------------------------------------------------------------------------
+// Scripts
+
+/// Lines of the long script.
+pub const LINES: usize = 100_000;
+const SHORT_SCRIPTS: u64 = 12;
+
+/// The long script: so many lines, the last one without a newline.
+fn sessions(lines: usize, before: &Folder, console: Console<Folder>) -> (Script, Console<Folder>) {
+    let mut writer = Writer::new(seed_of(200, 0), lines - 1, console.again(before.clone()));
+    writer.no_unit(400);
+    // every length once in each form, at the first unit
+    writer.put("fresh 3 4 9");
+    for form in 0..LONG_FORMS {
+        for length in [4_095, 4_096, 4_097, 100_000] {
+            let line = writer.long(form, length);
+            writer.put(line);
+        }
+    }
+    while !writer.full() {
+        writer.session();
+    }
+    writer.most += 1;
+    writer.put("list");
+    let (mut script, console) = writer.script("the sessions", before.clone());
+    script.newline = false;
+    script.met.push("a last line without a newline");
+    (script, console)
+}
+
+/// A few lines that end in a special way.
+fn ending(place: usize, last: &[u8], newline: bool, before: &Folder, console: Console<Folder>) -> (Script, Console<Folder>) {
+    let mut writer = Writer::new(seed_of(201, place as u64), 10, console.again(before.clone()));
+    for line in ["fresh 1 2 3", "mark 1 2 1", "mark 1 2 3"] {
+        writer.put(line);
+    }
+    writer.put(last);
+    let (mut script, console) = writer.script(&format!("ending {place}"), before.clone());
+    script.newline = newline;
+    (script, console)
+}
+
+/// The scripts of a run: the long one, and short ones, each for a new process.
+pub fn scripts(lines: usize) -> Vec<Script> {
+    let before = files(&mut Random::new(seed_of(202, 0)));
+    let mut console = Console::new(Folder::default());
+    let mut scripts = Vec::new();
+    let mut keep = |(script, after): (Script, Console<Folder>), console: &mut Console<Folder>| {
+        scripts.push(script);
+        *console = after;
+    };
+    let take = |console: &mut Console<Folder>| std::mem::replace(console, Console::new(Folder::default()));
+
+    let made = sessions(lines, &before, take(&mut console));
+    keep(made, &mut console);
+
+    let writer = Writer::new(0, 0, take(&mut console).again(Folder::default()));
+    let (mut script, after) = writer.script("no input", Folder::default());
+    script.met.push("an input of no bytes");
+    keep((script, after), &mut console);
+
+    let long = vec![b'9'; 5_000_000];
+    let command = format!("vector {}1", "0".repeat(LONGEST_LINE - 8));
+    let lasts: [&[u8]; 13] = [
+        b"",
+        b"table 1",
+        b"tick",
+        b"list",
+        b"# no newline",
+        b" ",
+        b"row 1 ",
+        b"save out",
+        command.as_bytes(),
+        &long[..LONGEST_LINE],
+        &long[..LONGEST_LINE + 1],
+        &long[..100_000],
+        &long,
+    ];
+    for (place, last) in lasts.into_iter().enumerate() {
+        for newline in [true, false] {
+            // without its newline an empty line is none
+            if newline || !last.is_empty() {
+                let made = ending(2 * place + newline as usize, last, newline, &Folder::default(), take(&mut console));
+                keep(made, &mut console);
+            }
+        }
+    }
+    for place in 0..SHORT_SCRIPTS {
+        let mut writer = Writer::new(seed_of(203, place), 120, take(&mut console).again(before.clone()));
+        writer.no_unit(60 * (place as usize % 2));
+        while !writer.full() {
+            writer.session();
+        }
+        let (mut script, after) = writer.script(&format!("short script {place}"), before.clone());
+        match place % 4 {
+            0 => {
+                script.feed = Feed::Bytes;
+                script.met.push("an input that comes byte by byte");
+            }
+            1 => {
+                script.feed = Feed::Turns;
+                script.met.push("an input that waits for each answer");
+            }
+            _ => {}
+        }
+        keep((script, after), &mut console);
+    }
+    scripts
+}

@@ -1,0 +1,545 @@
+//! The test of the program tried by itself, without the program: an output that the model made, which has to be accepted; wrong outputs,
+//! each of which has to be reported at its line; and consoles with a fault each, which the lines have to show.
+//!
+//!     console_selftest             everything
+//!     console_selftest stand-in    the model in the program's place: answers standard input
+
+#![allow(dead_code)]
+
+mod console_check;
+mod console_examples;
+mod console_faults;
+mod console_folder;
+mod console_model;
+mod console_program;
+mod console_script;
+mod console_words;
+mod facts;
+mod model;
+mod model_check;
+mod random;
+mod sheet;
+mod tally;
+mod units;
+
+use console_check::{check, Counts, Difference, Run};
+use console_faults::{Faulty, FAULTS};
+use console_folder::{Disk, File, Folder};
+use console_model::*;
+use console_program::{Ending, Place};
+use console_script::{scripts, Feed, Line, Script, LINES};
+use console_words::{plan_drawing, Filler, Finder};
+use model::*;
+use random::{seed_of, Random};
+use std::io::{self, BufRead, Write};
+use std::process::{exit, Command};
+use std::time::Duration;
+
+// ---------------------------------------------------------------------------------------------------------------------------------
+// An output of the model's own
+
+/// A stand-in for the program: the model's answers to the lines of standard input, with the files of the system. It shows that the test
+/// takes the system's files for what they are, and that a right program passes.
+fn stand_in() -> io::Result<()> {
+    let (mut input, mut output) = (io::stdin().lock(), io::stdout().lock());
+    let (mut console, mut filler, mut random) = (Console::new(Disk), Filler::default(), Random::new(seed_of(208, 0)));
+    let mut line = Vec::new();
+    for place in 1.. {
+        line.clear();
+        if input.read_until(b'\n', &mut line)? == 0 {
+            break;
+        }
+        let answer = console.answer(line.strip_suffix(b"\n").unwrap_or(&line), place);
+        output.write_all(filler.text(&answer, &mut random).as_bytes())?;
+    }
+    output.flush()
+}
+
+/// What a right program could have done.
+struct Fake {
+    answers: Vec<String>,
+    tail: String,
+    ending: Ending,
+    folder: Folder,
+}
+
+impl Fake {
+    fn new(script: &Script, random: &mut Random) -> Fake {
+        let mut filler = Filler::default();
+        let answers = script.lines.iter().map(|line| filler.text(&line.answer, random)).collect();
+        Fake { answers, tail: String::new(), ending: Ending::Status(0), folder: script.after.clone() }
+    }
+
+    fn run(&self) -> Run {
+        let output = [&self.answers.concat(), self.tail.as_str()].concat().into_bytes();
+        Run { output, ending: self.ending, unanswered: None, folder: self.folder.clone() }
+    }
+}
+
+// ---------------------------------------------------------------------------------------------------------------------------------
+// Wrong outputs
+
+/// Where the difference has to be reported.
+type Placed = Option<usize>;
+
+/// What a wrong output is made with.
+struct Spoiler<'a> {
+    script: &'a Script,
+    fake: Fake,
+    finder: Finder,
+    random: Random,
+}
+
+impl Spoiler<'_> {
+    /// Changes the answer of a line chosen at random among those whose answer `edit` can change.
+    fn change(&mut self, mut edit: impl FnMut(&Line, &str, &mut Finder, &mut Random) -> Option<String>) -> Placed {
+        let count = self.script.lines.len();
+        let begin = self.random.below(count as u64) as usize;
+        for place in (begin..count).chain(0..begin) {
+            let (line, text) = (&self.script.lines[place], &self.fake.answers[place]);
+            match edit(line, text, &mut self.finder, &mut self.random) {
+                Some(other) if other != *text => {
+                    self.fake.answers[place] = other;
+                    return Some(place + 1);
+                }
+                _ => {}
+            }
+        }
+        None
+    }
+
+    /// The same for the answers of one command that begin in one way.
+    fn change_of(&mut self, name: &str, begin: &str, edit: impl Fn(&str) -> String) -> Placed {
+        self.change(|line, text, _, _| match &line.answer.sort {
+            Sort::Of(command, _) if *command == name && text.starts_with(begin) => Some(edit(text)),
+            _ => None,
+        })
+    }
+
+    /// The plan that a `read` shows in place of the right one, from its tag, its function and what was shown.
+    fn change_plan(&mut self, edit: impl Fn(&Drawn, Vec<u8>, &mut Finder, &mut Random) -> Option<String>) -> Placed {
+        self.change(|line, text, finder, random| {
+            let [Part::Text(begin), Part::Plan(_, drawn), _] = &line.answer.parts[..] else { return None };
+            let shown = text.strip_prefix(begin.as_str())?.split_once(" sum ")?.0;
+            let latencies = shown.split(' ').map(|word| word.parse().expect("a latency")).collect();
+            Some(format!("{begin}{}\n", edit(drawn, latencies, finder, random)?))
+        })
+    }
+
+    /// Another line's answer in place of a drawing, whose plan was shown before or was not.
+    fn change_drawing(
+        &mut self,
+        shown_before: bool,
+        edit: impl Fn(u32, &Drawn, &str, &mut Finder, &mut Random) -> Option<String>,
+    ) -> Placed {
+        self.change(|line, text, finder, random| {
+            let [Part::Drawing(_, tag, drawn)] = &line.answer.parts[..] else { return None };
+            let first = line.answer.met.contains(&"a drawing of a plan that was not read before");
+            if first == shown_before {
+                return None;
+            }
+            edit(*tag, drawn, text, finder, random)
+        })
+    }
+
+    /// A file that a save wrote.
+    fn saved_file(&self) -> Option<Vec<u8>> {
+        let new = |name: &&Vec<u8>| self.script.before.files.get(*name) != self.script.after.files.get(*name);
+        self.script.after.files.keys().find(new).cloned()
+    }
+
+    fn change_file(&mut self, edit: impl Fn(&mut Vec<u8>)) -> Placed {
+        let name = self.saved_file()?;
+        if let Some(File::Bytes(bytes)) = self.fake.folder.files.get_mut(&name) {
+            edit(bytes);
+        }
+        self.end()
+    }
+
+    fn end(&self) -> Placed {
+        Some(self.script.lines.len() + 1)
+    }
+}
+
+/// The last digit of a text changed to the next one.
+fn next_digit(text: &str) -> String {
+    let mut bytes = text.as_bytes().to_vec();
+    if let Some(place) = bytes.iter().rposition(|byte| byte.is_ascii_digit()) {
+        bytes[place] = if bytes[place] == b'9' { b'8' } else { bytes[place] + 1 };
+    }
+    String::from_utf8(bytes).expect("digits")
+}
+
+/// Two neighbours of the lines of a text exchanged, the first ones that differ.
+fn lines_exchanged(text: &str) -> String {
+    let mut lines: Vec<&str> = text.split_inclusive('\n').collect();
+    if let Some(place) = (1..lines.len().saturating_sub(2)).find(|place| lines[*place] != lines[place + 1]) {
+        lines.swap(place, place + 1);
+    }
+    lines.concat()
+}
+
+fn worse(drawn: &Drawn, latencies: &[u8]) -> bool {
+    let (least, of) = drawn.graph.least();
+    sum_of(latencies) as i64 * of > least * latencies.len() as i64
+}
+
+type Wrong = (&'static str, fn(&mut Spoiler) -> Placed);
+
+const WRONG: [Wrong; 67] = [
+    ("mark: ok in place of refused 2", |it| it.change_of("mark", "refused 2", |_| "ok\n".to_string())),
+    ("mark: refused 3 in place of refused 4", |it| it.change_of("mark", "refused 4", |_| "refused 3\n".to_string())),
+    ("unmark: refused 2 in place of ok", |it| it.change_of("unmark", "ok", |_| "refused 2\n".to_string())),
+    ("fresh: ok in place of refused 1", |it| it.change_of("fresh", "refused", |_| "ok\n".to_string())),
+    ("search: ok in place of refused 7", |it| it.change_of("search", "refused 7", |_| "ok\n".to_string())),
+    ("vector: a bit the other way", |it| {
+        it.change_of("vector", "vector 1", |text| if text.contains('0') { text.replacen('0', "1", 1) } else { text.replacen('1', "0", 1) })
+    }),
+    ("vector: nothing in place of -", |it| it.change_of("vector", "vector -", |_| "vector \n".to_string())),
+    ("vector: a zero in front", |it| it.change_of("vector", "vector 1", |text| text.replacen(' ', " 0", 1))),
+    ("row: its own zeros in front left out", |it| it.change_of("row", "row 0", |text| text.replacen("row 0", "row ", 1))),
+    ("row: a column more", |it| it.change_of("row", "row 1", |text| text.replacen("row ", "row 0", 1))),
+    ("row: the row without its first column", |it| it.change_of("row", "row 1", |text| text.replacen("row 1", "row ", 1))),
+    ("states: one more than there are", |it| it.change_of("states", "states 3:", |text| text.replacen('3', "4", 1))),
+    ("states: two exchanged", |it| {
+        it.change_of("states", "states", |text| {
+            let mut words: Vec<&str> = text.trim_end().split(' ').collect();
+            let last = words.len() - 1;
+            words.swap(last, last - (last > 2) as usize);
+            words.join(" ") + "\n"
+        })
+    }),
+    ("states: no colon", |it| it.change_of("states", "states", |text| text.replacen(':', "", 1))),
+    ("greedy: the sum is another", |it| it.change_of("greedy", "greedy", next_digit)),
+    ("bound: another", |it| it.change_of("bound", "bound", next_digit)),
+    ("upper: another", |it| it.change_of("upper", "upper", next_digit)),
+    ("constant: another", |it| it.change_of("constant", "constant", next_digit)),
+    ("judge: yes in place of no", |it| it.change_of("judge", "no\n", |_| "yes\n".to_string())),
+    ("judge: no in place of yes", |it| it.change_of("judge", "yes", |_| "no\n".to_string())),
+    ("judge: no in place of refused 9", |it| it.change_of("judge", "refused 9", |_| "no\n".to_string())),
+    ("start: ok in place of refused 10", |it| it.change_of("start", "refused 10", |_| "ok\n".to_string())),
+    ("start: refused 10 in place of ok", |it| it.change_of("start", "ok", |_| "refused 10\n".to_string())),
+    ("bank: a register is another", |it| it.change_of("bank", "", next_digit)),
+    ("bank: two registers exchanged", |it| {
+        it.change(|line, text, _, _| {
+            let words: Vec<&str> = text.trim_end().split(' ').collect();
+            let is = line.bytes == b"bank" && words.len() == 4;
+            is.then(|| format!("{} {} {} {}\n", words[1], words[0], words[2], words[3]))
+        })
+    }),
+    ("load: ok in place of refused 13", |it| it.change_of("load", "refused 13", |_| "ok\n".to_string())),
+    ("load: refused 11 in place of no file", |it| it.change_of("load", "no file", |_| "refused 11\n".to_string())),
+    ("save: ok in place of not written", |it| it.change_of("save", "not written", |_| "ok\n".to_string())),
+    ("read: the greedy cycle, which is not the best", |it| {
+        it.change_plan(|drawn, _, _, _| worse(drawn, &drawn.graph.greedy).then(|| cycle_text(&drawn.graph.greedy)))
+    }),
+    ("read: (n + 1)", |it| {
+        it.change_plan(|drawn, _, _, _| {
+            let cycle = [drawn.graph.diagram.states[0].len() as u8 + 1];
+            worse(drawn, &cycle).then(|| cycle_text(&cycle))
+        })
+    }),
+    ("read: a cycle that collides", |it| it.change_plan(|_, latencies, _, _| (latencies.len() > 1).then(|| cycle_text(&[latencies[0]])))),
+    ("read: another rotation", |it| {
+        it.change_plan(|_, mut latencies, _, _| {
+            latencies.rotate_left(1);
+            Some(cycle_text(&latencies))
+        })
+    }),
+    ("read: twice around", |it| it.change_plan(|_, latencies, _, _| Some(cycle_text(&latencies.repeat(2))))),
+    ("read: no latency", |it| it.change_plan(|_, _, _, _| Some("sum 0".to_string()))),
+    ("read: the sum is another", |it| it.change_plan(|_, latencies, _, _| Some(next_digit(&cycle_text(&latencies))))),
+    ("read: a zero in front of a latency", |it| it.change_plan(|_, latencies, _, _| Some(format!("0{}", cycle_text(&latencies))))),
+    ("read: two spaces", |it| it.change_plan(|_, latencies, _, _| Some(cycle_text(&latencies).replacen(' ', "  ", 1)))),
+    ("read: another tag", |it| it.change_of("read", "plan 1", |text| text.replacen("plan 1", "plan 2", 1))),
+    ("read: a plan that was dropped", |it| it.change_of("read", "refused 8", |_| "plan 1 cycle 1 sum 1\n".to_string())),
+    ("read: refused 8 in place of a plan", |it| it.change_of("read", "plan", |_| "refused 8\n".to_string())),
+    ("read: another best cycle than before", |it| {
+        it.change(|line, _, finder, random| {
+            let [Part::Text(begin), Part::Plan(_, drawn), _] = &line.answer.parts[..] else { return None };
+            if !line.answer.met.contains(&"a plan shown again") {
+                return None;
+            }
+            Some(format!("{begin}{}\n", cycle_text(&finder.best(&drawn.graph, random))))
+        })
+    }),
+    ("list: the greedy cycle, which is not the best", |it| {
+        it.change(|line, text, _, _| {
+            let best = line.answer.parts.iter().find_map(|piece| match piece {
+                Part::Best(drawn) if worse(drawn, &drawn.graph.greedy) => Some(cycle_text(&drawn.graph.greedy)),
+                _ => None,
+            })?;
+            let mut lines: Vec<String> = text.lines().map(|line| line.to_string()).collect();
+            let greedy = format!("greedy {best}");
+            let place = lines.iter().position(|line| *line == greedy)?;
+            lines[place + 1] = format!("best {best}");
+            Some(lines.join("\n") + "\n")
+        })
+    }),
+    ("list: constant is another", |it| it.change_of("list", "function", next_digit)),
+    ("list: two lines exchanged", |it| it.change_of("list", "function", lines_exchanged)),
+    ("list: no refused 7", |it| {
+        it.change(|line, text, _, _| (line.bytes == b"list" && text.contains("refused 7\n")).then(|| text.replacen("refused 7\n", "", 1)))
+    }),
+    ("table: a mark left out", |it| it.change_of("table", " ", |text| text.replacen('x', ".", 1))),
+    ("table: a mark too many", |it| it.change_of("table", " ", |text| text.replacen('.', "x", 1))),
+    ("table: no column numbers", |it| it.change_of("table", " ", |text| text.split_once('\n').expect("two lines").1.to_string())),
+    ("table: narrow cells", |it| it.change_of("table", " ", |text| text.replace("   ", "  "))),
+    ("diagram: an arc of the plan that is not bold", |it| it.change_drawing(true, |_, _, text, _, _| Some(text.replacen(BOLD, "", 1)))),
+    ("diagram: an arc too many that is bold", |it| {
+        it.change_drawing(true, |_, _, text, _, _| {
+            let mut lines: Vec<String> = text.split_inclusive('\n').map(|line| line.to_string()).collect();
+            let line = lines.iter_mut().find(|line| line.contains("->") && !line.contains(BOLD))?;
+            *line = line.replace("];", &format!("{BOLD}];"));
+            Some(lines.concat())
+        })
+    }),
+    ("diagram: another best cycle than the plan's is bold", |it| {
+        it.change_drawing(true, |tag, drawn, _, finder, random| Some(plan_drawing(tag, drawn, &finder.best(&drawn.graph, random))))
+    }),
+    ("diagram: bold arcs that are no cycle, the plan not read yet", |it| {
+        it.change_drawing(false, |_, _, text, _, _| Some(text.replacen(BOLD, "", 1)))
+    }),
+    ("diagram: nothing bold, the plan not read yet", |it| it.change_drawing(false, |_, _, text, _, _| Some(text.replace(BOLD, "")))),
+    ("diagram: the greedy cycle is bold, which is not the best, the plan not read yet", |it| {
+        it.change_drawing(false, |tag, drawn, _, _, _| {
+            worse(drawn, &drawn.graph.greedy).then(|| plan_drawing(tag, drawn, &drawn.graph.greedy))
+        })
+    }),
+    ("diagram: bold without a plan", |it| {
+        it.change(|line, text, _, _| {
+            let no_plan = line.answer.met.contains(&"a drawing without a plan");
+            no_plan.then(|| text.replacen("];", &format!("{BOLD}];"), 1))
+        })
+    }),
+    ("diagram: two arcs exchanged", |it| it.change_of("diagram", "digraph", lines_exchanged)),
+    ("line N: one more", |it| {
+        it.change(|_, text, _, _| {
+            let (number, rest) = text.strip_prefix("line ")?.split_once(':')?;
+            Some(format!("line {}:{rest}", number.parse::<u32>().ok()? + 1))
+        })
+    }),
+    ("expected: what another command wants", |it| it.change_of("row", "line", |text| text.replace("row Q R", "row Q"))),
+    ("too long: expected a command", |it| it.change(|_, text, _, _| Some(text.replace("too long", "expected a command")))),
+    ("no unit: refused 1", |it| it.change(|_, text, _, _| Some(text.replace("no unit", "refused 1")))),
+    ("an answer with a space at its end", |it| it.change(|_, text, _, _| Some(text.replacen('\n', " \n", 1)))),
+    ("an answer with a carriage return at its end", |it| it.change(|_, text, _, _| Some(text.replacen('\n', "\r\n", 1)))),
+    ("a file that was saved has a byte changed", |it| it.change_file(|bytes| bytes[2] ^= 1)),
+    ("a file that was saved has bytes of the one before it at its end", |it| it.change_file(|bytes| bytes.push(0))),
+    ("a file that was saved is not there", |it| {
+        let name = it.saved_file()?;
+        it.fake.folder.files.remove(&name);
+        it.end()
+    }),
+    ("a file is there that nobody saved", |it| {
+        it.fake.folder.files.insert(b"missing".to_vec(), File::Bytes(Vec::new()));
+        it.end()
+    }),
+];
+
+/// Wrong in how many lines there are, or at the end. A line too many or too few shows where the answers after it first differ.
+const WRONG_AFTER: [Wrong; 8] = [
+    ("an answer to a comment", |it| it.change(|line, _, _, _| (line.answer.sort == Sort::Comment).then(|| "ok\n".to_string()))),
+    ("an answer left out", |it| it.change(|_, text, _, _| (text == "ok\n").then(String::new))),
+    ("an answer twice", |it| it.change(|_, text, _, _| (text == "ok\n").then(|| text.repeat(2)))),
+    ("cut off in the middle", |it| {
+        let half = it.fake.answers.len() / 2;
+        it.fake.answers.truncate(half);
+        (half..it.script.lines.len()).find(|place| !it.script.lines[*place].answer.parts.is_empty()).map(|place| place + 1)
+    }),
+    ("no newline at the end", |it| {
+        let last = it.fake.answers.last_mut()?;
+        last.pop();
+        Some(it.script.lines.len())
+    }),
+    ("a line more at the end", |it| {
+        it.fake.tail = "ok\n".to_string();
+        it.end()
+    }),
+    ("status 1", |it| {
+        it.fake.ending = Ending::Status(1);
+        it.end()
+    }),
+    ("ended by a signal", |it| {
+        it.fake.ending = Ending::Signal(11);
+        it.end()
+    }),
+];
+
+/// How often each sort of wrong output is tried, each time at another line.
+const TIMES: u64 = 5;
+
+fn try_wrong(script: &Script, number: u64, wrong: &Wrong, exact: bool) -> Result<String, String> {
+    let (what, make) = wrong;
+    let mut first = None;
+    for time in 0..TIMES {
+        let mut random = Random::new(seed_of(210 + time, number));
+        let fake = Fake::new(script, &mut random);
+        let mut spoiler = Spoiler { script, fake, finder: Finder::default(), random };
+        let place = make(&mut spoiler).ok_or(format!("selftest: no line for: {what}"))?;
+        match check(script, &spoiler.fake.run(), &mut Counts::default()) {
+            Ok(()) => return Err(format!("selftest: NOT REPORTED at line {place}: {what}")),
+            Err(Difference { line, why }) => {
+                // a difference that shifts all answers after it shows where they first differ
+                if exact && line != place || line < place {
+                    return Err(format!("selftest: made at line {place} and reported at line {line}: {what}\n{why}"));
+                }
+                first.get_or_insert(line);
+            }
+        }
+    }
+    Ok(format!("reported {TIMES} times, first at line {}: {what}", first.expect("tried at least once")))
+}
+
+/// Programs that are no console, run as the console is.
+fn try_programs(script: &Script, right: &Run) -> Result<(), String> {
+    let limit = Duration::from_secs(20);
+    let short = Duration::from_millis(500);
+    let place = Place::new().map_err(|error| error.to_string())?;
+    let answers = place.path.join("answers");
+    std::fs::write(&answers, &right.output).map_err(|error| error.to_string())?;
+    let shell = |text: &str| {
+        let mut command = Command::new("sh");
+        command.arg("-c").arg(text).arg(&answers);
+        command
+    };
+    let mut sleep = Command::new("sleep");
+    sleep.arg("60");
+    let programs: [(&str, Command, Duration, bool); 9] = [
+        ("reads all, then writes the right answers", shell("cat >/dev/null; cat \"$0\""), limit, true),
+        ("writes the right answers before it reads", shell("cat \"$0\"; cat >/dev/null"), limit, true),
+        ("writes the right answers and ends with status 3", shell("cat >/dev/null; cat \"$0\"; exit 3"), limit, false),
+        ("writes the right answers and is ended by a signal", shell("cat >/dev/null; cat \"$0\"; kill -9 $$"), limit, false),
+        ("writes the right answers and leaves a file behind", shell("cat >/dev/null; cat \"$0\"; : >left"), limit, false),
+        ("writes its input", Command::new("cat"), limit, false),
+        ("writes nothing", Command::new("true"), limit, false),
+        ("ends with status 1", Command::new("false"), limit, false),
+        ("never ends", sleep, short, false),
+    ];
+    for (what, mut command, limit, is_right) in programs {
+        let run = console_program::run(&mut command, script, limit).map_err(|error| format!("selftest: {what}: {error}"))?;
+        let found = check(script, &run, &mut Counts::default());
+        let told = match &found {
+            Ok(()) => "accepted".to_string(),
+            Err(difference) => format!("reported at line {}", difference.line),
+        };
+        if found.is_ok() != is_right {
+            return Err(format!("selftest: {told}, which is wrong: a program that {what}"));
+        }
+        println!("selftest: {told}: a program that {what}");
+    }
+    Ok(())
+}
+
+/// A console with a fault, on the long script: on its first lines, and on all of it where these don't show the fault.
+fn try_fault(script: &Script, fault: usize, console: Console<Folder>) -> Result<(String, Console<Folder>), String> {
+    let (what, answer) = FAULTS[fault];
+    let mut console = console;
+    for count in [2_000, 20_000, script.lines.len()] {
+        let mut faulty = Faulty::new(console.again(script.before.clone()));
+        let (mut filler, mut random) = (Filler::default(), Random::new(fault as u64));
+        let mut output = Vec::new();
+        for (place, line) in (1..).zip(&script.lines[..count]) {
+            output.extend_from_slice(filler.text(&answer(&mut faulty, &line.bytes, place), &mut random).as_bytes());
+        }
+        let run = Run { output, ending: Ending::Status(0), unanswered: None, folder: faulty.console.shelf.clone() };
+        console = faulty.console;
+        match check(script, &run, &mut Counts::default()) {
+            // after so many lines the output has to end
+            Err(difference) if difference.line <= count || count == script.lines.len() => {
+                return Ok((format!("reported at line {}: {what}", difference.line), console));
+            }
+            _ => {}
+        }
+    }
+    Err(format!("selftest: NOT REPORTED in {} lines: {what}", script.lines.len()))
+}
+
+/// A program whose answers come when its input has ended.
+fn try_late(some: &[Script]) -> Result<(), String> {
+    let script = some.iter().find(|script| script.feed == Feed::Turns).expect("a script that waits for each answer");
+    let program = std::env::current_exe().map_err(|error| error.to_string())?;
+    let mut command = Command::new("sh");
+    command.arg("-c").arg("\"$0\" stand-in >answers; cat answers; rm answers").arg(program);
+    let run = console_program::run(&mut command, script, Duration::from_secs(60)).map_err(|error| error.to_string())?;
+    match check(script, &run, &mut Counts::default()) {
+        Ok(()) => Err("selftest: NOT REPORTED: a program that answers when its input has ended".to_string()),
+        Err(difference) => {
+            println!("selftest: reported at line {}: a program that answers when its input has ended", difference.line);
+            Ok(())
+        }
+    }
+}
+
+/// The stand-in, run as the program is.
+fn try_stand_in(whole: &[Script]) -> Result<(), String> {
+    let program = std::env::current_exe().map_err(|error| error.to_string())?;
+    let mut counts = Counts::default();
+    for script in whole {
+        let run = console_program::run(Command::new(&program).arg("stand-in"), script, Duration::from_secs(60))
+            .map_err(|error| error.to_string())?;
+        check(script, &run, &mut counts).map_err(|difference| format!("selftest: the stand-in is not accepted\n{}", difference.why))?;
+    }
+    println!("selftest: a stand-in with files of the system is accepted, {} scripts of {} lines", whole.len(), counts.lines);
+    Ok(())
+}
+
+fn run(lines: usize) -> Result<(), String> {
+    console_examples::check_model().map_err(|why| format!("model: {why}"))?;
+    println!("selftest: the model answers as it is written by hand");
+
+    // the model's own output, three times with other best cycles
+    let whole = scripts(lines);
+    for time in 0..3 {
+        let mut counts = Counts::default();
+        let mut random = Random::new(seed_of(209, time));
+        for script in &whole {
+            let fake = Fake::new(script, &mut random);
+            check(script, &fake.run(), &mut counts)
+                .map_err(|difference| format!("selftest: a right output is not accepted\n{}", difference.why))?;
+        }
+        if !counts.gaps().is_empty() {
+            return Err(format!("selftest: NEVER MET: {}", counts.gaps().join("; ")));
+        }
+        if time == 0 {
+            println!("selftest: the model's own output is accepted: {}", counts.told());
+        }
+    }
+    println!("selftest: so it is with other best cycles, twice");
+    try_stand_in(&whole)?;
+
+    let some = scripts(lines / 10);
+    let mut tried = 0;
+    for (wrongs, exact) in [(&WRONG[..], true), (&WRONG_AFTER[..], false)] {
+        for wrong in wrongs {
+            println!("selftest: {}", try_wrong(&some[0], tried, wrong, exact)?);
+            tried += 1;
+        }
+    }
+    let fake = Fake::new(&some[2], &mut Random::new(0));
+    try_programs(&some[2], &fake.run())?;
+    try_late(&some)?;
+    println!("selftest: {tried} sorts of wrong outputs, each made {TIMES} times, and every one is reported");
+
+    let mut console = Console::new(Folder::default());
+    for fault in 0..FAULTS.len() {
+        let (told, after) = try_fault(&whole[0], fault, console)?;
+        println!("selftest: {told}");
+        console = after;
+    }
+    println!("selftest: {} consoles with a fault, and every one is reported", FAULTS.len());
+    Ok(())
+}
+
+fn main() {
+    let arguments: Vec<String> = std::env::args().skip(1).collect();
+    let done = match arguments.iter().map(|word| word.as_str()).collect::<Vec<_>>()[..] {
+        [] => run(LINES),
+        ["stand-in"] => stand_in().map_err(|error| error.to_string()),
+        _ => Err("console_selftest [stand-in]".to_string()),
+    };
+    if let Err(why) = done {
+        println!("{why}");
+        exit(1);
+    }
+}
