@@ -2,7 +2,8 @@
 //!
 //! Scripts of 100,000 lines and more, good lines and bad ones, are made from fixed seeds; each line's answer is worked out by the tests'
 //! own implementation of the paper (`model.rs`, `console_model.rs`) before the program is run; then the program answers the scripts, and
-//! the first difference ends the run.
+//! the first difference ends the run. Before them come runs of a few lines, each with special files or a special output
+//! (`console_outside.rs`).
 //!
 //!     console PROGRAM            everything
 //!     console PROGRAM special    everything, and how often each special case was met
@@ -14,6 +15,7 @@ mod console_check;
 mod console_examples;
 mod console_folder;
 mod console_model;
+mod console_outside;
 mod console_program;
 mod console_script;
 mod facts;
@@ -25,6 +27,7 @@ mod tally;
 mod units;
 
 use console_check::{check, Counts};
+use console_folder::has_devices;
 use console_script::{scripts, LINES};
 use std::path::Path;
 use std::process::{exit, Command};
@@ -32,6 +35,8 @@ use std::time::{Duration, Instant};
 
 /// A program that has not ended by then never does.
 const LIMIT: Duration = Duration::from_secs(60);
+/// The same for a few lines.
+const SHORT_LIMIT: Duration = Duration::from_secs(10);
 
 fn run(program: &Path, special: bool) -> Result<(), String> {
     let begin = Instant::now();
@@ -39,12 +44,18 @@ fn run(program: &Path, special: bool) -> Result<(), String> {
     let scripts = scripts(LINES);
     let made = begin.elapsed();
     let mut counts = Counts::default();
+    let had_devices = has_devices();
+    // a program that replaces what is no regular file is found here, before the scripts name devices
+    console_outside::check(program, SHORT_LIMIT, &mut counts)?;
     let mut inside = Duration::ZERO;
     for script in &scripts {
         let since = Instant::now();
         let run =
             console_program::run(&mut Command::new(program), script, LIMIT).map_err(|error| format!("a script can't be run: {error}"))?;
         inside += since.elapsed();
+        if had_devices && !has_devices() {
+            return Err(format!("DIFFERENCE after {}\na device of the system was replaced", script.name));
+        }
         check(script, &run, &mut counts).map_err(|difference| difference.why)?;
     }
     if special {

@@ -62,12 +62,16 @@ const ANSWERS: [(&str, &[u32], &[&str]); 21] = [
     ("diagram", &[2, 7], &["ok", "no unit"]),
 ];
 
-const OTHERS: [(Sort, &str); 4] =
-    [(Sort::ExpectedCommand, "expected a command"), (Sort::TooLong, "too long"), (Sort::Empty, "empty lines"), (Sort::Comment, "comments")];
+const OTHERS: [(Sort, &str); 4] = [
+    (Sort::ExpectedCommand, "expected a command"),
+    (Sort::TooLong, "too long"),
+    (Sort::Empty, "lines without words"),
+    (Sort::Comment, "comments"),
+];
 
 impl Counts {
     pub fn meet(&mut self, what: &'static str) {
-        debug_assert!(WANTED.contains(&what), "{what}");
+        debug_assert!(WANTED.contains(&what) || WHERE_POSSIBLE.contains(&what), "{what}");
         *self.met.entry(what).or_default() += 1;
     }
 
@@ -120,7 +124,8 @@ impl Counts {
 
     /// The special cases, one a line.
     pub fn special(&self) -> String {
-        WANTED.iter().map(|what| format!("{:>7}  {what}\n", self.met.get(what).copied().unwrap_or(0))).collect()
+        let all = WANTED.iter().chain(WHERE_POSSIBLE);
+        all.map(|what| format!("{:>7}  {what}\n", self.met.get(what).copied().unwrap_or(0))).collect()
     }
 }
 

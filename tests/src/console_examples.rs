@@ -37,18 +37,64 @@ line 13: expected search Q
 >read 1
 line 14: expected read
 >tick\u{20}
-line 15: expected tick
+no unit
 >bank  1
 line 16: expected bank
 >Tick
 line 17: expected a command
 >\u{20}tick
-line 18: expected a command
+no unit
 >vector 4294967296
 line 19: expected vector Q
 >vector 4294967295
 no unit
->fresh 1 5 9
+>\ttick\t \t
+no unit
+>tick\r
+no unit
+>\ttick \r
+no unit
+>tick\r\r
+line 24: expected a command
+>tick\r\t
+line 25: expected a command
+>\rtick
+line 26: expected a command
+>tick\u{b}
+line 27: expected a command
+>\r
+>\u{20}
+>\t \t
+>\u{20}\t\r
+>\r\r
+line 32: expected a command
+>\r\u{20}
+line 33: expected a command
+>\u{20}# a comment after a blank
+>\t\t#\r
+>\r# no comment
+line 36: expected a command
+>tick # no comment
+line 37: expected tick
+>load  missing
+no file
+>\tload\tmissing \r
+no file
+>load missing\r missing
+line 40: expected load FILE
+>load \t\r
+line 41: expected load FILE
+>fresh\t1 1\t 1 1
+line 42: expected fresh P S C
+>vector 1\r 1
+line 43: expected vector Q
+>vector 1\r\r
+line 44: expected vector Q
+>vector \r1
+line 45: expected vector Q
+>vector\t \t1
+no unit
+>\tfresh  1 5\t9 \r
 ok
 >mark 1 1 1
 ok
@@ -160,18 +206,48 @@ plan 1 cycle 3 4 sum 7
 not written
 >save figure
 ok
+>bank
+88 0 0 0
 >mark 1 1 1
 ok
 >read
 refused 8
 >bank
-88 0 0 0
+0 0 0 0
+>start 1
+ok
+>start 1
+refused 10
+>mark 1 1 10
+refused 4
+>mark 1 1
+line 96: expected mark Q R C
+>bank
+177 0 0 0
+>search 1
+ok
+>bank
+177 0 0 0
+>unmark 1 1 2
+ok
+>bank
+0 0 0 0
+>start 1
+ok
 >load figure
 ok
 >bank
 0 0 0 0
 >row 1 1
 row 10110001
+>save figure\r
+ok
+>save  a\rb\u{20}
+ok
+>load a\rb
+ok
+>load a
+no file
 >fresh 02 03 0000000000000005
 ok
 >mark 1 1 1
@@ -257,8 +333,10 @@ fn script_of(name: &str, lines: &[&str], before: Folder) -> Script {
 
 /// The model's answers are those written by hand above.
 pub fn examples() -> Result<(), String> {
-    let typed: Vec<&str> = EXAMPLES.lines().filter_map(|line| line.strip_prefix('>')).collect();
-    let seen: String = EXAMPLES.lines().filter(|line| !line.starts_with('>')).map(|line| format!("{line}\n")).collect();
+    // `lines` would pass over carriage returns at the end
+    let lines: Vec<&str> = EXAMPLES.split_terminator('\n').collect();
+    let typed: Vec<&str> = lines.iter().filter_map(|line| line.strip_prefix('>')).collect();
+    let seen: String = lines.iter().filter(|line| !line.starts_with('>')).map(|line| format!("{line}\n")).collect();
     let script = script_of("the examples", &typed, Folder::default());
     let run = Run { output: seen.into_bytes(), ending: Ending::Status(0), unanswered: None, folder: script.after.clone() };
     check(&script, &run, &mut Counts::default()).map_err(|difference| difference.why)

@@ -1,8 +1,9 @@
 //! Consoles with one fault each, as a program could have it. The scripts have to show every one of them: an output that is wrong shows that
 //! the comparison works, a console that is wrong shows that the lines reach the fault.
 
-use crate::console_folder::{File, Folder};
+use crate::console_folder::{File, Folder, PART};
 use crate::console_model::*;
+use crate::console_script::LINES;
 use crate::model::*;
 
 /// What a faulty console is made of.
@@ -24,14 +25,48 @@ impl Faulty {
         self.console.answer(line, place)
     }
 
-    /// With the words after the first changed, where the line is short enough to have any.
+    /// With the words changed, where the line says any.
     fn with_words(&mut self, line: &[u8], place: usize, change: impl Fn(&mut Vec<Vec<u8>>)) -> Answer {
-        if line.len() > LONGEST_LINE || line.starts_with(b"#") {
+        if !says(line) {
             return self.answer(line, place);
         }
-        let mut words: Vec<Vec<u8>> = line.split(|byte| *byte == b' ').map(|word| word.to_vec()).collect();
+        let mut words: Vec<Vec<u8>> = words_of(line).into_iter().map(|word| word.to_vec()).collect();
         change(&mut words);
-        self.answer(&words.join(&b' '), place)
+        self.answer(&line_of(&words), place)
+    }
+
+    /// With an empty word, where the line is to have one: a command with it is not what was expected.
+    fn with_empty_word(&mut self, line: &[u8], place: usize, has: fn(&[u8]) -> bool) -> Answer {
+        let has = has(without_return(line));
+        self.with_words(line, place, |words| {
+            if has {
+                words.extend([b"x".to_vec(), b"x".to_vec()]);
+            }
+        })
+    }
+
+    /// As a line that is no command, where it is so.
+    fn no_command_if(&mut self, holds: bool, line: &[u8], place: usize) -> Answer {
+        self.answer(if holds { b"?" } else { line }, place)
+    }
+
+    /// With other bytes, where the line is not too long.
+    fn with_bytes(&mut self, line: &[u8], place: usize, change: impl Fn(u8) -> u8) -> Answer {
+        let other: Vec<u8> = line.iter().map(|byte| change(*byte)).collect();
+        self.answer(if line.len() > LONGEST_LINE { line } else { &other }, place)
+    }
+
+    /// As another line, where that one is not too long and this one is, which has words.
+    fn shorter(&mut self, line: &[u8], place: usize, other: &[u8]) -> Answer {
+        let is_shorter = line.len() > LONGEST_LINE && other.len() <= LONGEST_LINE && !has_no_words(line);
+        self.answer(if is_shorter { other } else { line }, place)
+    }
+
+    /// With a line of some sort left out of the numbers of those after it.
+    fn not_counting(&mut self, line: &[u8], place: usize, is: impl Fn(&[u8]) -> bool) -> Answer {
+        let skipped = self.skipped;
+        self.skipped += is(line) as usize;
+        self.answer(line, place - skipped)
     }
 
     /// With each number changed.
@@ -92,6 +127,48 @@ impl Faulty {
     }
 }
 
+/// Whether a line is no longer than it may be and has words that are no comment.
+fn says(line: &[u8]) -> bool {
+    line.len() <= LONGEST_LINE && words_of(line).first().is_some_and(|first| !first.starts_with(b"#"))
+}
+
+/// A line that says these words.
+fn line_of(words: &[Vec<u8>]) -> Vec<u8> {
+    let mut line = words.join(&b' ');
+    // one that belongs to the last word
+    if line.ends_with(b"\r") {
+        line.push(b'\r');
+    }
+    line
+}
+
+fn first_is(line: &[u8], names: &[&[u8]]) -> bool {
+    says(line) && names.contains(&words_of(line)[0])
+}
+
+fn is_comment(line: &[u8]) -> bool {
+    words_of(line).first().is_some_and(|first| first.starts_with(b"#"))
+}
+
+fn has_no_words(line: &[u8]) -> bool {
+    words_of(line).is_empty()
+}
+
+fn after_blanks(line: &[u8]) -> bool {
+    line.first().is_some_and(|byte| is_blank(*byte))
+}
+
+fn before_blanks(line: &[u8]) -> bool {
+    line.last().is_some_and(|byte| is_blank(*byte))
+}
+
+/// Without blanks at either end.
+fn between_blanks(line: &[u8]) -> &[u8] {
+    let begin = line.iter().position(|byte| !is_blank(*byte)).unwrap_or(line.len());
+    let end = line.iter().rposition(|byte| !is_blank(*byte)).map_or(begin, |last| last + 1);
+    &line[begin..end]
+}
+
 fn digits(text: &str) -> Option<u128> {
     if text.is_empty() || text.len() > 39 || !text.bytes().all(|byte| byte.is_ascii_digit()) {
         return None;
@@ -119,27 +196,139 @@ fn is(answer: &Answer, name: &str, told: &str) -> bool {
     answer.sort == Sort::Of(COMMANDS.iter().find(|command| command.0 == name).expect("a command").0, told.to_string())
 }
 
-pub const FAULTS: [(&str, Fault); 62] = [
-    // lines
-    ("a carriage return at the end is passed over", |it, line, place| it.answer(line.strip_suffix(b"\r").unwrap_or(line), place)),
-    ("a space at the end is passed over", |it, line, place| it.answer(line.strip_suffix(b" ").unwrap_or(line), place)),
-    ("a space in front is passed over", |it, line, place| it.answer(line.strip_prefix(b" ").unwrap_or(line), place)),
-    ("two spaces are taken for one", |it, line, place| {
-        let mut other = line.to_vec();
-        other.dedup_by(|one, two| *one == b' ' && *two == b' ');
+pub const FAULTS: &[(&str, Fault)] = &[
+    // blanks
+    ("a tab is a byte of a word", |it, line, place| it.with_bytes(line, place, |byte| if byte == b'\t' { 11 } else { byte })),
+    ("two blanks side by side make an empty word", |it, line, place| {
+        it.with_empty_word(line, place, |line| between_blanks(line).windows(2).any(|pair| is_blank(pair[0]) && is_blank(pair[1])))
+    }),
+    ("two tabs side by side make an empty word", |it, line, place| {
+        it.with_empty_word(line, place, |line| between_blanks(line).windows(2).any(|pair| pair == b"\t\t"))
+    }),
+    ("a space and a tab side by side make an empty word", |it, line, place| {
+        it.with_empty_word(line, place, |line| between_blanks(line).windows(2).any(|pair| pair == b" \t" || pair == b"\t "))
+    }),
+    ("a blank at the end makes an empty word", |it, line, place| it.with_empty_word(line, place, before_blanks)),
+    ("a tab at the end makes an empty word", |it, line, place| it.with_empty_word(line, place, |line| line.ends_with(b"\t"))),
+    ("a blank before a carriage return makes an empty word", |it, line, place| {
+        let returned = line.ends_with(b"\r");
+        it.with_words(line, place, |words| {
+            if returned && before_blanks(without_return(line)) {
+                words.extend([b"x".to_vec(), b"x".to_vec()]);
+            }
+        })
+    }),
+    ("a space in front makes no command", |it, line, place| it.no_command_if(says(line) && line.starts_with(b" "), line, place)),
+    ("a tab in front makes no command", |it, line, place| it.no_command_if(says(line) && line.starts_with(b"\t"), line, place)),
+    ("one blank in front alone is passed over", |it, line, place| {
+        it.no_command_if(says(line) && after_blanks(line) && after_blanks(&line[1..]), line, place)
+    }),
+    ("a vertical tab and a form feed are blanks", |it, line, place| {
+        it.with_bytes(line, place, |byte| if byte == 11 || byte == 12 { b' ' } else { byte })
+    }),
+    ("every byte below 32 is a blank", |it, line, place| it.with_bytes(line, place, |byte| if byte < 32 { b' ' } else { byte })),
+    ("spaces alone are answered", |it, line, place| {
+        it.no_command_if(has_no_words(line) && line.starts_with(b" ") && line.len() <= LONGEST_LINE, line, place)
+    }),
+    ("tabs alone are answered", |it, line, place| {
+        it.no_command_if(has_no_words(line) && line.starts_with(b"\t") && line.len() <= LONGEST_LINE, line, place)
+    }),
+    ("a comment after spaces is no comment", |it, line, place| {
+        it.no_command_if(is_comment(line) && line.starts_with(b" ") && line.len() <= LONGEST_LINE, line, place)
+    }),
+    ("a comment after tabs is no comment", |it, line, place| {
+        it.no_command_if(is_comment(line) && line.starts_with(b"\t") && line.len() <= LONGEST_LINE, line, place)
+    }),
+    ("blanks alone are not counted", |it, line, place| it.not_counting(line, place, |line| !line.is_empty() && has_no_words(line))),
+    ("comments after blanks are not counted", |it, line, place| {
+        it.not_counting(line, place, |line| is_comment(line) && after_blanks(line))
+    }),
+    // carriage returns
+    ("a carriage return at the end is a byte of a word", |it, line, place| {
+        it.answer(&if line.ends_with(b"\r") && line.len() < LONGEST_LINE { [line, b"\r"].concat() } else { line.to_vec() }, place)
+    }),
+    ("a carriage return at the input's end is a byte of a word", |it, line, place| {
+        it.answer(&if line.ends_with(b"\r") && place == LINES { [line, b"\r"].concat() } else { line.to_vec() }, place)
+    }),
+    ("a carriage return alone is answered", |it, line, place| it.no_command_if(line == b"\r", line, place)),
+    ("blanks and a carriage return alone are answered", |it, line, place| {
+        it.no_command_if(has_no_words(line) && line.ends_with(b"\r") && (2..LONGEST_LINE).contains(&line.len()), line, place)
+    }),
+    ("two carriage returns at the end are passed over", |it, line, place| {
+        it.answer(if line.ends_with(b"\r\r") && line.len() <= LONGEST_LINE { &line[..line.len() - 2] } else { line }, place)
+    }),
+    ("a carriage return with blanks after it is passed over", |it, line, place| {
+        let bare = between_blanks(line);
+        it.answer(if before_blanks(line) && bare.ends_with(b"\r") && line.len() <= LONGEST_LINE { bare } else { line }, place)
+    }),
+    ("a carriage return is passed over wherever it stands", |it, line, place| {
+        let other: Vec<u8> = line.iter().copied().filter(|byte| *byte != b'\r').collect();
         it.answer(if line.len() > LONGEST_LINE { line } else { &other }, place)
     }),
-    ("a tab is taken for a space", |it, line, place| {
-        let other: Vec<u8> = line.iter().map(|byte| if *byte == b'\t' { b' ' } else { *byte }).collect();
-        it.answer(&other, place)
+    ("a carriage return is passed over at the end of each word", |it, line, place| {
+        it.with_words(line, place, |words| {
+            for word in words.iter_mut().filter(|word| word.len() > 1 && word.ends_with(b"\r")) {
+                word.pop();
+            }
+        })
     }),
+    ("a carriage return in front is passed over", |it, line, place| {
+        it.answer(line.strip_prefix(b"\r").filter(|_| line.len() <= LONGEST_LINE).unwrap_or(line), place)
+    }),
+    ("a carriage return is a blank", |it, line, place| it.with_bytes(line, place, |byte| if byte == b'\r' { b' ' } else { byte })),
+    ("a carriage return ends the line", |it, line, place| {
+        let end = line.iter().position(|byte| *byte == b'\r').filter(|_| line.len() <= LONGEST_LINE).unwrap_or(line.len());
+        it.answer(&line[..end], place)
+    }),
+    ("a carriage return ends a file's name", |it, line, place| {
+        it.with_words(line, place, |words| {
+            if let [_, file] = &mut words[..] {
+                let end = file.iter().position(|byte| *byte == b'\r').filter(|end| *end > 0);
+                file.truncate(end.unwrap_or(file.len()));
+            }
+        })
+    }),
+    ("a file's name goes on to the line's end", |it, line, place| {
+        let named = first_is(line, &[b"load", b"save"]);
+        it.with_words(line, place, |words| {
+            if named && words.len() > 2 {
+                let name = words.drain(1..).collect::<Vec<_>>().join(&b'_');
+                words.push(name);
+            }
+        })
+    }),
+    // the length
+    ("the length is counted without the carriage return", |it, line, place| it.shorter(line, place, without_return(line))),
+    ("the length is counted without blanks at the end", |it, line, place| {
+        let end = line.iter().rposition(|byte| !is_blank(*byte)).map_or(0, |last| last + 1);
+        it.shorter(line, place, &line[..end])
+    }),
+    ("the length is counted without blanks in front", |it, line, place| {
+        let begin = line.iter().position(|byte| !is_blank(*byte)).unwrap_or(line.len());
+        it.shorter(line, place, &line[begin..])
+    }),
+    ("the length is counted of the words alone", |it, line, place| {
+        let other = words_of(line).join(&b' ');
+        it.shorter(line, place, if line.ends_with(b"\r") { line } else { &other })
+    }),
+    ("a carriage return at the end makes 4,096 bytes too long", |it, line, place| {
+        it.answer(if line.len() == 4_096 && line.ends_with(b"\r") { &[b'x'; 5_000] } else { line }, place)
+    }),
+    ("a line is cut to 4,097 bytes before its carriage return is passed over", |it, line, place| {
+        it.shorter(line, place, if line.len() > 4_097 { without_return(&line[..4_097]) } else { line })
+    }),
+    ("blanks alone are never too long", |it, line, place| it.answer(if has_no_words(line) { b"" } else { line }, place)),
+    ("a comment after blanks is never too long", |it, line, place| {
+        it.answer(if is_comment(line) && after_blanks(line) { b"#" } else { line }, place)
+    }),
+    // lines
     ("a NUL ends the line", |it, line, place| {
         let end = line.iter().position(|byte| *byte == 0).filter(|_| line.len() <= LONGEST_LINE).unwrap_or(line.len());
         it.answer(&line[..end], place)
     }),
     ("the highest bit of a byte is left out", |it, line, place| {
         let other: Vec<u8> = line.iter().map(|byte| byte & 127).map(|byte| if byte == b'\n' { b'x' } else { byte }).collect();
-        it.answer(if other.contains(&b'/') { line } else { &other }, place)
+        it.answer(if other.contains(&b'/') || line.len() > LONGEST_LINE { line } else { &other }, place)
     }),
     ("upper case is taken for lower", |it, line, place| it.with_words(line, place, |words| words[0].make_ascii_lowercase())),
     ("a command is known by its first three letters", |it, line, place| {
@@ -150,13 +339,11 @@ pub const FAULTS: [(&str, Fault); 62] = [
             }
         })
     }),
-    ("a comment may have spaces in front", |it, line, place| {
-        let bare = line.iter().position(|byte| *byte != b' ').map_or(line, |begin| &line[begin..]);
-        it.answer(if bare.starts_with(b"#") && line.len() <= LONGEST_LINE { bare } else { line }, place)
-    }),
     ("a comment may follow a command", |it, line, place| {
-        let end = line.windows(2).position(|pair| pair == b" #").filter(|_| line.len() <= LONGEST_LINE).unwrap_or(line.len());
-        it.answer(&line[..end], place)
+        it.with_words(line, place, |words| {
+            let end = words.iter().position(|word| word.starts_with(b"#")).unwrap_or(words.len());
+            words.truncate(end);
+        })
     }),
     ("4,095 bytes are the most", |it, line, place| it.answer(if line.len() == 4_096 { &[b'x'; 5_000] } else { line }, place)),
     ("4,097 bytes are the most", |it, line, place| it.answer(if line.len() == 4_097 { &line[..4_096] } else { line }, place)),
@@ -165,21 +352,9 @@ pub const FAULTS: [(&str, Fault); 62] = [
         it.answer(if line.len() > LONGEST_LINE { &line[LONGEST_LINE..][..1] } else { line }, place)
     }),
     ("a comment is never too long", |it, line, place| it.answer(if line.starts_with(b"#") { b"#" } else { line }, place)),
-    ("empty lines are not counted", |it, line, place| {
-        it.skipped += line.is_empty() as usize;
-        let skipped = it.skipped;
-        it.answer(line, place - skipped)
-    }),
-    ("comments are not counted", |it, line, place| {
-        it.skipped += line.starts_with(b"#") as usize;
-        let skipped = it.skipped;
-        it.answer(line, place - skipped)
-    }),
-    ("lines too long are not counted", |it, line, place| {
-        let skipped = it.skipped;
-        it.skipped += (line.len() > LONGEST_LINE) as usize;
-        it.answer(line, place - skipped)
-    }),
+    ("empty lines are not counted", |it, line, place| it.not_counting(line, place, |line| line.is_empty())),
+    ("comments are not counted", |it, line, place| it.not_counting(line, place, |line| line.starts_with(b"#"))),
+    ("lines too long are not counted", |it, line, place| it.not_counting(line, place, |line| line.len() > LONGEST_LINE)),
     ("the number of a line has 16 bits", |it, line, place| it.answer(line, place % 65_536)),
     ("no unit comes before what was expected", |it, line, place| {
         let no_unit = it.console.unit.is_none();
@@ -242,13 +417,13 @@ pub const FAULTS: [(&str, Fault); 62] = [
         })
     }),
     ("judge: a latency above 255 is taken for 255", |it, line, place| {
-        let judge = line.starts_with(b"judge ");
+        let judge = first_is(line, &[b"judge"]);
         it.with_numbers(line, place, |text| {
             digits(text).filter(|number| judge && (256..1 << 32).contains(number)).map(|_| "255".to_string())
         })
     }),
     ("judge: 9 comes before 2", |it, line, place| {
-        let bad = line.split(|byte| *byte == b' ').skip(2).any(|word| number(word).is_some_and(|number| number == 0 || number > 255));
+        let bad = words_of(line).into_iter().skip(2).any(|word| number(word).is_some_and(|number| number == 0 || number > 255));
         it.instead(line, place, |answer, _| (bad && is(answer, "judge", "refused 2")).then(|| "refused 9\n".to_string()))
     }),
     ("judge: one turn alone is looked at", |it, line, place| {
@@ -271,12 +446,12 @@ pub const FAULTS: [(&str, Fault); 62] = [
     // the order of refusals
     ("mark: 3 comes before 2", |it, line, place| {
         let segments = it.console.unit.as_ref().map_or(0, |unit| unit.segments);
-        let outside = line.split(|byte| *byte == b' ').nth(2).and_then(number).is_some_and(|segment| segment == 0 || segment > segments);
+        let outside = words_of(line).get(2).and_then(|word| number(word)).is_some_and(|segment| segment == 0 || segment > segments);
         it.instead(line, place, |answer, _| (outside && is(answer, "mark", "refused 2")).then(|| "refused 3\n".to_string()))
     }),
     ("unmark: 4 comes before 3", |it, line, place| {
         let columns = it.console.unit.as_ref().map_or(0, |unit| unit.columns);
-        let outside = line.split(|byte| *byte == b' ').nth(3).and_then(number).is_some_and(|column| column == 0 || column > columns);
+        let outside = words_of(line).get(3).and_then(|word| number(word)).is_some_and(|column| column == 0 || column > columns);
         it.instead(line, place, |answer, _| (outside && is(answer, "unmark", "refused 3")).then(|| "refused 4\n".to_string()))
     }),
     // plan and bank
@@ -285,10 +460,66 @@ pub const FAULTS: [(&str, Fault); 62] = [
     ("a refused load drops the plan", |it, line, place| it.after(line, place, &["load"], refused, drop_plan)),
     ("a refused load empties the bank", |it, line, place| it.after(line, place, &["load"], refused, empty)),
     ("a load of no file drops the plan", |it, line, place| it.after(line, place, &["load"], |told| told == "no file", drop_plan)),
+    ("a load of no file empties the bank", |it, line, place| it.after(line, place, &["load"], |told| told == "no file", empty)),
     ("fresh keeps the bank", |it, line, place| it.keeping(line, place, &["fresh"], false, |_, _| true)),
     ("load keeps the bank", |it, line, place| it.keeping(line, place, &["load"], false, |_, _| true)),
-    ("an edit empties the bank", |it, line, place| it.after(line, place, &["mark", "unmark"], ok, empty)),
+    ("an edit keeps the bank", |it, line, place| it.keeping(line, place, &["mark", "unmark"], false, |_, _| true)),
+    ("mark keeps the bank", |it, line, place| it.keeping(line, place, &["mark"], false, |_, _| true)),
+    ("unmark keeps the bank", |it, line, place| it.keeping(line, place, &["unmark"], false, |_, _| true)),
+    ("a mark that stood keeps the bank", |it, line, place| {
+        it.keeping(line, place, &["mark"], false, |_, answer| answer.met.contains(&"a mark that stood"))
+    }),
+    ("an unmark of no mark keeps the bank", |it, line, place| {
+        it.keeping(line, place, &["unmark"], false, |_, answer| answer.met.contains(&"an unmark of no mark"))
+    }),
+    ("an edit empties the register of its function alone", |it, line, place| {
+        let mut registers = it.console.bank.words();
+        let answer = it.answer(line, place);
+        if is(&answer, "mark", "ok") || is(&answer, "unmark", "ok") {
+            registers[number(words_of(line)[1]).expect("a tag") as usize - 1] = 0;
+            it.console.bank = Bank::of_words(&registers);
+        }
+        answer
+    }),
+    ("an edit empties the registers of the others alone", |it, line, place| {
+        let old = it.console.bank.words();
+        let answer = it.answer(line, place);
+        if is(&answer, "mark", "ok") || is(&answer, "unmark", "ok") {
+            let mut registers = [0; REGISTERS];
+            let tag = number(words_of(line)[1]).expect("a tag") as usize;
+            registers[tag - 1] = old[tag - 1];
+            it.console.bank = Bank::of_words(&registers);
+        }
+        answer
+    }),
+    ("an edit takes a time unit", |it, line, place| {
+        let mut bank = it.console.bank.clone();
+        let answer = it.answer(line, place);
+        if is(&answer, "mark", "ok") || is(&answer, "unmark", "ok") {
+            bank.tick();
+            it.console.bank = bank;
+        }
+        answer
+    }),
+    ("a refused edit empties the bank", |it, line, place| it.after(line, place, &["mark", "unmark"], refused, empty)),
+    ("a mark refused by 2 empties the bank", |it, line, place| it.after(line, place, &["mark"], |told| told == "refused 2", empty)),
+    ("a mark refused by 3 empties the bank", |it, line, place| it.after(line, place, &["mark"], |told| told == "refused 3", empty)),
+    ("a mark refused by 4 empties the bank", |it, line, place| it.after(line, place, &["mark"], |told| told == "refused 4", empty)),
+    ("an unmark refused by 2 empties the bank", |it, line, place| it.after(line, place, &["unmark"], |told| told == "refused 2", empty)),
+    ("an unmark refused by 3 empties the bank", |it, line, place| it.after(line, place, &["unmark"], |told| told == "refused 3", empty)),
+    ("an unmark refused by 4 empties the bank", |it, line, place| it.after(line, place, &["unmark"], |told| told == "refused 4", empty)),
+    ("an edit that is not as expected empties the bank", |it, line, place| {
+        it.after(line, place, &["mark", "unmark"], |told| told == "expected", empty)
+    }),
+    ("a line that is no command empties the bank", |it, line, place| {
+        let answer = it.answer(line, place);
+        if answer.sort == Sort::ExpectedCommand {
+            empty(&mut it.console);
+        }
+        answer
+    }),
     ("a search empties the bank", |it, line, place| it.after(line, place, &["search"], ok, empty)),
+    ("a refused search empties the bank", |it, line, place| it.after(line, place, &["search"], refused, empty)),
     ("a mark that stood keeps the plan", |it, line, place| {
         it.keeping(line, place, &["mark"], true, |_, answer| answer.met.contains(&"a mark that stood"))
     }),
@@ -314,20 +545,63 @@ pub const FAULTS: [(&str, Fault); 62] = [
         let answer = it.answer(line, place);
         for (name, file) in &mut it.console.shelf.files {
             if let (File::Bytes(new), Some(File::Bytes(old))) = (file, before.files.get(name)) {
-                if new.len() < old.len() && line.starts_with(b"save") {
+                if new.len() < old.len() && is(&answer, "save", "ok") {
                     new.extend_from_slice(&old[new.len()..]);
                 }
             }
         }
         answer
     }),
+    ("a save leaves its `.part`", |it, line, place| {
+        let answer = it.answer(line, place);
+        if is(&answer, "save", "ok") {
+            let name = words_of(line)[1].to_vec();
+            if let Some(File::Bytes(bytes)) = it.console.shelf.files.get(&name).cloned() {
+                it.console.shelf.files.insert([&name[..], PART.as_bytes()].concat(), File::Bytes(bytes));
+            }
+        }
+        answer
+    }),
+    ("a save writes over the old file itself", |it, line, place| {
+        let before = it.console.shelf.clone();
+        let answer = it.answer(line, place);
+        if is(&answer, "save", "ok") {
+            let part = [words_of(line)[1], PART.as_bytes()].concat();
+            if let Some(file) = before.files.get(&part) {
+                it.console.shelf.files.insert(part, file.clone());
+            }
+        }
+        answer
+    }),
+    ("a save to a symbolic link replaces the link", |it, line, place| {
+        let mut before = it.console.shelf.clone();
+        let answer = it.answer(line, place);
+        if is(&answer, "save", "ok") {
+            let name = words_of(line)[1].to_vec();
+            if let (Some(File::Link(_)), Some(unit)) = (before.files.get(&name), &it.console.unit) {
+                before.files.insert(name, File::Bytes(encode(unit)));
+                it.console.shelf = before;
+            }
+        }
+        answer
+    }),
+    ("a save to a name without room for `.part` is written", |it, line, place| {
+        let mut answer = it.answer(line, place);
+        if answer.met.contains(&"a save to a name without room for `.part`") {
+            let name = words_of(line)[1].to_vec();
+            let unit = it.console.unit.as_ref().expect("a save");
+            it.console.shelf.files.insert(name, File::Bytes(encode(unit)));
+            answer.parts = vec![Part::Text("ok\n".to_string())];
+        }
+        answer
+    }),
     ("a NUL ends a file's name", |it, line, place| {
-        let named = line.starts_with(b"load ") || line.starts_with(b"save ");
-        let end = line.iter().position(|byte| *byte == 0).filter(|_| named && line.len() <= LONGEST_LINE).unwrap_or(line.len());
+        let named = first_is(line, &[b"load", b"save"]);
+        let end = line.iter().position(|byte| *byte == 0).filter(|_| named).unwrap_or(line.len());
         it.answer(&line[..end], place)
     }),
     ("a file too long is read as far as it should go", |it, line, place| {
-        let Some(name) = line.strip_prefix(b"load ") else { return it.answer(line, place) };
+        let [b"load", name] = words_of(line)[..] else { return it.answer(line, place) };
         let Some(File::Bytes(bytes) | File::Long(bytes, _)) = it.console.shelf.files.get(name).cloned() else {
             return it.answer(line, place);
         };

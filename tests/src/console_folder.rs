@@ -6,21 +6,37 @@ use std::ffi::OsStr;
 use std::fs;
 use std::io::{self, Read, Write};
 use std::os::unix::ffi::OsStrExt;
+use std::os::unix::fs::{symlink, FileTypeExt};
 use std::path::Path;
+use std::process::Command;
 
 /// The one folder inside the folder.
 pub const INNER: &str = "inner";
 /// A file that holds nothing and takes everything, and one that can't be written because it is full.
 pub const NULL: &str = "/dev/null";
 pub const FULL: &str = "/dev/full";
-/// The longest name of a file on the systems that the test is for.
+/// The longest name of a file, and the longest path to one, on the systems that the test is for.
 const LONGEST_NAME: usize = 255;
+const LONGEST_PATH: usize = 4_095;
+/// "A save writes the new file beside the old one, under the file's name with `.part` after it, and then renames it."
+pub const PART: &str = ".part";
 
 #[derive(Clone, PartialEq, Eq, Debug)]
 pub enum File {
     Bytes(Vec<u8>),
     /// These bytes first, zeros after them up to this length. Never written by the program, and too long to be held here.
     Long(Vec<u8>, u64),
+    /// A symbolic link to this path, which is taken from the folder that the link is in.
+    Link(Vec<u8>),
+    /// A folder besides the inner one.
+    Folder,
+    /// A FIFO, or whatever else is no file that can be read to its end.
+    Pipe,
+}
+
+/// Whether the system's devices stand where the scripts may name them.
+pub fn has_devices() -> bool {
+    [NULL, FULL].iter().all(|device| fs::symlink_metadata(device).is_ok_and(|about| about.file_type().is_char_device()))
 }
 
 /// Where units are loaded from and saved to.
@@ -31,6 +47,8 @@ pub trait Shelf {
     fn save(&mut self, name: &[u8], unit: &Unit) -> bool;
     /// The length of the file of this name, where there is one.
     fn length(&self, name: &[u8]) -> Option<u64>;
+    /// The special cases that a save to this name is one of.
+    fn special(&self, name: &[u8]) -> Vec<&'static str>;
 }
 
 /// What a file's name leads to.
@@ -38,8 +56,9 @@ enum Place {
     /// The name by which the file is kept here.
     File(Vec<u8>),
     Null,
+    Full,
     Folder,
-    /// A full device, or a name that no file can have.
+    /// A name that no file can have.
     None,
 }
 
@@ -48,65 +67,131 @@ pub struct Folder {
     pub files: BTreeMap<Vec<u8>, File>,
 }
 
-fn place_of(name: &[u8]) -> Place {
-    if name == NULL.as_bytes() {
-        return Place::Null;
+impl Folder {
+    /// What a name leads to; where the last part of it is a symbolic link, to the link itself.
+    fn place_of(&self, name: &[u8]) -> Place {
+        if name == NULL.as_bytes() {
+            return Place::Null;
+        }
+        if name == FULL.as_bytes() {
+            return Place::Full;
+        }
+        if name.contains(&0) || name.len() > LONGEST_PATH {
+            return Place::None;
+        }
+        assert!(!name.starts_with(b"/"), "no script names another file outside the folder");
+        let mut parts: Vec<&[u8]> = name.split(|byte| *byte == b'/').filter(|part| !part.is_empty() && *part != b".").collect();
+        if parts.iter().any(|part| part.len() > LONGEST_NAME) {
+            return Place::None;
+        }
+        // a link to the inner folder, with something after it
+        let leads_inside = |part: &&[u8]| self.files.get(*part) == Some(&File::Link(INNER.as_bytes().to_vec()));
+        if parts.first().is_some_and(leads_inside) && (parts.len() > 1 || name.ends_with(b"/")) {
+            parts[0] = INNER.as_bytes();
+        }
+        match parts[..] {
+            [] => Place::Folder,
+            [only] if only == INNER.as_bytes() => Place::Folder,
+            // `x/` is no file, whatever x is
+            _ if name.ends_with(b"/") => Place::None,
+            [only] => Place::File(only.to_vec()),
+            [folder, file] if folder == INNER.as_bytes() => Place::File([folder, b"/", file].concat()),
+            _ => Place::None,
+        }
     }
-    if name == FULL.as_bytes() || name.contains(&0) {
-        return Place::None;
+
+    /// What a name leads to, along links. The links of a folder that scripts are run in stand in the folder itself and not in the inner one.
+    fn end_of(&self, name: &[u8]) -> Place {
+        let mut place = self.place_of(name);
+        for _ in 0..=self.files.len() {
+            match &place {
+                Place::File(key) => match self.files.get(key) {
+                    Some(File::Link(target)) => place = self.place_of(target),
+                    _ => return place,
+                },
+                _ => return place,
+            }
+        }
+        // links in a circle
+        Place::None
     }
-    assert!(!name.starts_with(b"/"), "no script names another file outside the folder");
-    let parts: Vec<&[u8]> = name.split(|byte| *byte == b'/').filter(|part| !part.is_empty() && *part != b".").collect();
-    if parts.iter().any(|part| part.len() > LONGEST_NAME) {
-        return Place::None;
+
+    fn is_link(&self, name: &[u8]) -> bool {
+        matches!(self.place_of(name), Place::File(key) if matches!(self.files.get(&key), Some(File::Link(_))))
     }
-    match parts[..] {
-        [] => Place::Folder,
-        [only] if only == INNER.as_bytes() => Place::Folder,
-        // `x/` is no file, whatever x is
-        _ if name.ends_with(b"/") => Place::None,
-        [only] => Place::File(only.to_vec()),
-        [folder, file] if folder == INNER.as_bytes() => Place::File([folder, b"/", file].concat()),
-        _ => Place::None,
+
+    /// Whether the name of a file in order can't have `.part` after it.
+    fn has_no_part(&self, name: &[u8]) -> bool {
+        let Place::File(key) = self.place_of(name) else { return false };
+        let last = key.rsplit(|byte| *byte == b'/').next().map_or(0, |last| last.len());
+        last + PART.len() > LONGEST_NAME || name.len() + PART.len() > LONGEST_PATH
     }
+}
+
+fn part_of(name: &[u8]) -> Vec<u8> {
+    [name, PART.as_bytes()].concat()
 }
 
 impl Shelf for Folder {
     fn load(&self, name: &[u8]) -> Option<Reply<Unit>> {
-        let key = match place_of(name) {
+        let key = match self.end_of(name) {
             Place::File(key) => key,
             Place::Null => return Some(decode(&[])),
+            // zeros without end
+            Place::Full => return Some(decode(&[0; 300])),
             // a folder can be opened, but it is no file and has no bytes to refuse
             Place::Folder | Place::None => return None,
         };
-        Some(match self.files.get(&key)? {
-            File::Bytes(bytes) => decode(bytes),
+        match self.files.get(&key)? {
+            File::Bytes(bytes) => Some(decode(bytes)),
             // no file in order has 300 bytes, and a longer one is refused by the same number
             File::Long(head, _) => {
                 let mut bytes = head.clone();
                 bytes.resize(300, 0);
-                decode(&bytes)
+                Some(decode(&bytes))
             }
-        })
+            File::Link(_) | File::Folder | File::Pipe => None,
+        }
     }
 
     fn save(&mut self, name: &[u8], unit: &Unit) -> bool {
-        match place_of(name) {
+        // "A name that is a symbolic link, or that names something other than a regular file, is written in place"
+        let in_place = self.is_link(name);
+        match self.end_of(name) {
+            // "where the new file can't be opened: `not written`"
+            Place::File(_) if !in_place && self.has_no_part(name) => false,
             Place::File(key) => {
+                // "After an accepted save there is no such `.part` file."
+                if !in_place {
+                    self.files.remove(&part_of(&key));
+                }
                 self.files.insert(key, File::Bytes(encode(unit)));
                 true
             }
             Place::Null => true,
-            Place::Folder | Place::None => false,
+            Place::Full | Place::Folder | Place::None => false,
         }
     }
 
     fn length(&self, name: &[u8]) -> Option<u64> {
-        let Place::File(key) = place_of(name) else { return None };
-        self.files.get(&key).map(|file| match file {
-            File::Bytes(bytes) => bytes.len() as u64,
-            File::Long(_, length) => *length,
-        })
+        let Place::File(key) = self.end_of(name) else { return None };
+        match self.files.get(&key)? {
+            File::Bytes(bytes) => Some(bytes.len() as u64),
+            File::Long(_, length) => Some(*length),
+            File::Link(_) | File::Folder | File::Pipe => None,
+        }
+    }
+
+    fn special(&self, name: &[u8]) -> Vec<&'static str> {
+        let (is_link, no_part) = (self.is_link(name), self.has_no_part(name));
+        let part_stands = !is_link && matches!(self.place_of(name), Place::File(key) if self.files.contains_key(&part_of(&key)));
+        let cases = [
+            (is_link && matches!(self.end_of(name), Place::File(_)), "a save to a link to a file"),
+            (is_link && !matches!(self.end_of(name), Place::File(_)), "a save to a link to something else"),
+            (no_part && !is_link, "a save to a name without room for `.part`"),
+            (part_stands, "a save where a file has its name with `.part`"),
+        ];
+        cases.into_iter().filter(|(holds, _)| *holds).map(|(_, what)| what).collect()
     }
 }
 
@@ -121,12 +206,32 @@ impl Shelf for Disk {
     }
 
     fn save(&mut self, name: &[u8], unit: &Unit) -> bool {
-        fs::write(OsStr::from_bytes(name), encode(unit)).is_ok()
+        store(OsStr::from_bytes(name), &encode(unit))
     }
 
     fn length(&self, name: &[u8]) -> Option<u64> {
         fs::metadata(OsStr::from_bytes(name)).ok().map(|about| about.len())
     }
+
+    fn special(&self, _: &[u8]) -> Vec<&'static str> {
+        Vec::new()
+    }
+}
+
+/// Writes a file as a save has to, and answers whether it is written.
+pub fn store(name: &OsStr, bytes: &[u8]) -> bool {
+    match fs::symlink_metadata(name) {
+        Ok(about) if !about.is_file() => return fs::write(name, bytes).is_ok(),
+        Ok(_) if fs::OpenOptions::new().write(true).open(name).is_err() => return false,
+        _ => {}
+    }
+    let part = part_of(name.as_bytes());
+    let part = OsStr::from_bytes(&part);
+    let stored = fs::write(part, bytes).and_then(|_| fs::rename(part, name)).is_ok();
+    if !stored {
+        let _ = fs::remove_file(part);
+    }
+    stored
 }
 
 impl Folder {
@@ -141,6 +246,14 @@ impl Folder {
                     let mut file = fs::File::create(path)?;
                     file.write_all(head)?;
                     file.set_len(*length)?;
+                }
+                File::Link(target) => symlink(OsStr::from_bytes(target), path)?,
+                File::Folder => fs::create_dir(path)?,
+                File::Pipe => {
+                    let made = Command::new("mkfifo").arg(path).status()?;
+                    if !made.success() {
+                        return Err(io::Error::other("no FIFO can be made"));
+                    }
                 }
             }
         }
@@ -158,12 +271,21 @@ impl Folder {
         for entry in fs::read_dir(root)? {
             let entry = entry?;
             let name = [front, entry.file_name().as_bytes()].concat();
-            if entry.file_type()?.is_dir() {
-                // a folder that should not be there shows as a file of no bytes
+            let kind = entry.file_type()?;
+            if kind.is_dir() {
                 if name != INNER.as_bytes() {
-                    self.files.insert(name.clone(), File::Bytes(Vec::new()));
+                    self.files.insert(name.clone(), File::Folder);
                 }
                 self.find(&entry.path(), &[&name[..], b"/"].concat())?;
+                continue;
+            }
+            if kind.is_symlink() {
+                let target = fs::read_link(entry.path())?;
+                self.files.insert(name, File::Link(target.as_os_str().as_bytes().to_vec()));
+                continue;
+            }
+            if !kind.is_file() {
+                self.files.insert(name, File::Pipe);
                 continue;
             }
             let length = entry.metadata()?.len();
@@ -181,8 +303,8 @@ impl Folder {
             let told = name.escape_ascii();
             match (file, found.files.get(name)) {
                 (_, None) => return Some(format!("the file {told} is not there")),
-                (File::Bytes(bytes), Some(File::Bytes(seen))) if bytes == seen => {}
                 (File::Long(head, length), Some(File::Long(seen, long))) if length == long && seen.starts_with(head) => {}
+                (file, Some(seen)) if file == seen => {}
                 (file, Some(seen)) => return Some(format!("the file {told}\nexpected: {file:?}\nfound:    {seen:?}")),
             }
         }

@@ -187,6 +187,7 @@ pub enum Sort {
     Of(&'static str, String),
     ExpectedCommand,
     TooLong,
+    /// No words.
     Empty,
     Comment,
 }
@@ -224,6 +225,26 @@ fn sort_of(name: &'static str, parts: &[Part]) -> Sort {
     Sort::Of(name, if told { text } else { "ok" }.to_string())
 }
 
+/// "Blanks: spaces and tabs (bytes 32 and 9)"
+pub fn is_blank(byte: u8) -> bool {
+    byte == 32 || byte == 9
+}
+
+/// The line without the carriage return at its very end. "One carriage return (byte 13) at the very end of the line is passed over."
+pub fn without_return(line: &[u8]) -> &[u8] {
+    line.strip_suffix(b"\r").unwrap_or(line)
+}
+
+/// "Words of a line are separated by blanks, any number of them, also before the first word and after the last"; "a carriage return
+/// anywhere else is an ordinary byte of a word".
+pub fn words_of(line: &[u8]) -> Vec<&[u8]> {
+    without_return(line).split(|byte| is_blank(*byte)).filter(|word| !word.is_empty()).collect()
+}
+
+fn is_name(word: &[u8]) -> bool {
+    COMMANDS.iter().any(|(name, _)| name.as_bytes() == word)
+}
+
 /// "A number is one or more digits 0 to 9 that say at most 4294967295; zeros in front are allowed."
 pub fn number(word: &[u8]) -> Option<u32> {
     if word.is_empty() || !word.iter().all(|byte| byte.is_ascii_digit()) {
@@ -245,7 +266,7 @@ struct Arguments<'a> {
 fn arguments<'a>(wants: &str, words: &[&'a [u8]]) -> Option<Arguments<'a>> {
     if wants == " FILE" {
         return match words {
-            [file] if !file.is_empty() => Some(Arguments { numbers: Vec::new(), file }),
+            [file] => Some(Arguments { numbers: Vec::new(), file }),
             _ => None,
         };
     }
@@ -275,6 +296,8 @@ pub struct Console<S: Shelf> {
     met: Vec<&'static str>,
     /// What the line before did, for the special cases.
     before: Before,
+    /// The bank as the last accepted edit found it.
+    found: Bank,
     /// The search whose plan was last shown.
     shown: usize,
 }
@@ -287,6 +310,7 @@ enum Before {
     Emptied,
     Edited,
     RefusedEdit,
+    Searched,
     RefusedSearch,
     Bad,
     Other,
@@ -299,8 +323,8 @@ fn empty_bank() -> Bank {
 impl<S: Shelf> Console<S> {
     pub fn new(shelf: S) -> Console<S> {
         let book = Book { functions: HashMap::new(), graphs: HashMap::new(), yard: Yard::new() };
-        let before = Before::Other;
-        Console { book, unit: None, plan: None, searches: 0, bank: empty_bank(), shelf, met: Vec::new(), before, shown: 0 }
+        let (bank, found, before) = (empty_bank(), empty_bank(), Before::Other);
+        Console { book, unit: None, plan: None, searches: 0, bank, shelf, met: Vec::new(), before, found, shown: 0 }
     }
 
     /// A console as a new process has it, which knows of the same functions.
@@ -334,19 +358,18 @@ impl<S: Shelf> Console<S> {
         if line.len() > LONGEST_LINE {
             return (Sort::TooLong, expected("too long"));
         }
-        // "An empty line or one that begins with `#` answers nothing."
-        if line.is_empty() {
+        // "A line without words is passed over, and so is a line whose first word begins with `#`."
+        let words = words_of(line);
+        let Some((first, others)) = words.split_first() else {
             return (Sort::Empty, Vec::new());
-        }
-        if line.starts_with(b"#") {
+        };
+        if first.starts_with(b"#") {
             return (Sort::Comment, Vec::new());
         }
-        // "Words are the parts between spaces (byte 32)"
-        let words: Vec<&[u8]> = line.split(|byte| *byte == b' ').collect();
-        let Some((name, wants)) = COMMANDS.into_iter().find(|(name, _)| name.as_bytes() == words[0]) else {
+        let Some((name, wants)) = COMMANDS.into_iter().find(|(name, _)| name.as_bytes() == *first) else {
             return (Sort::ExpectedCommand, expected("expected a command"));
         };
-        let Some(arguments) = arguments(wants, &words[1..]) else {
+        let Some(arguments) = arguments(wants, others) else {
             return (Sort::Of(name, "expected".to_string()), expected(&format!("expected {name}{wants}")));
         };
         let parts = self.obey(name, &arguments.numbers, arguments.file);
@@ -394,10 +417,10 @@ impl<S: Shelf> Console<S> {
                 let mark = Mark { tag, segment, column };
                 let stood = unit.marks.contains(&mark);
                 if name == "mark" { unit.mark(mark) } else { unit.unmark(mark) }?;
-                self.met_if(stood && name == "mark", "a mark that stood");
-                self.met_if(!stood && name == "unmark", "an unmark of no mark");
-                // "An accepted one drops the plan, even where the mark already stood so"
+                self.meet_edit(name, stood);
+                // "An accepted one drops the plan, even where the mark already stood so", and "empties the console's bank"
                 self.plan = None;
+                self.found = std::mem::replace(&mut self.bank, empty_bank());
                 done()
             }
             ("read", []) => self.read(unit),
@@ -414,6 +437,7 @@ impl<S: Shelf> Console<S> {
             ("save", []) => {
                 let shorter = self.shelf.length(file).is_some_and(|length| length > file_length(unit.functions, unit.segments) as u64);
                 let known = self.shelf.length(file).is_some();
+                self.met.extend(self.shelf.special(file));
                 let written = self.shelf.save(file, unit);
                 self.met_if(written && known, "a save over another file");
                 self.met_if(written && shorter, "a save over a longer file");
@@ -455,6 +479,8 @@ impl<S: Shelf> Console<S> {
                 let yard = &mut self.book.yard;
                 let rows: Vec<Vec<bool>> = (1..=unit.functions).map(|later| meetings(&function.spots, &unit.spots(later), yard)).collect();
                 self.bank.start(tag, &rows)?;
+                let held = self.before == Before::Edited && self.found.words()[tag as usize - 1] % 2 == 1;
+                self.met_if(held, "a start granted that the bank before an edit held back");
                 "ok".to_string()
             }
             "table" => {
@@ -567,27 +593,121 @@ impl<S: Shelf> Console<S> {
         self.met_if(whole == 4_095, "a line of 4,095 bytes");
         self.met_if(whole == 4_096, "a line of 4,096 bytes");
         self.met_if(whole == 4_097, "a line of 4,097 bytes");
+        self.met_if(whole == 4_098, "a line of 4,098 bytes");
         self.met_if(whole == 100_000, "a line of 100,000 bytes");
-        self.met_if(whole > LONGEST_LINE && line[0] == b'#', "a comment that is too long");
         self.met_if(has(0), "a line with a NUL");
-        self.met_if(has(b'\t'), "a line with a tab");
-        self.met_if(has(b'\r'), "a line with a carriage return");
         self.met_if(line.iter().any(|byte| *byte > 127), "a line with a byte above 127");
-        self.met_if(line.starts_with(b" "), "a line with a space in front");
-        let words: Vec<&[u8]> = line.split(|byte| *byte == b' ').collect();
-        if !COMMANDS.iter().any(|(name, _)| name.as_bytes() == words[0]) {
-            let lower = words[0].to_ascii_lowercase();
-            self.met_if(COMMANDS.iter().any(|(name, _)| name.as_bytes() == lower), "a command in upper case");
+        self.met_if(has(11) || has(12), "a line with a vertical tab or a form feed");
+        let returned = line.ends_with(b"\r");
+        self.met_if(returned && whole == 4_095, "a line of 4,095 bytes, the last one a carriage return");
+        self.met_if(returned && whole == 4_096, "a line of 4,096 bytes, the last one a carriage return");
+        self.met_if(returned && whole == 4_097, "a line of 4,097 bytes, the last one a carriage return");
+        self.met_if(returned && whole == 4_098, "a line of 4,098 bytes, the last one a carriage return");
+        self.met_if(whole > 4_097 && line[4_096] == b'\r', "a longer line whose 4,097th byte is a carriage return");
+        let words = words_of(line);
+        let Some(first) = words.first() else { return self.meet_no_words(line) };
+        let after_blanks = is_blank(line[0]);
+        let is_comment = first.starts_with(b"#");
+        if whole > LONGEST_LINE {
+            self.met_if(is_comment && !after_blanks, "a comment that is too long");
+            self.met_if(is_comment && after_blanks, "a comment after blanks that is too long");
+        } else if is_comment {
+            self.met_if(line[0] == b' ', "a comment after a space");
+            self.met_if(line[0] == b'\t', "a comment after a tab");
+            self.met_if(returned, "a comment with a carriage return at its end");
+        } else {
+            self.meet_returns(line, first);
+        }
+        if is_name(first) {
+            self.meet_command(line, &words);
+        } else {
+            self.met_if(is_name(&first.to_ascii_lowercase()), "a command in upper case");
+        }
+    }
+
+    fn meet_no_words(&mut self, line: &[u8]) {
+        let blanks = without_return(line);
+        self.met_if(line.len() > LONGEST_LINE, "blanks alone that are too long");
+        self.met_if(line.len() == LONGEST_LINE, "blanks alone of 4,096 bytes");
+        if line.len() < LONGEST_LINE {
+            let (space, tab) = (line.contains(&b' '), line.contains(&b'\t'));
+            self.met_if(blanks == line && space && !tab, "spaces alone");
+            self.met_if(blanks == line && tab && !space, "tabs alone");
+            self.met_if(blanks == line && space && tab, "spaces and tabs alone");
+            self.met_if(blanks != line && blanks.is_empty(), "a carriage return alone");
+            self.met_if(blanks != line && !blanks.is_empty(), "blanks and a carriage return alone");
+        }
+    }
+
+    /// Carriage returns that are bytes of a word.
+    fn meet_returns(&mut self, line: &[u8], first: &[u8]) {
+        let inside = without_return(line);
+        self.met_if(inside != line && inside.ends_with(b"\r"), "two carriage returns at the end");
+        self.met_if(inside.windows(2).any(|pair| pair[0] == b'\r' && is_blank(pair[1])), "a carriage return with a blank after it");
+        let within = |three: &[u8]| three[1] == b'\r' && !is_blank(three[0]) && !is_blank(three[2]);
+        self.met_if(inside.windows(3).any(within), "a carriage return within a word");
+        if let Some(rest) = first.strip_prefix(b"\r") {
+            self.met_if(is_name(rest), "a command after a carriage return");
+            self.met_if(rest.starts_with(b"#"), "a comment after a carriage return, which is none");
+        }
+    }
+
+    /// A line whose first word is a command's name, with its words.
+    fn meet_command(&mut self, line: &[u8], words: &[&[u8]]) {
+        let whole = line.len();
+        let blanks = line.iter().filter(|byte| is_blank(**byte)).count();
+        let filled = 2 * blanks > whole;
+        self.met_if(filled && whole == 4_095, "a command made 4,095 bytes long by blanks");
+        self.met_if(filled && whole == 4_096, "a command made 4,096 bytes long by blanks");
+        self.met_if(filled && whole == 4_097, "a command made 4,097 bytes long by blanks");
+        self.met_if(filled && whole == 4_098, "a command made 4,098 bytes long by blanks");
+        if whole > LONGEST_LINE {
             return;
         }
+        let inside = without_return(line);
+        let returned = inside != line;
+        let last = inside.last().copied().unwrap_or(0);
         self.met_if(whole == 4_096 && words.len() > 1, "a command of 4,096 bytes");
-        self.met_if(words.len() > 1 && words.last() == Some(&&b""[..]), "a command with a space at its end");
-        self.met_if(words.len() > 2 && words[1..words.len() - 1].contains(&&b""[..]), "a command with two spaces side by side");
+        self.met_if(line[0] == b' ', "a command with a space in front");
+        self.met_if(line[0] == b'\t', "a command with a tab in front");
+        self.met_if(last == b' ', "a command with a space at its end");
+        self.met_if(last == b'\t', "a command with a tab at its end");
+        self.met_if(returned && !is_blank(last), "a command with a carriage return at its end");
+        self.met_if(returned && is_blank(last), "a command with a blank and a carriage return at its end");
+        // from the first word to the last
+        let begin = inside.iter().position(|byte| !is_blank(*byte)).unwrap_or(0);
+        let end = inside.iter().rposition(|byte| !is_blank(*byte)).unwrap_or(0) + 1;
+        let between = &inside[begin..end];
+        let beside = |one: u8, two: u8| between.windows(2).any(|pair| pair == [one, two]);
+        self.met_if(between.contains(&b'\t'), "a command with a tab between words");
+        self.met_if(beside(b' ', b' '), "a command with two spaces side by side");
+        self.met_if(beside(b'\t', b'\t'), "a command with two tabs side by side");
+        self.met_if(beside(b' ', b'\t') || beside(b'\t', b' '), "a command with a space and a tab side by side");
         let zeros = words[1..].iter().any(|word| word.len() > 1 && word[0] == b'0' && number(word).is_some_and(|number| number > 0));
         self.met_if(zeros, "a number with zeros in front");
         let large = |word: &&[u8]| word.len() > 9 && word.iter().all(|byte| byte.is_ascii_digit()) && number(word).is_none();
         self.met_if(words[1..].iter().any(large), "a number above 4294967295");
         self.met_if(words[1..].iter().any(|word| number(word) == Some(u32::MAX)), "a number 4294967295");
+        let and_return = |word: &&[u8]| word.strip_suffix(b"\r").is_some_and(|digits| number(digits).is_some());
+        self.met_if(words[1..].iter().any(and_return), "a number with a carriage return in its word");
+        if let [b"load" | b"save", file] = words {
+            self.met_if(returned && !is_blank(last), "a file's name with a carriage return after it");
+            self.met_if(file.contains(&b'\r'), "a file's name with a carriage return in it");
+            self.met_if(between.len() > 5 + file.len() && is_blank(last), "a file's name with blanks around it");
+        }
+    }
+
+    fn meet_edit(&mut self, name: &str, stood: bool) {
+        let (is_mark, in_use) = (name == "mark", self.bank != empty_bank());
+        self.met_if(is_mark && stood, "a mark that stood");
+        self.met_if(!is_mark && !stood, "an unmark of no mark");
+        let emptied = match (is_mark, stood) {
+            (true, false) => "a bank in use emptied by a mark",
+            (true, true) => "a bank in use emptied by a mark that stood",
+            (false, true) => "a bank in use emptied by an unmark",
+            (false, false) => "a bank in use emptied by an unmark of no mark",
+        };
+        self.met_if(in_use, emptied);
     }
 
     fn what_was_done(&mut self, name: &str, said: &str, before: Before) -> Before {
@@ -600,6 +720,7 @@ impl<S: Shelf> Console<S> {
             ("load", _) => Before::RefusedLoad,
             ("mark" | "unmark", "ok") => Before::Edited,
             ("mark" | "unmark", "refused 2" | "refused 3" | "refused 4") => Before::RefusedEdit,
+            ("search", "ok") => Before::Searched,
             ("search", "refused 2" | "refused 7") => Before::RefusedSearch,
             // what only looks leaves what was done before in place
             ("read" | "bank" | "diagram" | "vector" | "bound" | "upper" | "constant" | "row" | "list" | "table", _) => before,
@@ -626,12 +747,17 @@ impl<S: Shelf> Console<S> {
     fn meet_bank(&mut self) {
         if self.bank == empty_bank() {
             self.met_if(self.before == Before::Emptied, "a bank emptied");
+            self.met_if(self.before == Before::Edited && self.found != empty_bank(), "a bank emptied by an edit");
             return;
         }
         let kept = match self.before {
             Before::RefusedFresh => "a bank kept by a refused fresh",
             Before::RefusedLoad => "a bank kept by a refused load",
-            Before::Edited => "a bank kept by an edit",
+            Before::NoFile => "a bank kept by a load of no file",
+            Before::RefusedEdit => "a bank kept by a refused edit",
+            Before::Searched => "a bank kept by a search",
+            Before::RefusedSearch => "a bank kept by a refused search",
+            Before::Bad => "a bank kept by a line that is no command",
             _ => "a bank in use",
         };
         self.met.push(kept);
@@ -639,29 +765,72 @@ impl<S: Shelf> Console<S> {
 }
 
 /// The special cases that a run must have met.
-pub const WANTED: [&str; 65] = [
+pub const WANTED: &[&str] = &[
     "a line of 4,095 bytes",
     "a line of 4,096 bytes",
     "a line of 4,097 bytes",
+    "a line of 4,098 bytes",
     "a line of 100,000 bytes",
-    "a comment that is too long",
+    "a line of 4,095 bytes, the last one a carriage return",
+    "a line of 4,096 bytes, the last one a carriage return",
+    "a line of 4,097 bytes, the last one a carriage return",
+    "a line of 4,098 bytes, the last one a carriage return",
+    "a longer line whose 4,097th byte is a carriage return",
     "a command of 4,096 bytes",
+    "a command made 4,095 bytes long by blanks",
+    "a command made 4,096 bytes long by blanks",
+    "a command made 4,097 bytes long by blanks",
+    "a command made 4,098 bytes long by blanks",
     "a line with a NUL",
-    "a line with a tab",
-    "a line with a carriage return",
     "a line with a byte above 127",
-    "a line with a space in front",
-    "a command in upper case",
+    "a line with a vertical tab or a form feed",
+    "spaces alone",
+    "tabs alone",
+    "spaces and tabs alone",
+    "blanks alone of 4,096 bytes",
+    "blanks alone that are too long",
+    "a carriage return alone",
+    "blanks and a carriage return alone",
+    "a comment that is too long",
+    "a comment after blanks that is too long",
+    "a comment after a space",
+    "a comment after a tab",
+    "a comment with a carriage return at its end",
+    "a comment after a carriage return, which is none",
+    "a command after a carriage return",
+    "a carriage return within a word",
+    "a carriage return with a blank after it",
+    "two carriage returns at the end",
+    "a command with a space in front",
+    "a command with a tab in front",
     "a command with a space at its end",
+    "a command with a tab at its end",
+    "a command with a carriage return at its end",
+    "a command with a blank and a carriage return at its end",
+    "a command with a tab between words",
     "a command with two spaces side by side",
+    "a command with two tabs side by side",
+    "a command with a space and a tab side by side",
+    "a command in upper case",
+    "a number with a carriage return in its word",
     "a number with zeros in front",
     "a number above 4294967295",
     "a number 4294967295",
+    "a file's name with a carriage return after it",
+    "a file's name with a carriage return in it",
+    "a file's name with blanks around it",
     "a last line without a newline",
+    "a last line without a newline, its last byte a carriage return",
+    "a last line without a newline, its last byte a blank",
+    "a script of lines that all end in a carriage return",
     "a mark that stood",
     "an unmark of no mark",
     "a save over another file",
     "a save over a longer file",
+    "a save to a link to a file",
+    "a save to a link to something else",
+    "a save to a name without room for `.part`",
+    "a save where a file has its name with `.part`",
     "a plan",
     "a plan shown again",
     "a plan better than greedy",
@@ -698,13 +867,53 @@ pub const WANTED: [&str; 65] = [
     "a bank in use",
     "a bank emptied",
     "a bank in use emptied by a new unit",
+    "a bank in use emptied by a mark",
+    "a bank in use emptied by a mark that stood",
+    "a bank in use emptied by an unmark",
+    "a bank in use emptied by an unmark of no mark",
+    "a bank emptied by an edit",
+    "a start granted that the bank before an edit held back",
     "a bank kept by a refused fresh",
     "a bank kept by a refused load",
-    "a bank kept by an edit",
+    "a bank kept by a load of no file",
+    "a bank kept by a refused edit",
+    "a bank kept by a search",
+    "a bank kept by a refused search",
+    "a bank kept by a line that is no command",
     "an input of no bytes",
     "an input that comes byte by byte",
     "an input that waits for each answer",
     "a file longer than 2^32 bytes",
+    "files: a save to a FIFO",
+    "files: a save to a symbolic link to a FIFO",
+    "files: a save to a new name and over other files",
+    "files: a save over a file that has a second name",
+    "files: a save to a symbolic link to a file",
+    "files: a save to a symbolic link in another folder",
+    "files: a save to a symbolic link to another one",
+    "files: a save to a symbolic link to nothing",
+    "files: a save to a symbolic link to a folder",
+    "files: a save to a symbolic link to a full device",
+    "files: a save into a folder that is not there",
+    "files: a save into a file",
+    "files: a save onto a folder",
+    "files: a save with a folder in the way of its `.part`",
+    "files: a save where a `.part` stands",
+    "files: a save to a name without room for `.part`",
+    "files: a save with room for no byte",
+    "files: a save with room for all but one byte",
+    "files: a save with room for just its bytes",
+    "output: a full device",
+    "output: a full device, and more input may come",
+    "output: a pipe that nobody reads",
+    "output: a file with room for the first answers",
+];
+
+/// Special cases that are tried where the system lets the tests do so.
+pub const WHERE_POSSIBLE: &[&str] = &[
+    "files: a save over a file that may not be written",
+    "files: a save into a folder that may not be written",
+    "files: a save that can't be renamed",
 ];
 
 /// "the reservation table, a row for each segment, `x` for a mark and `.` for none, with column numbers": cells of three bytes.

@@ -108,7 +108,7 @@ fn hear(mut pipe: ChildStdout, heard: &AtomicUsize) -> io::Result<Vec<u8>> {
 }
 
 /// Waits for the end, up to the limit.
-fn wait(child: &mut Child, limit: Duration) -> io::Result<Ending> {
+pub fn wait(child: &mut Child, limit: Duration) -> io::Result<Ending> {
     let begin = Instant::now();
     loop {
         if let Some(status) = child.try_wait()? {

@@ -1,11 +1,10 @@
 //! Scripts for the console, good lines and bad ones, made from fixed seeds. Each line has its answer before the program is run.
 
-use crate::console_folder::{File, Folder, FULL, INNER, NULL};
+use crate::console_folder::{has_devices, File, Folder, FULL, INNER, NULL, PART};
 use crate::console_model::*;
 use crate::model::*;
 use crate::random::{seed_of, Random};
 use crate::units;
-use std::path::Path;
 
 pub struct Line {
     /// Without the newline.
@@ -77,6 +76,16 @@ fn long_name(place: usize) -> String {
     format!("long{place}")
 }
 
+/// Where symbolic links lead: to files that are saved now and then, to a file in order, to a file that is not there before one is saved along
+/// the link, to another link, to the inner folder, into a folder that is not there, to a device and around in a circle.
+const LINKS: [&str; 10] = ["again0", "inner/again0", "unit40", "linked", "link0", INNER, "missing/linked", FULL, NULL, "link9"];
+/// The link to the inner folder.
+const INNER_LINK: usize = 5;
+
+fn link_name(place: usize) -> String {
+    format!("link{place}")
+}
+
 /// The unit of the most counts, with marks in so many of its places.
 fn full_unit(part: u64, whole: u64, random: &mut Random) -> Unit {
     let mut unit = Unit::fresh(MOST_FUNCTIONS, MOST_SEGMENTS, MOST_COLUMNS).expect("counts in their ranges");
@@ -141,6 +150,11 @@ fn files(random: &mut Random) -> Folder {
     for (place, more) in [1 << 20, 1 << 32, 5 << 30].into_iter().enumerate() {
         put(long_name(place), File::Long(file.clone(), length + more));
     }
+    for (place, target) in LINKS.into_iter().enumerate() {
+        if has_devices() || !target.starts_with('/') {
+            put(link_name(place), File::Link(target.as_bytes().to_vec()));
+        }
+    }
     folder
 }
 
@@ -156,6 +170,8 @@ struct Writer {
     saved: usize,
     /// Whether the system has the devices that the script may name.
     has_devices: bool,
+    /// Whether each line ends in a carriage return.
+    returns: bool,
 }
 
 /// No program that reads the line in some wrong way shall write outside its folder: every `/` has to come after a letter, a digit, a dot
@@ -181,8 +197,8 @@ const TOO_MANY: [&str; 9] = [
     "18446744073709551617",
     "340282366920938463463374607431768211457",
 ];
-/// Words that are no numbers.
-const NO_NUMBERS: [&[u8]; 20] = [
+/// Words that are no numbers, and some that are one with blanks beside it.
+const NO_NUMBERS: [&[u8]; 23] = [
     b"",
     b"x",
     b"1x",
@@ -201,6 +217,9 @@ const NO_NUMBERS: [&[u8]; 20] = [
     b"\xd9\xa1",
     b"1_0",
     b"1\r",
+    b"1\r\r",
+    b"\r1",
+    b"1\x0c",
     b"Q",
     b"1/1",
 ];
@@ -229,11 +248,56 @@ const NO_COMMANDS: [&[u8]; 23] = [
     b"\xef\xbb\xbftick",
     b"line 1: expected a command",
 ];
-/// File names with bytes that mean something elsewhere.
-const ODD_NAMES: [&[u8]; 16] =
-    [b"-", b"--", b"~", b"*", b"#", b"%s%n", b"$HOME", b"a;b", b"'q'", b"\\", b"\"", b"a\tb", b"\r", b"\xe9t\xe9", b"\xff\xfe", b"FILE"];
+/// File names with bytes that mean something elsewhere. One with a tab is none, nor is a carriage return at the line's end.
+const ODD_NAMES: [&[u8]; 20] = [
+    b"-",
+    b"--",
+    b"~",
+    b"*",
+    b"#",
+    b"%s%n",
+    b"$HOME",
+    b"a;b",
+    b"'q'",
+    b"\\",
+    b"\"",
+    b"a\tb",
+    b"\r",
+    b"a\rb",
+    b"\ra",
+    b"a\r\r",
+    b"a\x0b",
+    b"\xe9t\xe9",
+    b"\xff\xfe",
+    b"FILE",
+];
+/// Lines of blanks, carriage returns and signs of a comment: some are passed over, some are not.
+const BARE_LINES: [&[u8]; 22] = [
+    b" ",
+    b"   ",
+    b"\t",
+    b"\t\t",
+    b" \t ",
+    b"\r",
+    b" \r",
+    b"\t\r",
+    b"\r\r",
+    b"\r ",
+    b" \r \r",
+    b" #",
+    b"\t#",
+    b" \t # tick",
+    b"#\r",
+    b" #\r",
+    b"\r#",
+    b"\r# tick",
+    b"\r #",
+    b"\x0b",
+    b"\x0c#",
+    b"\0",
+];
 /// In how many forms long lines come.
-const LONG_FORMS: u64 = 16;
+const LONG_FORMS: u64 = 31;
 /// Lengths of lines: around the limit, around multiples of it, and far above it.
 const LENGTHS: [usize; 21] = [
     4_095, 4_095, 4_096, 4_096, 4_096, 4_097, 4_097, 4_098, 5_000, 8_190, 8_191, 8_192, 8_193, 8_194, 12_288, 12_289, 16_384, 65_535,
@@ -242,12 +306,27 @@ const LENGTHS: [usize; 21] = [
 
 impl Writer {
     fn new(seed: u64, most: usize, console: Console<Folder>) -> Writer {
-        let has_devices = Path::new(FULL).exists() && Path::new(NULL).exists();
-        Writer { random: Random::new(seed), console, lines: Vec::new(), most, saved: 0, has_devices }
+        Writer { random: Random::new(seed), console, lines: Vec::new(), most, saved: 0, has_devices: has_devices(), returns: false }
     }
 
+    /// Puts a line, now and then with blanks around its words.
     fn put(&mut self, line: impl AsRef<[u8]>) {
-        let bytes = line.as_ref().to_vec();
+        let line = line.as_ref();
+        if line.len() < 1_000 && self.random.chance(1, 8) {
+            let other = self.with_blanks(line);
+            if harmless(&other) {
+                return self.put_bare(other);
+            }
+        }
+        self.put_bare(line);
+    }
+
+    /// Puts a line as it is.
+    fn put_bare(&mut self, line: impl AsRef<[u8]>) {
+        let mut bytes = line.as_ref().to_vec();
+        if self.returns {
+            bytes.push(b'\r');
+        }
         if self.lines.len() == self.most || bytes.contains(&b'\n') || !harmless(&bytes) {
             return;
         }
@@ -262,6 +341,35 @@ impl Writer {
     /// Functions, segments and columns of the unit, or some where there is none.
     fn counts(&self) -> (u32, u32, u32) {
         self.console.unit.as_ref().map_or((2, 3, 8), |unit| (unit.functions, unit.segments, unit.columns))
+    }
+
+    // -----------------------------------------------------------------------------------------------------------------------------
+    // Blanks
+
+    /// One blank or more.
+    fn blanks(&mut self) -> Vec<u8> {
+        let count = self.random.pick(&[1, 1, 1, 1, 2, 2, 3, 9]);
+        (0..count).map(|_| self.random.pick(&[b' ', b' ', b'\t'])).collect()
+    }
+
+    /// The line with other blanks in place of its spaces, in front and at its end, and with a carriage return there: each of them now and
+    /// then. A command says the same with them.
+    fn with_blanks(&mut self, line: &[u8]) -> Vec<u8> {
+        let mut other = if self.random.chance(1, 3) { self.blanks() } else { Vec::new() };
+        for byte in line {
+            if *byte == b' ' && self.random.chance(1, 2) {
+                other.extend(self.blanks());
+            } else {
+                other.push(*byte);
+            }
+        }
+        if self.random.chance(1, 3) {
+            other.extend(self.blanks());
+        }
+        if self.random.chance(1, 3) {
+            other.push(b'\r');
+        }
+        other
     }
 
     // -----------------------------------------------------------------------------------------------------------------------------
@@ -356,10 +464,13 @@ impl Writer {
             38 => format!("{good}."),
             39 => good.to_uppercase(),
             40 => random.pick(&[INNER, ".", "./", "inner/", "missing"]).to_string(),
-            41 => "n".repeat(random.pick(&[254, 255, 256, 257, 300, 1_000, 4_091])),
+            41 => "n".repeat(random.pick(&[249, 250, 251, 254, 255, 256, 257, 300, 1_000, 4_091])),
             42 if self.has_devices => NULL.to_string(),
             43 | 44 => return random.pick(&ODD_NAMES).to_vec(),
             45 => format!("missing{}", random.below(100)),
+            46..=49 => link_name(random.below(LINKS.len() as u64) as usize),
+            50 => format!("{}/again{}", link_name(INNER_LINK), random.below(3)),
+            51 => format!("again{}{PART}", random.below(12)),
             _ => good,
         };
         text.into_bytes()
@@ -367,7 +478,7 @@ impl Writer {
 
     fn save_name(&mut self) -> Vec<u8> {
         let random = &mut self.random;
-        let text = match random.below(40) {
+        let text = match random.below(48) {
             0..=15 => format!("again{}", random.below(12)),
             16..=18 => format!("{INNER}/again{}", random.below(3)),
             19 => format!("./again{}", random.below(12)),
@@ -376,12 +487,15 @@ impl Writer {
             23 => random.pick(&[INNER, ".", "./", "inner/", "./inner", "new/"]).to_string(),
             24 => format!("again{}\0x", random.below(12)),
             25 => format!("new{}\0", random.below(100)),
-            26 => "n".repeat(random.pick(&[254, 255, 256, 257, 300, 4_091])),
+            26 => "n".repeat(random.pick(&[249, 250, 251, 254, 255, 256, 257, 300, 4_091])),
             27 if self.has_devices => FULL.to_string(),
             28 if self.has_devices => NULL.to_string(),
             29 | 30 => return random.pick(&ODD_NAMES).to_vec(),
             // over a file that is damaged, which is longer now and then
             31 | 32 => damaged_name(random.below(DAMAGED_FILES as u64) as usize),
+            33..=37 => link_name(random.below(LINKS.len() as u64) as usize),
+            38 => format!("{}/again{}", link_name(INNER_LINK), random.below(3)),
+            39 => format!("again{}{PART}", random.below(12)),
             _ => {
                 self.saved += 1;
                 format!("out{}", self.saved)
@@ -519,15 +633,19 @@ impl Writer {
         let spaces: Vec<usize> = (0..line.len()).filter(|place| line[*place] == b' ').collect();
         let space = if spaces.is_empty() { line.len() } else { spaces[self.random.below(spaces.len() as u64) as usize] };
         match self.random.below(28) {
-            0 | 1 => line.insert(space, b' '),
-            2 => line.insert(0, b' '),
-            3 => line.push(b' '),
-            4 => {
-                line.truncate(space);
-                line.push(b'\t');
+            // carriage returns before the end
+            0 => line.insert(space, b'\r'),
+            1 => line.insert(place, b'\r'),
+            2 => line.insert(0, b'\r'),
+            3 => {
+                let end: &[u8] = self.random.pick(&[b"\r\r", b"\r ", b"\r\t", b"\r \r", b" \r\r"]);
+                line.extend_from_slice(end);
             }
-            5 if space < line.len() => line[space] = b'\t',
-            5 => line.push(b'\t'),
+            // a word cut in two
+            4 => line.insert(place, self.random.pick(&[b' ', b'\t'])),
+            // two words made one
+            5 if space < line.len() => line[space] = self.random.pick(&[11, 12, 0, 13, 160, b'_', b',']),
+            5 => line.push(11),
             6 => line[0].make_ascii_uppercase(),
             7 => line.make_ascii_uppercase(),
             8 => line.truncate(*spaces.last().unwrap_or(&line.len())),
@@ -541,7 +659,7 @@ impl Writer {
                 let byte = self.any_byte() | 128;
                 line.insert(place, byte);
             }
-            14 => line.push(b'\r'),
+            14 => line.extend_from_slice(b" #"),
             15 => drop(line.remove(place)),
             16..=19 => {
                 // one word that is no number, or too large a one
@@ -569,10 +687,7 @@ impl Writer {
                 let between = self.random.pick(&[b' ', b'\r', b';', 0, b'\t', 11, 12]);
                 line = [&line[..], &two].join(&between);
             }
-            26 => {
-                line = [&b" "[..], &b" "[..], &b" #"[..], &b"\t"[..], &b"\r"[..], &b"\0"[..], &b"   "[..]][self.random.below(7) as usize]
-                    .to_vec()
-            }
+            26 => line = self.random.pick(&BARE_LINES).to_vec(),
             _ => line.push(self.random.pick(&[11, 12, 0, 127, 255, b'#', b',', b';'])),
         }
         line
@@ -580,7 +695,8 @@ impl Writer {
 
     fn comment(&mut self) -> Vec<u8> {
         let count = self.random.between(0, 30);
-        let mut line = b"#".to_vec();
+        let mut line = if self.random.chance(1, 3) { self.blanks() } else { Vec::new() };
+        line.push(b'#');
         match self.random.below(4) {
             0 => line.extend(self.command()),
             1 => line.extend((0..count).map(|_| self.any_byte())),
@@ -628,10 +744,44 @@ impl Writer {
                 self.long_name_line("save", &name, length)
             }
             14 => [&b"mark 1 1 "[..], &vec![b'9'; length - 9]].concat(),
-            _ => {
+            15 => {
                 let mut line: Vec<u8> = (0..length).map(|_| self.any_byte()).collect();
                 line[0] = b'~';
                 line
+            }
+            // a carriage return at the end
+            16 => filled("vector ".to_string(), format!("{tag}\r")),
+            17 => filled(format!("mark {tag} 1 "), "1 \r".to_string()),
+            18 => filled(format!("start {tag}"), "\r\r".to_string()),
+            19 => [&vec![b'x'; length - 1][..], b"\r"].concat(),
+            20 => [b"#", &vec![b'-'; length - 2][..], b"\r"].concat(),
+            21 => [&vec![b' '; length - 1][..], b"\r"].concat(),
+            22 => {
+                let name = format!("again{}", self.random.below(12));
+                [&self.long_name_line("save", &name, length - 1)[..], b"\r"].concat()
+            }
+            // a command as long as a line may be, then a carriage return, then blanks
+            23 => {
+                let mut line = format!("vector {}{tag}\r", "0".repeat(LONGEST_LINE - 8)).into_bytes();
+                line.resize(length, b' ');
+                line
+            }
+            // blanks in place of what is missing: in front, between, at the end
+            _ => {
+                let mut blank = || self.random.pick(&[b' ', b' ', b'\t']);
+                let mut long = |begin: String, end: String| {
+                    let room = length - begin.len() - end.len();
+                    [begin.as_bytes(), &(0..room).map(|_| blank()).collect::<Vec<u8>>(), end.as_bytes()].concat()
+                };
+                match form {
+                    24 => long(String::new(), format!("start {tag}")),
+                    25 => long(format!("judge {tag} "), "9 9".to_string()),
+                    26 => long(format!("mark {tag} 1 1"), String::new()),
+                    27 => long("tick".to_string(), "\r".to_string()),
+                    28 => long(String::new(), "# a comment".to_string()),
+                    29 => long("save".to_string(), "again1".to_string()),
+                    _ => long(format!("\tvector {tag}"), "x".to_string()),
+                }
             }
         }
     }
@@ -661,6 +811,7 @@ impl Writer {
             6..=13 => self.comment(),
             14..=60 => self.spoiled(),
             61 => return self.some_long(),
+            62..=64 => self.random.pick(&BARE_LINES).to_vec(),
             _ => self.command(),
         };
         self.put(line);
@@ -715,12 +866,12 @@ impl Writer {
         }
         self.put("read");
         match self.random.below(6) {
-            0 => self.draw(tag),
-            1 => {
+            0 | 1 => self.draw(tag),
+            2 => {
                 let other = self.good_tag();
                 self.draw(other);
             }
-            2 => self.put("read"),
+            3 => self.put("read"),
             _ => {}
         }
     }
@@ -747,27 +898,61 @@ impl Writer {
         self.put("list");
     }
 
-    /// The issue controller at work, and what leaves its bank as it is or empties it.
+    /// The issue controller at work, and what leaves its bank as it is or empties it; then the bank is seen, and a start is tried.
     fn events(&mut self) {
-        for _ in 0..self.random.between(4, 20) {
-            let line = match self.random.below(10) {
-                0..=4 => format!("start {}", self.good_tag()).into_bytes(),
-                5..=7 => b"tick".to_vec(),
-                _ => b"bank".to_vec(),
-            };
+        for _ in 0..self.random.between(1, 4) {
+            for _ in 0..self.random.between(2, 10) {
+                let line = match self.random.below(10) {
+                    0..=5 => format!("start {}", self.good_tag()),
+                    6 | 7 => "tick".to_string(),
+                    _ => "bank".to_string(),
+                };
+                self.put(line);
+            }
+            let tag = self.good_tag();
+            self.put(format!("start {tag}"));
+            let line = self.between_starts();
             self.put(line);
+            if self.random.chance(4, 5) {
+                self.put("bank");
+            }
+            self.put(format!("start {tag}"));
+            if self.random.chance(1, 3) {
+                self.put("bank");
+            }
         }
-        let line = match self.random.below(8) {
+    }
+
+    /// What may come between two starts: edits above all.
+    fn between_starts(&mut self) -> Vec<u8> {
+        let (functions, segments, columns) = self.counts();
+        let tag = self.good_tag();
+        let edit = self.random.pick(&["mark", "unmark"]);
+        match self.random.below(26) {
             0 => self.refused_fresh(),
             1 => format!("load {}", damaged_name(self.random.below(DAMAGED_FILES as u64) as usize)).into_bytes(),
-            2 => self.mark(),
-            3 => self.unmark(),
-            4 => self.fresh(),
-            5 => format!("load {}", good_name(self.random.below(GOOD_FILES as u64) as usize)).into_bytes(),
+            2 => self.fresh(),
+            3 => format!("load {}", good_name(self.random.below(GOOD_FILES as u64) as usize)).into_bytes(),
+            4 => b"load missing".to_vec(),
+            5..=7 => self.mark(),
+            8..=10 => self.unmark(),
+            // an edit that leaves the table as it is
+            11 | 12 => match self.standing() {
+                Some(Mark { tag, segment, column }) => format!("mark {tag} {segment} {column}").into_bytes(),
+                None => self.mark(),
+            },
+            13 | 14 => [b"un", &self.mark()[..]].concat(),
+            // edits that are refused
+            15 | 16 => format!("{edit} {} 1 1", functions + 1).into_bytes(),
+            17 | 18 => format!("{edit} {tag} {} 1", segments + 1).into_bytes(),
+            19 | 20 => format!("{edit} {tag} 1 {}", columns + 1).into_bytes(),
+            // and what is none
+            21 => format!("{edit} {tag} 1").into_bytes(),
+            22 => self.spoiled(),
+            23 => format!("search {tag}").into_bytes(),
+            24 => format!("search {}", functions + 1).into_bytes(),
             _ => b"tick".to_vec(),
-        };
-        self.put(line);
-        self.put("bank");
+        }
     }
 
     /// What was saved is loaded, and is the same unit without its plan.
@@ -878,9 +1063,10 @@ impl Writer {
                 3 => self.comment(),
                 _ => self.command(),
             };
-            if line.starts_with(b"fresh ") {
+            let first = words_of(&line).first().map(|word| word.to_vec()).unwrap_or_default();
+            if first == b"fresh" {
                 line = self.refused_fresh();
-            } else if line.starts_with(b"load ") {
+            } else if first == b"load" {
                 let damaged = damaged_name(self.random.below(REFUSED_FILES as u64) as usize);
                 line = format!("load {}", self.random.pick(&["missing", INNER, &damaged])).into_bytes();
             }
@@ -916,7 +1102,7 @@ fn sessions(lines: usize, before: &Folder, console: Console<Folder>) -> (Script,
     // every length once in each form, at the first unit
     writer.put("fresh 3 4 9");
     for form in 0..LONG_FORMS {
-        for length in [4_095, 4_096, 4_097, 100_000] {
+        for length in [4_095, 4_096, 4_097, 4_098, 100_000] {
             let line = writer.long(form, length);
             writer.put(line);
         }
@@ -925,10 +1111,11 @@ fn sessions(lines: usize, before: &Folder, console: Console<Folder>) -> (Script,
         writer.session();
     }
     writer.most += 1;
-    writer.put("list");
+    writer.put_bare("list\r");
     let (mut script, console) = writer.script("the sessions", before.clone());
     script.newline = false;
     script.met.push("a last line without a newline");
+    script.met.push("a last line without a newline, its last byte a carriage return");
     (script, console)
 }
 
@@ -936,11 +1123,14 @@ fn sessions(lines: usize, before: &Folder, console: Console<Folder>) -> (Script,
 fn ending(place: usize, last: &[u8], newline: bool, before: &Folder, console: Console<Folder>) -> (Script, Console<Folder>) {
     let mut writer = Writer::new(seed_of(201, place as u64), 10, console.again(before.clone()));
     for line in ["fresh 1 2 3", "mark 1 2 1", "mark 1 2 3"] {
-        writer.put(line);
+        writer.put_bare(line);
     }
-    writer.put(last);
+    writer.put_bare(last);
     let (mut script, console) = writer.script(&format!("ending {place}"), before.clone());
     script.newline = newline;
+    if !newline && last.last().is_some_and(|byte| is_blank(*byte)) {
+        script.met.push("a last line without a newline, its last byte a blank");
+    }
     (script, console)
 }
 
@@ -965,16 +1155,31 @@ pub fn scripts(lines: usize) -> Vec<Script> {
 
     let long = vec![b'9'; 5_000_000];
     let command = format!("vector {}1", "0".repeat(LONGEST_LINE - 8));
-    let lasts: [&[u8]; 13] = [
+    let returned = format!("vector {}1\r", "0".repeat(LONGEST_LINE - 9));
+    let too_long = format!("{command}\r");
+    let lasts: [&[u8]; 26] = [
         b"",
         b"table 1",
         b"tick",
         b"list",
         b"# no newline",
         b" ",
+        b" \t ",
+        b"\r",
+        b" \r",
+        b"\r\r",
+        b"\t # no newline\r",
         b"row 1 ",
+        b"row 1 1 ",
+        b"table 1\r",
+        b"table\t1 \r",
+        b"table 1\r ",
+        b"tick\r\r",
         b"save out",
+        b"save out\r",
         command.as_bytes(),
+        returned.as_bytes(),
+        too_long.as_bytes(),
         &long[..LONGEST_LINE],
         &long[..LONGEST_LINE + 1],
         &long[..100_000],
@@ -991,11 +1196,17 @@ pub fn scripts(lines: usize) -> Vec<Script> {
     }
     for place in 0..SHORT_SCRIPTS {
         let mut writer = Writer::new(seed_of(203, place), 120, take(&mut console).again(before.clone()));
+        // the lines of a script from another system, in pieces, byte by byte or one after the other
+        writer.returns = place % 3 == 2;
         writer.no_unit(60 * (place as usize % 2));
         while !writer.full() {
             writer.session();
         }
+        let returns = writer.returns;
         let (mut script, after) = writer.script(&format!("short script {place}"), before.clone());
+        if returns {
+            script.met.push("a script of lines that all end in a carriage return");
+        }
         match place % 4 {
             0 => {
                 script.feed = Feed::Bytes;

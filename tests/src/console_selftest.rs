@@ -1,8 +1,9 @@
 //! The test of the program tried by itself, without the program: an output that the model made, which has to be accepted; wrong outputs,
 //! each of which has to be reported at its line; and consoles with a fault each, which the lines have to show.
 //!
-//!     console_selftest             everything
-//!     console_selftest stand-in    the model in the program's place: answers standard input
+//!     console_selftest                   everything
+//!     console_selftest stand-in          the model in the program's place: answers standard input
+//!     console_selftest stand-in WRONG    the same with something wrong in how it handles files or its output
 
 #![allow(dead_code)]
 
@@ -11,6 +12,7 @@ mod console_examples;
 mod console_faults;
 mod console_folder;
 mod console_model;
+mod console_outside;
 mod console_program;
 mod console_script;
 mod console_words;
@@ -24,35 +26,66 @@ mod units;
 
 use console_check::{check, Counts, Difference, Run};
 use console_faults::{Faulty, FAULTS};
-use console_folder::{Disk, File, Folder};
+use console_folder::{store, Disk, File, Folder, Shelf, PART};
 use console_model::*;
+use console_outside::{cases, Outcome, Program};
 use console_program::{Ending, Place};
 use console_script::{scripts, Feed, Line, Script, LINES};
 use console_words::{plan_drawing, Filler, Finder};
 use model::*;
 use random::{seed_of, Random};
+use std::collections::BTreeMap;
+use std::ffi::{OsStr, OsString};
+use std::fs::{self, OpenOptions};
 use std::io::{self, BufRead, Write};
+use std::os::fd::AsFd;
+use std::os::unix::ffi::OsStrExt;
+use std::path::Path;
 use std::process::{exit, Command};
 use std::time::Duration;
 
 // ---------------------------------------------------------------------------------------------------------------------------------
 // An output of the model's own
 
+/// What a stand-in does where an answer can't be written.
+#[derive(Clone, Copy, PartialEq, Eq)]
+enum Unwritten {
+    Stops,
+    /// It carries out the commands that follow.
+    GoesOn,
+    /// It carries out none, but waits for the input's end.
+    ReadsOn,
+    /// It writes no answer before the input's end.
+    HoldsBack,
+}
+
 /// A stand-in for the program: the model's answers to the lines of standard input, with the files of the system. It shows that the test
 /// takes the system's files for what they are, and that a right program passes.
-fn stand_in() -> io::Result<()> {
-    let (mut input, mut output) = (io::stdin().lock(), io::stdout().lock());
-    let (mut console, mut filler, mut random) = (Console::new(Disk), Filler::default(), Random::new(seed_of(208, 0)));
+fn stand_in(shelf: impl Shelf, unwritten: Unwritten) -> io::Result<()> {
+    let mut input = io::stdin().lock();
+    // each answer is written by itself
+    let mut output = fs::File::from(io::stdout().as_fd().try_clone_to_owned()?);
+    let (mut console, mut filler, mut random) = (Console::new(shelf), Filler::default(), Random::new(seed_of(208, 0)));
     let mut line = Vec::new();
+    let mut held = Vec::new();
     for place in 1.. {
         line.clear();
         if input.read_until(b'\n', &mut line)? == 0 {
             break;
         }
         let answer = console.answer(line.strip_suffix(b"\n").unwrap_or(&line), place);
-        output.write_all(filler.text(&answer, &mut random).as_bytes())?;
+        let text = filler.text(&answer, &mut random);
+        if unwritten == Unwritten::HoldsBack {
+            held.extend_from_slice(text.as_bytes());
+        } else if let Err(error) = output.write_all(text.as_bytes()) {
+            match unwritten {
+                Unwritten::GoesOn => {}
+                Unwritten::ReadsOn => drop(io::copy(&mut input, &mut io::sink())?),
+                _ => return Err(error),
+            }
+        }
     }
-    output.flush()
+    output.write_all(&held)
 }
 
 /// What a right program could have done.
@@ -186,7 +219,7 @@ fn worse(drawn: &Drawn, latencies: &[u8]) -> bool {
 
 type Wrong = (&'static str, fn(&mut Spoiler) -> Placed);
 
-const WRONG: [Wrong; 67] = [
+const WRONG: [Wrong; 70] = [
     ("mark: ok in place of refused 2", |it| it.change_of("mark", "refused 2", |_| "ok\n".to_string())),
     ("mark: refused 3 in place of refused 4", |it| it.change_of("mark", "refused 4", |_| "refused 3\n".to_string())),
     ("unmark: refused 2 in place of ok", |it| it.change_of("unmark", "ok", |_| "refused 2\n".to_string())),
@@ -335,11 +368,33 @@ const WRONG: [Wrong; 67] = [
         it.fake.folder.files.insert(b"missing".to_vec(), File::Bytes(Vec::new()));
         it.end()
     }),
+    ("a `.part` of a file that was saved is left", |it| {
+        let part = [&it.saved_file()?[..], PART.as_bytes()].concat();
+        it.fake.folder.files.insert(part, File::Bytes(Vec::new()));
+        it.end()
+    }),
+    ("a symbolic link is a file now", |it| {
+        let is_link = |file: &File| matches!(file, File::Link(_));
+        let link = it.fake.folder.files.values_mut().find(|file| is_link(file))?;
+        *link = File::Bytes(Vec::new());
+        it.end()
+    }),
+    ("a symbolic link leads elsewhere", |it| {
+        let is_link = |file: &File| matches!(file, File::Link(_));
+        let link = it.fake.folder.files.values_mut().find(|file| is_link(file))?;
+        *link = File::Link(b"elsewhere".to_vec());
+        it.end()
+    }),
 ];
 
 /// Wrong in how many lines there are, or at the end. A line too many or too few shows where the answers after it first differ.
-const WRONG_AFTER: [Wrong; 8] = [
+const WRONG_AFTER: [Wrong; 9] = [
     ("an answer to a comment", |it| it.change(|line, _, _, _| (line.answer.sort == Sort::Comment).then(|| "ok\n".to_string()))),
+    ("an answer to blanks alone", |it| {
+        it.change(|line, _, _, _| {
+            (line.answer.sort == Sort::Empty && !line.bytes.is_empty()).then(|| "line 1: expected a command\n".to_string())
+        })
+    }),
     ("an answer left out", |it| it.change(|_, text, _, _| (text == "ok\n").then(String::new))),
     ("an answer twice", |it| it.change(|_, text, _, _| (text == "ok\n").then(|| text.repeat(2)))),
     ("cut off in the middle", |it| {
@@ -405,12 +460,13 @@ fn try_programs(script: &Script, right: &Run) -> Result<(), String> {
     };
     let mut sleep = Command::new("sleep");
     sleep.arg("60");
-    let programs: [(&str, Command, Duration, bool); 9] = [
+    let programs: [(&str, Command, Duration, bool); 10] = [
         ("reads all, then writes the right answers", shell("cat >/dev/null; cat \"$0\""), limit, true),
         ("writes the right answers before it reads", shell("cat \"$0\"; cat >/dev/null"), limit, true),
         ("writes the right answers and ends with status 3", shell("cat >/dev/null; cat \"$0\"; exit 3"), limit, false),
         ("writes the right answers and is ended by a signal", shell("cat >/dev/null; cat \"$0\"; kill -9 $$"), limit, false),
         ("writes the right answers and leaves a file behind", shell("cat >/dev/null; cat \"$0\"; : >left"), limit, false),
+        ("writes the right answers and leaves a `.part` behind", shell("cat >/dev/null; cat \"$0\"; : >out.part"), limit, false),
         ("writes its input", Command::new("cat"), limit, false),
         ("writes nothing", Command::new("true"), limit, false),
         ("ends with status 1", Command::new("false"), limit, false),
@@ -484,14 +540,208 @@ fn try_stand_in(whole: &[Script]) -> Result<(), String> {
     Ok(())
 }
 
+// ---------------------------------------------------------------------------------------------------------------------------------
+// Files and output from outside
+
+/// Writes a file, and answers whether it is written.
+type Store = fn(&OsStr, &[u8]) -> bool;
+
+/// The system's files, with a way of writing them.
+struct Writing(Store);
+
+impl Shelf for Writing {
+    fn load(&self, name: &[u8]) -> Option<Reply<Unit>> {
+        Disk.load(name)
+    }
+
+    fn save(&mut self, name: &[u8], unit: &Unit) -> bool {
+        self.0(OsStr::from_bytes(name), &encode(unit))
+    }
+
+    fn length(&self, name: &[u8]) -> Option<u64> {
+        Disk.length(name)
+    }
+
+    fn special(&self, name: &[u8]) -> Vec<&'static str> {
+        Disk.special(name)
+    }
+}
+
+fn part_of(name: &OsStr) -> OsString {
+    let mut part = name.to_os_string();
+    part.push(PART);
+    part
+}
+
+/// Writes the `.part` and renames it, whatever the name is.
+fn replace(name: &OsStr, bytes: &[u8]) -> bool {
+    let part = part_of(name);
+    let replaced = fs::write(&part, bytes).and_then(|_| fs::rename(&part, name)).is_ok();
+    if !replaced {
+        let _ = fs::remove_file(&part);
+    }
+    replaced
+}
+
+fn is_link(name: &OsStr) -> bool {
+    fs::symlink_metadata(name).is_ok_and(|about| about.is_symlink())
+}
+
+/// A regular file, or none.
+fn is_plain(name: &OsStr) -> bool {
+    fs::symlink_metadata(name).map_or(true, |about| about.is_file())
+}
+
+fn may_be_written(name: &OsStr) -> bool {
+    fs::symlink_metadata(name).is_err() || OpenOptions::new().write(true).open(name).is_ok()
+}
+
+/// Programs that write files in a wrong way.
+const WRONG_STORES: [(&str, Store); 17] = [
+    ("writes over the old file itself", |name, bytes| fs::write(name, bytes).is_ok()),
+    ("takes the old file away before it writes the new one", |name, bytes| {
+        if is_plain(name) && may_be_written(name) {
+            let _ = fs::remove_file(name);
+        }
+        store(name, bytes)
+    }),
+    ("leaves the `.part`", |name, bytes| {
+        let (is_plain, stored) = (is_plain(name), store(name, bytes));
+        stored && (!is_plain || fs::write(part_of(name), bytes).is_ok())
+    }),
+    ("leaves the `.part` where it can't be written whole", |name, bytes| {
+        if !is_plain(name) || !may_be_written(name) {
+            return store(name, bytes);
+        }
+        fs::write(part_of(name), bytes).is_ok() && replace(name, bytes)
+    }),
+    ("leaves the `.part` where it can't be renamed", |name, bytes| {
+        if is_link(name) || !may_be_written(name) && is_plain(name) {
+            return store(name, bytes);
+        }
+        fs::write(part_of(name), bytes).and_then(|_| fs::rename(part_of(name), name)).is_ok()
+    }),
+    ("renames a `.part` that is not whole", |name, bytes| {
+        if !is_plain(name) || !may_be_written(name) {
+            return store(name, bytes);
+        }
+        let Ok(mut file) = fs::File::create(part_of(name)) else { return false };
+        let _ = file.write_all(bytes);
+        fs::rename(part_of(name), name).is_ok()
+    }),
+    ("does not empty a `.part` that stands", |name, bytes| {
+        if !is_plain(name) || !Path::new(&part_of(name)).is_file() {
+            return store(name, bytes);
+        }
+        let written = OpenOptions::new().write(true).open(part_of(name)).and_then(|mut file| file.write_all(bytes));
+        written.and_then(|_| fs::rename(part_of(name), name)).is_ok()
+    }),
+    ("takes no `.part` that stands", |name, bytes| !(is_plain(name) && Path::new(&part_of(name)).is_file()) && store(name, bytes)),
+    ("takes away a folder in the way of the `.part`", |name, bytes| {
+        let _ = fs::remove_dir(part_of(name));
+        store(name, bytes)
+    }),
+    ("writes over the old file itself where there can be no `.part`", |name, bytes| store(name, bytes) || fs::write(name, bytes).is_ok()),
+    ("replaces a symbolic link", |name, bytes| if is_link(name) { replace(name, bytes) } else { store(name, bytes) }),
+    ("replaces what a symbolic link leads to", |name, bytes| {
+        // inside the folder alone
+        let here = fs::canonicalize(".").unwrap_or_default();
+        match fs::canonicalize(name) {
+            Ok(path) if path.starts_with(&here) => replace(path.as_os_str(), bytes),
+            _ => store(name, bytes),
+        }
+    }),
+    ("replaces what is no regular file", |name, bytes| if is_link(name) { store(name, bytes) } else { replace(name, bytes) }),
+    ("replaces a folder", |name, bytes| {
+        let _ = fs::remove_dir(name);
+        store(name, bytes)
+    }),
+    ("makes a folder that is not there", |name, bytes| {
+        if let Some(folder) = Path::new(name).parent().filter(|_| is_plain(name)) {
+            let _ = fs::create_dir_all(folder);
+        }
+        store(name, bytes)
+    }),
+    ("replaces a file that may not be written", |name, bytes| if is_plain(name) { replace(name, bytes) } else { store(name, bytes) }),
+    ("says that a file is written, whatever became of it", |name, bytes| {
+        store(name, bytes);
+        true
+    }),
+];
+
+/// Programs that do something wrong where an answer can't be written.
+const WRONG_OUTPUTS: [(&str, Unwritten); 3] = [
+    ("goes on where an answer can't be written", Unwritten::GoesOn),
+    ("reads on where an answer can't be written", Unwritten::ReadsOn),
+    ("holds its answers back", Unwritten::HoldsBack),
+];
+
+/// The stand-in with what is wrong of this number.
+fn wrong_stand_in(number: usize) -> io::Result<()> {
+    match WRONG_STORES.get(number) {
+        Some((_, store)) => stand_in(Writing(*store), Unwritten::Stops),
+        None => stand_in(Disk, WRONG_OUTPUTS[number - WRONG_STORES.len()].1),
+    }
+}
+
+/// Every case accepts the stand-in, every wrong program is reported in some case, and every case reports some wrong program. Answers the
+/// special cases that were met.
+fn try_outside() -> Result<Vec<&'static str>, String> {
+    let this = std::env::current_exe().map_err(|error| error.to_string())?;
+    let stores = WRONG_STORES.iter().map(|(what, _)| *what);
+    let names: Vec<&str> = stores.chain(WRONG_OUTPUTS.iter().map(|(what, _)| *what)).collect();
+    let mut programs: Vec<(&str, Program)> = vec![("is right", Program::new(&this, &["stand-in"]))];
+    for (number, what) in names.into_iter().enumerate() {
+        programs.push((what, Program::new(&this, &["stand-in", &number.to_string()])));
+    }
+    let mut reports: BTreeMap<&'static str, usize> = BTreeMap::new();
+    for (number, (what, program)) in programs.iter().enumerate() {
+        let is_right = number == 0;
+        // a program that is wrong may wait for the end of an input that never ends
+        let limit = Duration::from_secs(if is_right { 20 } else { 1 });
+        let mut reported = Vec::new();
+        for case in cases() {
+            match case.run(program, limit).map_err(|error| format!("selftest: {}: {error}", case.what))? {
+                Outcome::Right => *reports.entry(case.what).or_default() += 0,
+                Outcome::Wrong(why) if is_right => return Err(format!("selftest: the stand-in is not accepted\n{why}")),
+                Outcome::Wrong(_) => reported.push(case.what),
+                Outcome::NotTried(why) if is_right => println!("selftest: not tried: {}: {why}", case.what),
+                Outcome::NotTried(_) => {}
+            }
+        }
+        match reported.first() {
+            None if is_right => {
+                println!("selftest: a stand-in with files of the system is accepted in {} runs of a few lines", reports.len())
+            }
+            None => return Err(format!("selftest: NOT REPORTED in any run of a few lines: a program that {what}")),
+            Some(first) => println!("selftest: reported in {} of these runs, first in {first}: a program that {what}", reported.len()),
+        }
+        for what in reported {
+            *reports.entry(what).or_default() += 1;
+        }
+    }
+    let idle: Vec<&str> = reports.iter().filter(|(_, count)| **count == 0).map(|(what, _)| *what).collect();
+    if !idle.is_empty() {
+        return Err(format!("selftest: no wrong program was reported in: {}", idle.join("; ")));
+    }
+    let count = programs.len() - 1;
+    println!("selftest: {count} programs wrong in how they handle files or output, and each of the {} runs reports one", reports.len());
+    Ok(reports.into_keys().collect())
+}
+
 fn run(lines: usize) -> Result<(), String> {
     console_examples::check_model().map_err(|why| format!("model: {why}"))?;
     println!("selftest: the model answers as it is written by hand");
+
+    let outside = try_outside()?;
 
     // the model's own output, three times with other best cycles
     let whole = scripts(lines);
     for time in 0..3 {
         let mut counts = Counts::default();
+        for what in &outside {
+            counts.meet(what);
+        }
         let mut random = Random::new(seed_of(209, time));
         for script in &whole {
             let fake = Fake::new(script, &mut random);
@@ -508,7 +758,7 @@ fn run(lines: usize) -> Result<(), String> {
     println!("selftest: so it is with other best cycles, twice");
     try_stand_in(&whole)?;
 
-    let some = scripts(lines / 10);
+    let some = scripts(lines / 5);
     let mut tried = 0;
     for (wrongs, exact) in [(&WRONG[..], true), (&WRONG_AFTER[..], false)] {
         for wrong in wrongs {
@@ -535,8 +785,10 @@ fn main() {
     let arguments: Vec<String> = std::env::args().skip(1).collect();
     let done = match arguments.iter().map(|word| word.as_str()).collect::<Vec<_>>()[..] {
         [] => run(LINES),
-        ["stand-in"] => stand_in().map_err(|error| error.to_string()),
-        _ => Err("console_selftest [stand-in]".to_string()),
+        // where its output can't be written, nothing can be told there
+        ["stand-in"] => stand_in(Disk, Unwritten::Stops).or_else(|_| exit(1)),
+        ["stand-in", number] => wrong_stand_in(number.parse().expect("a number")).or_else(|_| exit(1)),
+        _ => Err("console_selftest [stand-in [WRONG]]".to_string()),
     };
     if let Err(why) = done {
         println!("{why}");

@@ -8,7 +8,7 @@ use Rattle.player.specs.Play.{Played}
 use Rattle.listing.specs.declared.Listed.{Listed}
 use Rattle.listing.specs.declared.Listed.the-variants as Listed
 use Rattle.listing.specs.Listing.{FileListed}
-use Rattle.c_interface.specs.Calls.{listedCode, listedLength, ListingHanded}
+use Rattle.c_interface.specs.Listing.{listedNumber, listedLength, ListingHanded}
 
 pub played-as : {f s c f₁ s₁ c₁ : ℕ} {calls before after work words : List ℕ} {n : ℕ} → f ≡ f₁ → s ≡ s₁ → c ≡ c₁
     → Played f s c calls before after work words n → Played f₁ s₁ c₁ calls before after work words n
@@ -24,7 +24,7 @@ pub listing-handed : {file out after : List ℕ} {size n : ℕ} {listed : Listed
 listing-handed {size = size} {listed = listed} p e = record {
   listed = listed;
   promise = p;
-  says = sym (ap listedCode e);
+  says = sym (ap listedNumber e);
   length = sym (ap (λ a. listedLength a size) e);
 }
 
@@ -33,6 +33,6 @@ pub listing-refused : {file out after : List ℕ} {size r : ℕ} {why : Refusal}
 listing-refused {size = size} {listed = listed} p e c = record {
   listed = listed;
   promise = p;
-  says = c ∙ sym (ap listedCode e);
+  says = c ∙ sym (ap listedNumber e);
   length = sym (ap (λ a. listedLength a size) e);
 }

@@ -1,6 +1,1 @@
-pub mod ThenLaws
-mod WriteLaws
-mod CycleLaws
-mod SearchLaws
-mod BankLaws
 mod JobLaws

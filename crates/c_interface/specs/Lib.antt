@@ -1,3 +1,1 @@
-pub mod Codes
-pub mod Calls
-pub mod Inner
+pub mod Listing

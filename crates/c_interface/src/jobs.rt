@@ -1,10 +1,11 @@
 // Whole jobs: the listing of a lent file, and a list of calls from a fresh unit.
 ghost use mathlib.Core.Path.{_≡_};
+ghost use Rattle.words.specs.Bytes.{narrow};
 ghost use Rattle.player.specs.Play.{Played};
-ghost use Rattle.c_interface.specs.Codes.{narrow};
-ghost use Rattle.c_interface.specs.Calls.{ListingHanded};
-use crate::codes::byte;
+ghost use Rattle.c_interface.specs.Listing.{ListingHanded};
 use listing::Listed;
+use unit::Answer;
+use words::byte;
 
 // The listing of a file, and its length.
 #[no_mangle]
@@ -17,7 +18,7 @@ pub extern "C" fn limedarts_listing(file: &[u8], out: &mut [u8], size: &mut u32)
             *size = bytes;
             0
         }
-        Listed::Refused(why) => crate::codes::number(why),
+        Listed::Refused(why) => unit::number_in(Answer::Refused(why)) as u32,
     }
 }
 

@@ -59,7 +59,7 @@ fn common_segments(later: [u16; 32], earlier: [u16; 32]) -> [u16; 32]
     common
 }
 
-// The row of a matrix, from the marks of two functions by column as `unit::columns_of` hands them out: column t of the row is
+// The row of a matrix, from the marks of two functions by column as `columns::columns_of` hands them out: column t of the row is
 // bit t - 1, and is 1 where the later function, started t after the earlier, would collide. Marks are at most 31 columns apart.
 pub fn row_of(later: [u16; 32], earlier: [u16; 32]) -> u32
     ensures { λ r. ⌜ r ≡ rowOfColumns later earlier ⌝ }
@@ -80,8 +80,8 @@ pub fn row_of(later: [u16; 32], earlier: [u16; 32]) -> u32
 fn row_of_tags(u: FunctionUnit, later: Tag, earlier: Tag) -> u32
     ensures { λ r. ⌜ r ≡ rowWord (marked u) (later .0) (earlier .0) ⌝ }
 {
-    let later_columns = unit::columns_of(u, later);
-    let earlier_columns = unit::columns_of(u, earlier);
+    let later_columns = columns::columns_of(u, later);
+    let earlier_columns = columns::columns_of(u, earlier);
     row_of(later_columns, earlier_columns)
 }
 

@@ -1,87 +1,124 @@
 -- Lines and what they say, worked out by hand. Assumes nothing.
 use mathlib.Core.Path.{_≡_, refl}
+use mathlib.Core.Bool.{true, false}
 use mathlib.Core.List.{[], _∷_}
 use Prim.Native.Nat.{ℕ}
 use Rattle.text.specs.Text.{ascii, value}
-use Rattle.command.specs.declared.Verb.{Verb}
-use Rattle.command.specs.declared.Verb.the-variants as Verb
+use Rattle.command_table.specs.declared.Act.the-variants as Act
+use Rattle.command_table.specs.declared.Ask.the-variants as Ask
+use Rattle.command_table.specs.declared.Verb.{Verb}
+use Rattle.command_table.specs.declared.Verb.the-variants as Verb
+use Rattle.command_table.specs.declared.Form.the-variants as Form
+use Rattle.command_table.specs.Commands.{rowAt, nameAt, same, among, commandOf}
 use Rattle.command.specs.declared.Trouble.the-variants as Trouble
 use Rattle.command.specs.declared.Parsed.{Parsed}
 use Rattle.command.specs.declared.Parsed.the-variants as Parsed
-use Rattle.command.specs.Verbs.{same, among, verbOf}
-use Rattle.command.specs.Lines.{wordsOf, digitsOnly, isNumber, numberIn, allNumbers, said, meaning, latenciesIn, fileIn}
+use Rattle.command.specs.Lines.{textOf, partsOf, wordsOf, digitsOnly, isNumber, numberSaid, allNumbers, fits, said, meaning, latenciesIn, fileIn}
 
 abbrev command : Verb → ℕ → ℕ → ℕ → ℕ → Parsed
 command v count first second third = Parsed.Command (record { verb = v; count = count; first = first; second = second; third = third })
 
-pub three-numbers : meaning (ascii "mark 1 2 3") ≡ command Verb.Mark 3 1 2 3
-unfolding meaning said wordsOf verbOf among same allNumbers isNumber digitsOnly numberIn value
+pub three-numbers : meaning (ascii "mark 1 2 3") ≡ command (Verb.Act Act.Mark) 3 1 2 3
+unfolding meaning textOf said wordsOf partsOf commandOf among same nameAt rowAt allNumbers isNumber digitsOnly numberSaid value
 three-numbers = refl
 
-pub two-spaces : meaning (ascii "mark  1 2 3") ≡ Parsed.Bad (Trouble.Usage Verb.Mark)
-unfolding meaning said wordsOf verbOf among same allNumbers isNumber digitsOnly numberIn value
-two-spaces = refl
+pub many-blanks : meaning (ascii "  mark\t1   2 \t 3 ") ≡ command (Verb.Act Act.Mark) 3 1 2 3
+unfolding meaning textOf said wordsOf partsOf commandOf among same nameAt rowAt allNumbers isNumber digitsOnly numberSaid value
+many-blanks = refl
+
+pub return-at-the-end : meaning (ascii "mark 1 2 3\r") ≡ command (Verb.Act Act.Mark) 3 1 2 3
+unfolding meaning textOf said wordsOf partsOf commandOf among same nameAt rowAt allNumbers isNumber digitsOnly numberSaid value
+return-at-the-end = refl
+
+pub blank-before-the-return : meaning (ascii "read \r") ≡ command (Verb.Act Act.Read) 0 0 0 0
+unfolding meaning textOf said wordsOf partsOf commandOf among same nameAt rowAt allNumbers isNumber digitsOnly numberSaid value
+blank-before-the-return = refl
+
+pub return-inside : meaning (ascii "search 1\r ") ≡ Parsed.Bad (Trouble.Usage 3)
+unfolding meaning textOf said wordsOf partsOf commandOf among same nameAt rowAt allNumbers isNumber digitsOnly numberSaid value
+return-inside = refl
+
+pub two-returns : meaning (ascii "search 1\r\r") ≡ Parsed.Bad (Trouble.Usage 3)
+unfolding meaning textOf said wordsOf partsOf commandOf among same nameAt rowAt allNumbers isNumber digitsOnly numberSaid value
+two-returns = refl
 
 pub a-comment : meaning (ascii "#x") ≡ Parsed.Nothing
-unfolding meaning said wordsOf verbOf among same allNumbers isNumber digitsOnly numberIn value
+unfolding meaning textOf said wordsOf partsOf commandOf among same nameAt rowAt allNumbers isNumber digitsOnly numberSaid value
 a-comment = refl
 
+pub comment-after-blanks : meaning (ascii " \t # x") ≡ Parsed.Nothing
+unfolding meaning textOf said wordsOf partsOf commandOf among same nameAt rowAt allNumbers isNumber digitsOnly numberSaid value
+comment-after-blanks = refl
+
 pub empty-line : meaning (ascii "") ≡ Parsed.Nothing
-unfolding meaning said wordsOf verbOf among same allNumbers isNumber digitsOnly numberIn value
+unfolding meaning textOf said wordsOf partsOf commandOf among same nameAt rowAt allNumbers isNumber digitsOnly numberSaid value
 empty-line = refl
 
-pub above-a-word : meaning (ascii "search 4294967296") ≡ Parsed.Bad (Trouble.Usage Verb.Search)
-unfolding meaning said wordsOf verbOf among same allNumbers isNumber digitsOnly numberIn value
+pub only-blanks : meaning (ascii " \t \r") ≡ Parsed.Nothing
+unfolding meaning textOf said wordsOf partsOf commandOf among same nameAt rowAt allNumbers isNumber digitsOnly numberSaid value
+only-blanks = refl
+
+pub above-a-word : meaning (ascii "search 4294967296") ≡ Parsed.Bad (Trouble.Usage 3)
+unfolding meaning textOf said wordsOf partsOf commandOf among same nameAt rowAt allNumbers isNumber digitsOnly numberSaid value
 above-a-word = refl
 
-pub largest-word : meaning (ascii "search 4294967295") ≡ command Verb.Search 1 4294967295 0 0
-unfolding meaning said wordsOf verbOf among same allNumbers isNumber digitsOnly numberIn value
+pub largest-word : meaning (ascii "search 4294967295") ≡ command (Verb.Act Act.Search) 1 4294967295 0 0
+unfolding meaning textOf said wordsOf partsOf commandOf among same nameAt rowAt allNumbers isNumber digitsOnly numberSaid value
 largest-word = refl
 
-pub a-tag-alone : meaning (ascii "judge 1") ≡ command Verb.Judge 1 1 0 0
-unfolding meaning said wordsOf verbOf among same allNumbers isNumber digitsOnly numberIn value
+pub a-tag-alone : meaning (ascii "judge 1") ≡ command (Verb.Ask Ask.Judge) 1 1 0 0
+unfolding meaning textOf said wordsOf partsOf commandOf among same nameAt rowAt allNumbers isNumber digitsOnly numberSaid value
 a-tag-alone = refl
 
-pub a-cycle : meaning (ascii "judge 0 3 4 7") ≡ command Verb.Judge 4 0 3 4
-unfolding meaning said wordsOf verbOf among same allNumbers isNumber digitsOnly numberIn value
+pub a-cycle : meaning (ascii "judge 0 3 4 7") ≡ command (Verb.Ask Ask.Judge) 4 0 3 4
+unfolding meaning textOf said wordsOf partsOf commandOf among same nameAt rowAt allNumbers isNumber digitsOnly numberSaid value
 a-cycle = refl
 
-pub no-tag : meaning (ascii "judge") ≡ Parsed.Bad (Trouble.Usage Verb.Judge)
-unfolding meaning said wordsOf verbOf among same allNumbers isNumber digitsOnly numberIn value
+pub no-tag : meaning (ascii "judge") ≡ Parsed.Bad (Trouble.Usage 12)
+unfolding meaning textOf said wordsOf partsOf commandOf among same nameAt rowAt allNumbers isNumber digitsOnly numberSaid value
 no-tag = refl
 
-pub space-at-the-end : meaning (ascii "read ") ≡ Parsed.Bad (Trouble.Usage Verb.Read)
-unfolding meaning said wordsOf verbOf among same allNumbers isNumber digitsOnly numberIn value
-space-at-the-end = refl
-
-pub no-words : meaning (ascii "read") ≡ command Verb.Read 0 0 0 0
-unfolding meaning said wordsOf verbOf among same allNumbers isNumber digitsOnly numberIn value
+pub no-words : meaning (ascii "read") ≡ command (Verb.Act Act.Read) 0 0 0 0
+unfolding meaning textOf said wordsOf partsOf commandOf among same nameAt rowAt allNumbers isNumber digitsOnly numberSaid value
 no-words = refl
 
 pub no-command : meaning (ascii "nonsense") ≡ Parsed.Bad Trouble.NoCommand
-unfolding meaning said wordsOf verbOf among same allNumbers isNumber digitsOnly numberIn value
+unfolding meaning textOf said wordsOf partsOf commandOf among same nameAt rowAt allNumbers isNumber digitsOnly numberSaid value
 no-command = refl
 
-pub leading-space : meaning (ascii " read") ≡ Parsed.Bad Trouble.NoCommand
-unfolding meaning said wordsOf verbOf among same allNumbers isNumber digitsOnly numberIn value
-leading-space = refl
-
 pub a-file : meaning (ascii "load units/a.unit") ≡ command Verb.Load 1 0 0 0
-unfolding meaning said wordsOf verbOf among same allNumbers isNumber digitsOnly numberIn value
+unfolding meaning textOf said wordsOf partsOf commandOf among same nameAt rowAt allNumbers isNumber digitsOnly numberSaid value
 a-file = refl
 
-pub two-files : meaning (ascii "save a b") ≡ Parsed.Bad (Trouble.Usage Verb.Save)
-unfolding meaning said wordsOf verbOf among same allNumbers isNumber digitsOnly numberIn value
+pub two-files : meaning (ascii "save a b") ≡ Parsed.Bad (Trouble.Usage 17)
+unfolding meaning textOf said wordsOf partsOf commandOf among same nameAt rowAt allNumbers isNumber digitsOnly numberSaid value
 two-files = refl
 
-pub no-digits : meaning (ascii "row 1 x") ≡ Parsed.Bad (Trouble.Usage Verb.Row)
-unfolding meaning said wordsOf verbOf among same allNumbers isNumber digitsOnly numberIn value
+pub no-digits : meaning (ascii "row 1 x") ≡ Parsed.Bad (Trouble.Usage 6)
+unfolding meaning textOf said wordsOf partsOf commandOf among same nameAt rowAt allNumbers isNumber digitsOnly numberSaid value
 no-digits = refl
 
-pub its-latencies : latenciesIn (ascii "judge 0 3 4 256 7") ≡ 3 ∷ 4 ∷ 0 ∷ 7 ∷ []
-unfolding latenciesIn wordsOf numberIn isNumber digitsOnly value
+pub its-latencies : latenciesIn (ascii "judge 0  3 4 256 7\r") ≡ 3 ∷ 4 ∷ 0 ∷ 7 ∷ []
+unfolding latenciesIn textOf wordsOf partsOf numberSaid isNumber digitsOnly value
 its-latencies = refl
 
-pub its-file : fileIn (ascii "load units/a.unit") ≡ ascii "units/a.unit"
-unfolding fileIn wordsOf
+pub its-file : fileIn (ascii " load  units/a.unit \r") ≡ ascii "units/a.unit"
+unfolding fileIn textOf wordsOf partsOf
 its-file = refl
+
+-- a last number that may be left out
+pub left-out : fits (Form.Optional 1) (ascii "7" ∷ []) ≡ true
+unfolding allNumbers isNumber digitsOnly value
+left-out = refl
+
+pub given : fits (Form.Optional 1) (ascii "7" ∷ ascii "2" ∷ []) ≡ true
+unfolding allNumbers isNumber digitsOnly value
+given = refl
+
+pub one-too-many : fits (Form.Optional 1) (ascii "7" ∷ ascii "2" ∷ ascii "2" ∷ []) ≡ false
+unfolding allNumbers isNumber digitsOnly value
+one-too-many = refl
+
+pub one-too-few : fits (Form.Optional 1) [] ≡ false
+unfolding allNumbers isNumber digitsOnly value
+one-too-few = refl

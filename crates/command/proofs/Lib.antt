@@ -1,7 +1,6 @@
 mod Examples
-mod FillLaws
-pub mod LineLaws
-pub mod NameLaws
+pub mod WordLaws
 pub mod NumberLaws
 pub mod ScanLaws
-pub mod WordLaws
+mod FillLaws
+pub mod LineLaws

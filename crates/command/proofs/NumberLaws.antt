@@ -13,7 +13,7 @@ use Rattle.words.proofs.Tests.{and-true, nowhere}
 use Rattle.text.specs.Text.{value}
 use Rattle.command.specs.declared.scan.Numeral.{Numeral}
 use Rattle.command.specs.declared.scan.Numeral.the-variants as Numeral
-use Rattle.command.specs.Lines.{isDigit, digitsOnly, isNumber, numberIn}
+use Rattle.command.specs.Lines.{isDigit, digitsOnly, isNumber, numberSaid}
 use Rattle.command.specs.Inner.{numeral}
 
 -- the number that digits say after those that say v
@@ -132,12 +132,12 @@ told-other : (t : Bool) (v : ℕ) → Numeral.Other ≡ cond t (Numeral.Number v
 told-other true v e = let z : _≡_ {A = ℕ} 0 1 = cc in absurd (omega arith)
 told-other false v e = (refl, refl)
 
-pub number-told : (word : List ℕ) (n : ℕ) → Numeral.Number n ≡ numeral word → (isNumber word ≡ true) × (n ≡ numberIn word)
-unfolding numberIn
+pub number-told : (word : List ℕ) (n : ℕ) → Numeral.Number n ≡ numeral word → (isNumber word ≡ true) × (n ≡ numberSaid word)
+unfolding numberSaid
 number-told word n e = told-number (isNumber word) (value word) n e
 
-pub other-told : (word : List ℕ) → Numeral.Other ≡ numeral word → (isNumber word ≡ false) × (0 ≡ numberIn word)
-unfolding numberIn
+pub other-told : (word : List ℕ) → Numeral.Other ≡ numeral word → (isNumber word ≡ false) × (0 ≡ numberSaid word)
+unfolding numberSaid
 other-told word e = told-other (isNumber word) (value word) e
 
 -- A number in decimal is one
@@ -149,6 +149,6 @@ digits-each [] each = refl
 digits-each (b ∷ word) each =
     and-true (digit-true b (each 0 (omega arith) .0) (each 0 (omega arith) .1)) (digits-each word (λ i h. each (suc i) (omega arith)))
 
-pub number-is : (word : List ℕ) → 1 ≤ length word → digitsOnly word ≡ true → value word ≤ 4294967295 → (isNumber word ≡ true) × (numberIn word ≡ value word)
-unfolding numberIn
+pub number-is : (word : List ℕ) → 1 ≤ length word → digitsOnly word ≡ true → value word ≤ 4294967295 → (isNumber word ≡ true) × (numberSaid word ≡ value word)
+unfolding numberSaid
 number-is word l d v = let t = number-true word l d v in (t, rw t)

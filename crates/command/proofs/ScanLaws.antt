@@ -6,12 +6,12 @@ use Prim.Native.Nat.{ℕ, zero, suc, _+_, _≤_, _<_}
 use native.Mathlib.Omega.{arith}
 use borrow.Author.Tests.{eq-eqb, ne-eqb}
 use lib.Dec.{eqb}
-use lib.ListN.{length}
+use lib.ListN.{length, getD}
 use Rattle.text.specs.Text.{value}
 use Rattle.command.specs.declared.scan.Scan.{Scan}
-use Rattle.command.specs.Lines.{wordAt, isNumber, numberIn, allNumbers}
-use Rattle.command.specs.Inner.{wordFrom, wordsAfter, noted, withWord, scanned}
-use Rattle.command.proofs.WordLaws.{part, word-part, word-after, end-word, rest-none, rest-word}
+use Rattle.command.specs.Lines.{isBlank, wordAt, isNumber, numberSaid, allNumbers}
+use Rattle.command.specs.Inner.{wordFrom, wordsFrom, Begins, noted, withWord, scanned}
+use Rattle.command.proofs.WordLaws.{part, word-part, word-some, words-end, words-here}
 
 -- a scan by its five parts
 abbrev scan : Bool → ℕ → ℕ → ℕ → ℕ → Scan
@@ -37,8 +37,8 @@ pub all-none : allNumbers [] ≡ true
 unfolding allNumbers
 all-none = refl
 
-pub number-none : numberIn [] ≡ 0
-unfolding numberIn isNumber
+pub number-none : numberSaid [] ≡ 0
+unfolding numberSaid isNumber
 number-none = refl
 
 and-one : (a : Bool) → a && true ≡ a
@@ -57,7 +57,7 @@ later g n a b d (w ∷ words) h =
     let t₁ : eqb n 1 ≡ false = ne-eqb n 1 (λ e. omega arith) in
     let t₂ : eqb n 2 ≡ false = ne-eqb n 2 (λ e. omega arith) in
     ap (λ s. scanFrom s words)
-    (same-scan {g = g && isNumber w} {m = n + 1} refl refl (ap (λ t. cond t (numberIn w) a) t₀) (ap (λ t. cond t (numberIn w) b) t₁) (ap (λ t. cond t (numberIn w) d) t₂))
+    (same-scan {g = g && isNumber w} {m = n + 1} refl refl (ap (λ t. cond t (numberSaid w) a) t₀) (ap (λ t. cond t (numberSaid w) b) t₁) (ap (λ t. cond t (numberSaid w) d) t₂))
     ∙ later (g && isNumber w) (n + 1) a b d words (omega arith)
     ∙ same-scan (and-assoc g (isNumber w) (allNumbers words) ∙ ap (λ t. g && t) (sym (all-cons w words))) (omega arith) refl refl refl
 
@@ -74,7 +74,7 @@ scan-all (a ∷ b ∷ []) =
     refl
     (sym number-none)
 scan-all (a ∷ b ∷ d ∷ words) =
-    later ((isNumber a && isNumber b) && isNumber d) 3 (numberIn a) (numberIn b) (numberIn d) words (omega arith)
+    later ((isNumber a && isNumber b) && isNumber d) 3 (numberSaid a) (numberSaid b) (numberSaid d) words (omega arith)
     ∙ same-scan
     (and-assoc (isNumber a && isNumber b) (isNumber d) (allNumbers words) ∙ and-assoc (isNumber a) (isNumber b) (isNumber d && allNumbers words)
     ∙ sym (all-cons a (b ∷ d ∷ words) ∙ ap (λ t. isNumber a && t) (all-cons b (d ∷ words) ∙ ap (λ t. isNumber b && t) (all-cons d words))))
@@ -83,39 +83,52 @@ scan-all (a ∷ b ∷ d ∷ words) =
     refl
     refl
 
--- Along the line
+-- Along the text
 
--- the words before an index, at which one ends, are noted
-pub record Scanned (line : List ℕ) (from : ℕ) (words : Scan) (at : ℕ) : Type 0 where
+-- the words before an index, at which one begins or the text ends, are noted
+pub record Scanned (text : List ℕ) (from : ℕ) (words : Scan) (at : ℕ) : Type 0 where
   pub few : words .count ≤ at
-  pub ends : length (wordFrom line at) ≡ 0
-  pub rest : scanFrom words (wordsAfter line at) ≡ scanned (wordsAfter line from)
+  pub inside : at ≤ length text
+  pub here : at < length text → isBlank (getD text at 0) ≡ false
+  pub rest : scanFrom words (wordsFrom text at) ≡ scanned (wordsFrom text from)
 
-pub scan-start : (line : List ℕ) (from : ℕ) → length (wordFrom line from) ≡ 0 → Scanned line from noWords from
-scan-start line from e = record { few = omega arith; ends = e; rest = scan-all (wordsAfter line from) }
+pub scan-start : {text : List ℕ} {from at : ℕ} → Begins text from at → Scanned text from noWords at
+scan-start {text} {from} {at} b = record {
+  few = omega arith;
+  inside = b .inside;
+  here = b .here;
+  rest = scan-all (wordsFrom text at) ∙ ap scanned (b .same);
+}
 
-pub scan-more : {line : List ℕ} {from : ℕ} {words : Scan} {at : ℕ} (end : ℕ) (next : Scan) → Scanned line from words at → at < length line
-    → end ≡ at + 1 + length (wordFrom line (at + 1)) → next ≡ withWord words (part (at + 1) end line) → Scanned line from next end
-scan-more {line} {from} {words} {at} end next s h e n =
-    let word : part (at + 1) end line ≡ wordFrom line (at + 1) = word-part line (at + 1) end e in
-    let step : next ≡ withWord words (wordFrom line (at + 1)) = n ∙ ap (withWord words) word in
+pub scan-more : {text : List ℕ} {from : ℕ} {words : Scan} {at start : ℕ} (end : ℕ) (next : Scan) → Scanned text from words at → at < length text
+    → end ≡ at + length (wordFrom text at) → next ≡ withWord words (part at end text) → Begins text end start → Scanned text from next start
+scan-more {text} {from} {words} {at} {start} end next s h e n b =
+    let step : next ≡ withWord words (wordFrom text at) = n ∙ ap (withWord words) (word-part text at end e) in
     record {
-      few = omega (arith, ap (λ (x : Scan). x .count) step, s .few);
-      ends = end-word line (at + 1) end e;
-      rest = ap (λ x. scanFrom x (wordsAfter line end)) step ∙ ap (scanFrom words) (sym (rest-word line at end h (s .ends) e)) ∙ s .rest;
+      few = omega (arith, ap (λ (x : Scan). x .count) step, s .few, word-some text at end e h (s .here h), b .after);
+      inside = b .inside;
+      here = b .here;
+      rest =
+          ap (scanFrom next) (b .same) ∙ ap (λ x. scanFrom x (wordsFrom text end)) step
+          ∙ ap (scanFrom words) (sym (words-here text at end e h (s .here h))) ∙ s .rest;
     }
 
-pub scan-end : {line : List ℕ} {from : ℕ} {words : Scan} {at : ℕ} → Scanned line from words at → length line ≤ at → words ≡ scanned (wordsAfter line from)
-scan-end {line} {from} {words} {at} s h = sym (ap (scanFrom words) (rest-none line at h)) ∙ s .rest
+-- each turn goes on
+pub scan-on : {text : List ℕ} {from : ℕ} {words : Scan} {at start : ℕ} (end : ℕ) → Scanned text from words at → at < length text
+    → end ≡ at + length (wordFrom text at) → Begins text end start → at < start
+scan-on {text} {at = at} end s h e b = omega (arith, word-some text at end e h (s .here h), b .after)
+
+pub scan-end : {text : List ℕ} {from : ℕ} {words : Scan} {at : ℕ} → Scanned text from words at → length text ≤ at → words ≡ scanned (wordsFrom text from)
+scan-end {text} {from} {words} {at} s h = sym (ap (scanFrom words) (words-end text at h)) ∙ s .rest
 
 -- One word
 
 -- a number, and another word
-pub noted-number : (s : Scan) (word : List ℕ) (n : ℕ) → isNumber word ≡ true → n ≡ numberIn word → noted s (s .good) n ≡ withWord s word
-noted-number s word n t e = ap (noted s (s .good)) e ∙ ap (λ b. noted s b (numberIn word)) (sym (ap (λ b. s .good && b) t ∙ and-one (s .good)))
+pub noted-number : (s : Scan) (word : List ℕ) (n : ℕ) → isNumber word ≡ true → n ≡ numberSaid word → noted s (s .good) n ≡ withWord s word
+noted-number s word n t e = ap (noted s (s .good)) e ∙ ap (λ b. noted s b (numberSaid word)) (sym (ap (λ b. s .good && b) t ∙ and-one (s .good)))
 
-pub noted-other : (s : Scan) (word : List ℕ) → isNumber word ≡ false → 0 ≡ numberIn word → noted s false 0 ≡ withWord s word
-noted-other s word t e = ap (noted s false) e ∙ ap (λ b. noted s b (numberIn word)) (sym (ap (λ b. s .good && b) t ∙ and-zero (s .good)))
+pub noted-other : (s : Scan) (word : List ℕ) → isNumber word ≡ false → 0 ≡ numberSaid word → noted s false 0 ≡ withWord s word
+noted-other s word t e = ap (noted s false) e ∙ ap (λ b. noted s b (numberSaid word)) (sym (ap (λ b. s .good && b) t ∙ and-zero (s .good)))
   where
     and-zero : (a : Bool) → a && false ≡ false
     and-zero true = refl

@@ -1,169 +1,223 @@
--- The words of a line, and the line walked from an index on. Assumes nothing.
+-- The words of a text, and the text walked from an index on. Assumes nothing.
 use mathlib.Core.Path.{_≡_, refl, sym, ap, _∙_}
 use mathlib.Core.Bool.{Bool, true, false, cond}
 use mathlib.Core.List.{List, [], _∷_, _++_}
 use Prim.Native.Nat.{ℕ, zero, suc, _+_, _-_, _≤_, _<_}
+use native.Mathlib.Decide.{decLt}
 use native.Mathlib.Numerals.{add-one}
 use native.Mathlib.Omega.{arith}
-use borrow.Author.Tests.{eq-eqb, ne-eqb, eqb-true}
-use lib.Dec.{eqb}
 use lib.ListN.{length, getD, take, drop, length-drop, drop-of-length-le}
 use lib.Seq.{drop-cons, drop-drop}
 use Rattle.words.proofs.Tests.{by-test}
-use Rattle.command.specs.Lines.{onto, wordsOf, wordAt}
-use Rattle.command.specs.Inner.{wordFrom, wordsAfter}
+use Rattle.command.specs.Lines.{isBlank, onto, partsOf, filled, wordsOf, wordAt}
+use Rattle.command.specs.Inner.{wordFrom, wordsFrom, Begins, Passes}
 
--- A line, byte by byte
+-- A text, byte by byte
 
-onto-first : (b : ℕ) (words : List (List ℕ)) → wordAt (onto b words) 0 ≡ b ∷ wordAt words 0
+onto-first : (b : ℕ) (parts : List (List ℕ)) → wordAt (onto b parts) 0 ≡ b ∷ wordAt parts 0
 onto-first b [] = refl
-onto-first b (w ∷ words) = refl
+onto-first b (p ∷ parts) = refl
 
-onto-rest : (b : ℕ) (words : List (List ℕ)) → drop 1 (onto b words) ≡ drop 1 words
+onto-rest : (b : ℕ) (parts : List (List ℕ)) → drop 1 (onto b parts) ≡ drop 1 parts
 onto-rest b [] = refl
-onto-rest b (w ∷ words) = refl
+onto-rest b (p ∷ parts) = refl
 
--- a space ends an empty word
-pub words-space : (l : List ℕ) → wordsOf (32 ∷ l) ≡ [] ∷ wordsOf l
-unfolding wordsOf
-words-space l = refl
+-- a blank ends an empty part
+parts-blank : (b : ℕ) (l : List ℕ) → isBlank b ≡ true → partsOf (b ∷ l) ≡ [] ∷ partsOf l
+unfolding partsOf
+parts-blank b l e = ap (λ t. cond t ([] ∷ partsOf l) (onto b (partsOf l))) e
 
-pub words-byte : (b : ℕ) (l : List ℕ) → eqb b 32 ≡ false → wordsOf (b ∷ l) ≡ onto b (wordsOf l)
-unfolding wordsOf
-words-byte b l e = rw e
+parts-byte : (b : ℕ) (l : List ℕ) → isBlank b ≡ false → partsOf (b ∷ l) ≡ onto b (partsOf l)
+unfolding partsOf
+parts-byte b l e = ap (λ t. cond t ([] ∷ partsOf l) (onto b (partsOf l))) e
 
-pub words-none : wordsOf [] ≡ [] ∷ []
-unfolding wordsOf
-words-none = refl
+parts-none : partsOf [] ≡ [] ∷ []
+unfolding partsOf
+parts-none = refl
 
--- what holds of an empty line, of one that begins with a space, and of one that begins with another byte
-by-byte : (P : List ℕ → Type 0) → P [] → ((l : List ℕ) → P (32 ∷ l)) → ((b : ℕ) (l : List ℕ) → eqb b 32 ≡ false → P l → P (b ∷ l)) → (l : List ℕ) → P l
-by-byte P none space byte [] = none
-by-byte P none space byte (b ∷ l) =
-    let r : P l = by-byte P none space byte l in
-    by-test (eqb b 32) (λ e. let q : b ≡ 32 = eqb-true b 32 e in rw q (space l)) (λ e. byte b l e r)
+-- what holds of an empty text, of one that begins with a blank, and of one that begins with another byte
+by-byte : (P : List ℕ → Type 0) → P [] → ((b : ℕ) (l : List ℕ) → isBlank b ≡ true → P (b ∷ l)) → ((b : ℕ) (l : List ℕ) → isBlank b ≡ false → P l → P (b ∷ l))
+    → (l : List ℕ) → P l
+by-byte P none blank byte [] = none
+by-byte P none blank byte (b ∷ l) = let r : P l = by-byte P none blank byte l in by-test (isBlank b) (λ e. blank b l e) (λ e. byte b l e r)
 
-first-byte : (b : ℕ) (l : List ℕ) → eqb b 32 ≡ false → wordAt (wordsOf (b ∷ l)) 0 ≡ b ∷ wordAt (wordsOf l) 0
-first-byte b l e = ap (λ w. wordAt w 0) (words-byte b l e) ∙ onto-first b (wordsOf l)
+pub first-byte : (b : ℕ) (l : List ℕ) → isBlank b ≡ false → wordAt (partsOf (b ∷ l)) 0 ≡ b ∷ wordAt (partsOf l) 0
+first-byte b l e = ap (λ p. wordAt p 0) (parts-byte b l e) ∙ onto-first b (partsOf l)
 
-first-space : (l : List ℕ) → wordAt (wordsOf (32 ∷ l)) 0 ≡ []
-first-space l = ap (λ w. wordAt w 0) (words-space l)
+pub first-blank : (b : ℕ) (l : List ℕ) → isBlank b ≡ true → wordAt (partsOf (b ∷ l)) 0 ≡ []
+first-blank b l e = ap (λ p. wordAt p 0) (parts-blank b l e)
 
-first-none : wordAt (wordsOf []) 0 ≡ []
-first-none = ap (λ w. wordAt w 0) words-none
+pub first-none : wordAt (partsOf []) 0 ≡ []
+first-none = ap (λ p. wordAt p 0) parts-none
 
-rest-byte : (b : ℕ) (l : List ℕ) → eqb b 32 ≡ false → drop 1 (wordsOf (b ∷ l)) ≡ drop 1 (wordsOf l)
-rest-byte b l e = ap (drop 1) (words-byte b l e) ∙ onto-rest b (wordsOf l)
+rest-byte : (b : ℕ) (l : List ℕ) → isBlank b ≡ false → drop 1 (partsOf (b ∷ l)) ≡ drop 1 (partsOf l)
+rest-byte b l e = ap (drop 1) (parts-byte b l e) ∙ onto-rest b (partsOf l)
 
--- there is a first word
-pub words-first : (l : List ℕ) → wordsOf l ≡ wordAt (wordsOf l) 0 ∷ drop 1 (wordsOf l)
-words-first =
-    by-byte (λ l. wordsOf l ≡ wordAt (wordsOf l) 0 ∷ drop 1 (wordsOf l))
-    (rw words-none)
-    (λ l. rw (words-space l))
-    (λ b l e r. words-byte b l e ∙ ap (onto b) r ∙ sym (ap (λ w. w ∷ drop 1 (wordsOf (b ∷ l))) (first-byte b l e) ∙ ap (λ w. (b ∷ wordAt (wordsOf l) 0) ∷ w) (rest-byte b l e)))
+-- there is a first part
+parts-first : (l : List ℕ) → partsOf l ≡ wordAt (partsOf l) 0 ∷ drop 1 (partsOf l)
+parts-first =
+    by-byte (λ l. partsOf l ≡ wordAt (partsOf l) 0 ∷ drop 1 (partsOf l))
+    (rw parts-none)
+    (λ b l e. rw (parts-blank b l e))
+    (λ b l e r. parts-byte b l e ∙ ap (onto b) r ∙ sym (ap (λ w. w ∷ drop 1 (partsOf (b ∷ l))) (first-byte b l e) ∙ ap (λ w. (b ∷ wordAt (partsOf l) 0) ∷ w) (rest-byte b l e)))
 
--- The first word and what comes after it
+-- The first part and what comes after it
 
--- the line begins with it
-first-take : (l : List ℕ) → take (length (wordAt (wordsOf l) 0)) l ≡ wordAt (wordsOf l) 0
+-- the text begins with it
+first-take : (l : List ℕ) → take (length (wordAt (partsOf l) 0)) l ≡ wordAt (partsOf l) 0
 first-take =
-    by-byte (λ l. take (length (wordAt (wordsOf l) 0)) l ≡ wordAt (wordsOf l) 0)
+    by-byte (λ l. take (length (wordAt (partsOf l) 0)) l ≡ wordAt (partsOf l) 0)
     (rw first-none)
-    (λ l. rw (first-space l))
+    (λ b l e. rw (first-blank b l e))
     (λ b l e r. rw (first-byte b l e) (ap (λ w. b ∷ w) r))
 
-first-le : (l : List ℕ) → length (wordAt (wordsOf l) 0) ≤ length l
+first-le : (l : List ℕ) → length (wordAt (partsOf l) 0) ≤ length l
 first-le =
-    by-byte (λ l. length (wordAt (wordsOf l) 0) ≤ length l)
+    by-byte (λ l. length (wordAt (partsOf l) 0) ≤ length l)
     (rw first-none (omega arith))
-    (λ l. rw (first-space l) (omega arith))
+    (λ b l e. rw (first-blank b l e) (omega arith))
     (λ b l e r. rw (first-byte b l e) (omega arith))
 
--- from its end on the line begins with an empty word, and then come the others
-first-ends : (l : List ℕ) → wordAt (wordsOf (drop (length (wordAt (wordsOf l) 0)) l)) 0 ≡ []
+-- from its end on the text begins with an empty part, and then come the others
+first-ends : (l : List ℕ) → wordAt (partsOf (drop (length (wordAt (partsOf l) 0)) l)) 0 ≡ []
 first-ends =
-    by-byte (λ l. wordAt (wordsOf (drop (length (wordAt (wordsOf l) 0)) l)) 0 ≡ [])
+    by-byte (λ l. wordAt (partsOf (drop (length (wordAt (partsOf l) 0)) l)) 0 ≡ [])
     (rw first-none first-none)
-    (λ l. rw (first-space l) (first-space l))
+    (λ b l e. rw (first-blank b l e) (first-blank b l e))
     (λ b l e r. rw (first-byte b l e) r)
 
-rest-ends : (l : List ℕ) → drop 1 (wordsOf (drop (length (wordAt (wordsOf l) 0)) l)) ≡ drop 1 (wordsOf l)
+rest-ends : (l : List ℕ) → drop 1 (partsOf (drop (length (wordAt (partsOf l) 0)) l)) ≡ drop 1 (partsOf l)
 rest-ends =
-    by-byte (λ l. drop 1 (wordsOf (drop (length (wordAt (wordsOf l) 0)) l)) ≡ drop 1 (wordsOf l))
+    by-byte (λ l. drop 1 (partsOf (drop (length (wordAt (partsOf l) 0)) l)) ≡ drop 1 (partsOf l))
     (rw first-none)
-    (λ l. rw (first-space l))
+    (λ b l e. rw (first-blank b l e))
     (λ b l e r. rw (first-byte b l e) (r ∙ sym (rest-byte b l e)))
 
--- after an empty word there is a space, and the next word begins behind it
-rest-next : (l : List ℕ) → length (wordAt (wordsOf l) 0) ≡ 0 → 0 < length l → drop 1 (wordsOf l) ≡ wordsOf (drop 1 l)
-rest-next =
-    by-byte (λ l. length (wordAt (wordsOf l) 0) ≡ 0 → 0 < length l → drop 1 (wordsOf l) ≡ wordsOf (drop 1 l))
-    (λ h k. absurd (omega arith))
-    (λ l h k. ap (drop 1) (words-space l))
-    (λ b l e r h k. let s : length (wordAt (wordsOf (b ∷ l)) 0) ≡ suc (length (wordAt (wordsOf l) 0)) = ap length (first-byte b l e) in absurd (omega arith))
+-- Words
+
+pub words-none : wordsOf [] ≡ []
+unfolding wordsOf
+words-none = ap filled parts-none
+
+-- a blank before the first word is passed over
+pub words-blank : (b : ℕ) (l : List ℕ) → isBlank b ≡ true → wordsOf (b ∷ l) ≡ wordsOf l
+unfolding wordsOf
+words-blank b l e = ap filled (parts-blank b l e)
+
+-- the words from the end of the first part on
+words-rest : (l : List ℕ) → wordsOf (drop (length (wordAt (partsOf l) 0)) l) ≡ filled (drop 1 (partsOf l))
+unfolding wordsOf
+words-rest l =
+    let m : List ℕ = drop (length (wordAt (partsOf l) 0)) l in
+    ap filled (parts-first m ∙ ap (λ p. p ∷ drop 1 (partsOf m)) (first-ends l)) ∙ ap filled (rest-ends l)
+
+-- a text that begins with no blank begins with its first word
+pub words-first : (b : ℕ) (l : List ℕ) → isBlank b ≡ false
+    → wordsOf (b ∷ l) ≡ wordAt (partsOf (b ∷ l)) 0 ∷ wordsOf (drop (length (wordAt (partsOf (b ∷ l)) 0)) (b ∷ l))
+unfolding wordsOf
+words-first b l e =
+    let rest : List (List ℕ) = drop 1 (partsOf (b ∷ l)) in
+    ap filled (parts-first (b ∷ l) ∙ ap (λ p. p ∷ rest) (first-byte b l e))
+    ∙ ap (λ p. p ∷ filled rest) (sym (first-byte b l e))
+    ∙ ap (λ w. wordAt (partsOf (b ∷ l)) 0 ∷ w) (sym (words-rest (b ∷ l)))
 
 -- From an index on
 
 -- the bytes from one index up to another
 abbrev pub part : ℕ → ℕ → List ℕ → List ℕ
-part from end line = take (end - from) (drop from line)
+part from end text = take (end - from) (drop from text)
 
-pub word-none : (line : List ℕ) (at : ℕ) → length line ≤ at → wordFrom line at ≡ []
-word-none line at h = ap (λ l. wordAt (wordsOf l) 0) (drop-of-length-le line h) ∙ first-none
+pub words-end : (text : List ℕ) (at : ℕ) → length text ≤ at → wordsFrom text at ≡ []
+words-end text at h = ap wordsOf (drop-of-length-le text h) ∙ words-none
 
-pub word-space : (line : List ℕ) (at : ℕ) → at < length line → getD line at 0 ≡ 32 → wordFrom line at ≡ []
-word-space line at h e =
-    ap (λ l. wordAt (wordsOf l) 0) (drop-cons line at 0 h ∙ ap (λ b. b ∷ drop (suc at) line) e) ∙ first-space (drop (suc at) line)
+words-skip : (text : List ℕ) (at : ℕ) → at < length text → isBlank (getD text at 0) ≡ true → wordsFrom text (at + 1) ≡ wordsFrom text at
+words-skip text at h e =
+    ap (λ k. wordsFrom text k) (add-one at) ∙ sym (ap wordsOf (drop-cons text at 0 h) ∙ words-blank (getD text at 0) (drop (suc at) text) e)
 
--- a byte other than the space belongs to the word
-pub word-byte : (line : List ℕ) (at : ℕ) → at < length line → (getD line at 0 ≡ 32 → ⊥) → wordFrom line at ≡ getD line at 0 ∷ wordFrom line (at + 1)
-word-byte line at h e =
-    ap (λ l. wordAt (wordsOf l) 0) (drop-cons line at 0 h)
-    ∙ first-byte (getD line at 0) (drop (suc at) line) (ne-eqb (getD line at 0) 32 e)
-    ∙ ap (λ k. getD line at 0 ∷ wordFrom line k) (sym (add-one at))
+pub word-none : (text : List ℕ) (at : ℕ) → length text ≤ at → wordFrom text at ≡ []
+word-none text at h = ap (λ l. wordAt (partsOf l) 0) (drop-of-length-le text h) ∙ first-none
 
-pub word-more : (line : List ℕ) (from at : ℕ) → at < length line → (getD line at 0 ≡ 32 → ⊥) → at + length (wordFrom line at) ≡ from + length (wordFrom line from)
-    → at + 1 + length (wordFrom line (at + 1)) ≡ from + length (wordFrom line from)
-word-more line from at h e i =
-    let s : length (wordFrom line at) ≡ suc (length (wordFrom line (at + 1))) = ap length (word-byte line at h e) in omega arith
+pub word-blank : (text : List ℕ) (at : ℕ) → at < length text → isBlank (getD text at 0) ≡ true → wordFrom text at ≡ []
+word-blank text at h e = ap (λ l. wordAt (partsOf l) 0) (drop-cons text at 0 h) ∙ first-blank (getD text at 0) (drop (suc at) text) e
 
-pub word-end-none : (line : List ℕ) (from at : ℕ) → length line ≤ at → at + length (wordFrom line at) ≡ from + length (wordFrom line from)
-    → at ≡ from + length (wordFrom line from)
-word-end-none line from at h i = let s : length (wordFrom line at) ≡ 0 = ap length (word-none line at h) in omega arith
+-- another byte belongs to the word
+pub word-byte : (text : List ℕ) (at : ℕ) → at < length text → isBlank (getD text at 0) ≡ false → wordFrom text at ≡ getD text at 0 ∷ wordFrom text (at + 1)
+word-byte text at h e =
+    ap (λ l. wordAt (partsOf l) 0) (drop-cons text at 0 h)
+    ∙ first-byte (getD text at 0) (drop (suc at) text) e
+    ∙ ap (λ k. getD text at 0 ∷ wordFrom text k) (sym (add-one at))
 
-pub word-end-space : (line : List ℕ) (from at : ℕ) → at < length line → getD line at 0 ≡ 32 → at + length (wordFrom line at) ≡ from + length (wordFrom line from)
-    → at ≡ from + length (wordFrom line from)
-word-end-space line from at h e i = let s : length (wordFrom line at) ≡ 0 = ap length (word-space line at h e) in omega arith
+pub word-more : (text : List ℕ) (from at : ℕ) → at < length text → isBlank (getD text at 0) ≡ false → at + length (wordFrom text at) ≡ from + length (wordFrom text from)
+    → at + 1 + length (wordFrom text (at + 1)) ≡ from + length (wordFrom text from)
+word-more text from at h e i =
+    let s : length (wordFrom text at) ≡ suc (length (wordFrom text (at + 1))) = ap length (word-byte text at h e) in omega arith
 
-module _ (line : List ℕ) (from : ℕ) (end : ℕ) (ends : end ≡ from + length (wordFrom line from)) where
+pub word-end-none : (text : List ℕ) (from at : ℕ) → length text ≤ at → at + length (wordFrom text at) ≡ from + length (wordFrom text from)
+    → at ≡ from + length (wordFrom text from)
+word-end-none text from at h i = let s : length (wordFrom text at) ≡ 0 = ap length (word-none text at h) in omega arith
+
+pub word-end-blank : (text : List ℕ) (from at : ℕ) → at < length text → isBlank (getD text at 0) ≡ true → at + length (wordFrom text at) ≡ from + length (wordFrom text from)
+    → at ≡ from + length (wordFrom text from)
+word-end-blank text from at h e i = let s : length (wordFrom text at) ≡ 0 = ap length (word-blank text at h e) in omega arith
+
+module _ (text : List ℕ) (from : ℕ) (end : ℕ) (ends : end ≡ from + length (wordFrom text from)) where
   -- where the word ends
-  pub word-inside : from ≤ length line → end ≤ length line
-  word-inside h = omega (arith, first-le (drop from line), length-drop from line)
+  pub word-inside : from ≤ length text → end ≤ length text
+  word-inside h = omega (arith, first-le (drop from text), length-drop from text)
 
   pub word-after : from ≤ end
   word-after = omega arith
 
-  pub word-part : part from end line ≡ wordFrom line from
-  word-part = let n : end - from ≡ length (wordFrom line from) = omega arith in ap (λ k. take k (drop from line)) n ∙ first-take (drop from line)
+  pub word-part : part from end text ≡ wordFrom text from
+  word-part = let n : end - from ≡ length (wordFrom text from) = omega arith in ap (λ k. take k (drop from text)) n ∙ first-take (drop from text)
 
-  pub end-word : length (wordFrom line end) ≡ 0
-  end-word =
-      ap length (ap (λ k. wordFrom line k) ends ∙ ap (λ l. wordAt (wordsOf l) 0) (sym (drop-drop (length (wordFrom line from)) from line)) ∙ first-ends (drop from line))
+  -- a word that begins has a byte, and the others come after it
+  pub word-some : from < length text → isBlank (getD text from 0) ≡ false → from < end
+  word-some h e = let s : length (wordFrom text from) ≡ suc (length (wordFrom text (from + 1))) = ap length (word-byte text from h e) in omega arith
 
-  pub end-rest : wordsAfter line end ≡ wordsAfter line from
-  end-rest =
-      ap (wordsAfter line) ends ∙ ap (λ l. drop 1 (wordsOf l)) (sym (drop-drop (length (wordFrom line from)) from line)) ∙ rest-ends (drop from line)
+  pub words-here : from < length text → isBlank (getD text from 0) ≡ false → wordsFrom text from ≡ wordFrom text from ∷ wordsFrom text end
+  words-here h e =
+      let byte : drop from text ≡ getD text from 0 ∷ drop (suc from) text = drop-cons text from 0 h in
+      ap wordsOf byte ∙ words-first (getD text from 0) (drop (suc from) text) e
+      ∙ ap (λ l. wordAt (partsOf l) 0 ∷ wordsOf (drop (length (wordAt (partsOf l) 0)) l)) (sym byte)
+      ∙ ap (λ w. wordFrom text from ∷ w) (ap wordsOf (drop-drop (length (wordFrom text from)) from text) ∙ ap (λ k. wordsFrom text k) (sym ends))
 
--- The words after the one that ends at an index
+-- The next word
 
-pub rest-none : (line : List ℕ) (at : ℕ) → length line ≤ at → wordsAfter line at ≡ []
-rest-none line at h = ap (λ l. drop 1 (wordsOf l)) (drop-of-length-le line h) ∙ ap (drop 1) words-none
+-- blanks alone stand between two indices
+pub record Skipped (text : List ℕ) (from at : ℕ) : Type 0 where
+  pub after : from ≤ at
+  pub inside : at ≤ length text
+  pub same : wordsFrom text at ≡ wordsFrom text from
 
-pub rest-words : (line : List ℕ) (at : ℕ) → at < length line → length (wordFrom line at) ≡ 0 → wordsAfter line at ≡ wordsOf (drop (at + 1) line)
-rest-words line at h e = rest-next (drop at line) e (omega (arith, length-drop at line)) ∙ ap wordsOf (drop-drop 1 at line)
+pub skip-start : (text : List ℕ) (from : ℕ) → from ≤ length text → Skipped text from from
+skip-start text from h = record { after = omega arith; inside = h; same = refl }
 
-pub rest-word : (line : List ℕ) (at end : ℕ) → at < length line → length (wordFrom line at) ≡ 0 → end ≡ at + 1 + length (wordFrom line (at + 1))
-    → wordsAfter line at ≡ wordFrom line (at + 1) ∷ wordsAfter line end
-rest-word line at end h e ends =
-    rest-words line at h e ∙ words-first (drop (at + 1) line) ∙ ap (λ w. wordFrom line (at + 1) ∷ w) (sym (end-rest line (at + 1) end ends))
+pub skip-more : {text : List ℕ} {from at : ℕ} → Skipped text from at → at < length text → isBlank (getD text at 0) ≡ true → Skipped text from (at + 1)
+skip-more {text} {from} {at} s h e = record { after = omega (arith, s .after); inside = omega arith; same = words-skip text at h e ∙ s .same }
+
+pub skip-here : {text : List ℕ} {from at : ℕ} → Skipped text from at → isBlank (getD text at 0) ≡ false → Begins text from at
+skip-here s e = record { after = s .after; inside = s .inside; same = s .same; here = λ h. e }
+
+pub skip-end : {text : List ℕ} {from at : ℕ} → Skipped text from at → length text ≤ at → Begins text from at
+skip-end s h = record { after = s .after; inside = s .inside; same = s .same; here = λ l. absurd (omega arith) }
+
+-- the first word from an index on
+pub begins-first : {text : List ℕ} {from at : ℕ} → Begins text from at → wordAt (wordsFrom text from) 0 ≡ wordFrom text at
+begins-first {text} {from} {at} b = ap (λ w. wordAt w 0) (sym (b .same)) ∙ go (decLt at (length text))
+  where
+    go : Dec (at < length text) → wordAt (wordsFrom text at) 0 ≡ wordFrom text at
+    go (yes h) = ap (λ w. wordAt w 0) (words-here text at (at + length (wordFrom text at)) refl h (b .here h))
+    go (no h) = ap (λ w. wordAt w 0) (words-end text at (omega arith)) ∙ sym (word-none text at (omega arith))
+
+pub begins-rest : {text : List ℕ} {from at : ℕ} (end : ℕ) → Begins text from at → end ≡ at + length (wordFrom text at) → Passes text from end
+begins-rest {text} {from} {at} end b e = record {
+  inside = word-inside text at end e (b .inside);
+  rest = go (decLt at (length text)) ∙ ap (drop 1) (b .same);
+}
+  where
+    go : Dec (at < length text) → wordsFrom text end ≡ drop 1 (wordsFrom text at)
+    go (yes h) = sym (ap (drop 1) (words-here text at end e h (b .here h)))
+    go (no h) =
+        let none : length (wordFrom text at) ≡ 0 = ap length (word-none text at (omega arith)) in
+        words-end text end (omega arith) ∙ sym (ap (drop 1) (words-end text at (omega arith)))

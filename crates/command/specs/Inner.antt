@@ -1,26 +1,43 @@
 -- What the private functions find. No public contract cites this file.
-use mathlib.Core.Bool.{Bool, cond, _&&_}
+use mathlib.Core.Path.{_≡_}
+use mathlib.Core.Bool.{Bool, false, cond, _&&_}
 use mathlib.Core.List.{List, map}
-use Prim.Native.Nat.{ℕ, _+_}
-use lib.Dec.{eqb}
-use lib.ListN.{length, drop}
-use Rattle.command.specs.declared.Verb.{Verb}
-use Rattle.command.specs.declared.Request.{Request}
-use Rattle.command.specs.declared.Form.{Form}
-use Rattle.command.specs.declared.Form.the-variants as Form
+use Prim.Native.Nat.{ℕ, _+_, _≤_, _<_}
+use lib.Dec.{leb, eqb}
+use lib.ListN.{length, getD, take, drop}
+use Rattle.words.specs.Bytes.{narrow}
+use Rattle.text.specs.Text.{value}
+use Rattle.command_table.specs.declared.Form.{Form}
+use Rattle.command_table.specs.declared.Form.the-variants as Form
 use Rattle.command.specs.declared.scan.Scan.{Scan}
 use Rattle.command.specs.declared.scan.Numeral.{Numeral}
 use Rattle.command.specs.declared.scan.Numeral.the-variants as Numeral
-use Rattle.text.specs.Text.{value}
-use Rattle.command.specs.Lines.{wordsOf, wordAt, isNumber, numberIn, allNumbers, narrow}
+use Rattle.command.specs.Lines.{textOf, isBlank, partsOf, wordsOf, wordAt, isNumber, numberSaid, allNumbers}
 
--- the first word of a line from an index on
+-- the bytes of a text from an index up to the next blank
 abbrev pub wordFrom : List ℕ → ℕ → List ℕ
-wordFrom line at = wordAt (wordsOf (drop at line)) 0
+wordFrom text at = wordAt (partsOf (drop at text)) 0
 
--- the words of a line after the one in which an index stands, or which ends there
-abbrev pub wordsAfter : List ℕ → ℕ → List (List ℕ)
-wordsAfter line at = drop 1 (wordsOf (drop at line))
+-- the words of a text from an index on
+abbrev pub wordsFrom : List ℕ → ℕ → List (List ℕ)
+wordsFrom text at = wordsOf (drop at text)
+
+-- where a line's text ends
+pub record TextEnd (line : List ℕ) (end : ℕ) : Type 0 where
+  pub inside : end ≤ length line
+  pub text : take end line ≡ textOf line
+
+-- the next word begins at an index, or there is none and it is the end
+pub record Begins (text : List ℕ) (from at : ℕ) : Type 0 where
+  pub after : from ≤ at
+  pub inside : at ≤ length text
+  pub same : wordsFrom text at ≡ wordsFrom text from
+  pub here : at < length text → isBlank (getD text at 0) ≡ false
+
+-- the first word from an index on, if there is one, ends at another
+pub record Passes (text : List ℕ) (from end : ℕ) : Type 0 where
+  pub inside : end ≤ length text
+  pub rest : wordsFrom text end ≡ drop 1 (wordsFrom text from)
 
 -- the number that a word says, if it says one
 abbrev pub numeral : List ℕ → Numeral
@@ -38,24 +55,25 @@ noted s allGood number = record {
 
 -- one word more
 abbrev pub withWord : Scan → List ℕ → Scan
-withWord s word = noted s (s .good && isNumber word) (numberIn word)
+withWord s word = noted s (s .good && isNumber word) (numberSaid word)
 
--- whether all words are numbers, how many they are, and the first three numbers
+-- whether all words are numbers, how many they are, and the numbers that the first three say
 abbrev pub scanned : List (List ℕ) → Scan
 scanned words = record {
   good = allNumbers words;
   count = length words;
-  first = numberIn (wordAt words 0);
-  second = numberIn (wordAt words 1);
-  third = numberIn (wordAt words 2);
+  first = numberSaid (wordAt words 0);
+  second = numberSaid (wordAt words 1);
+  third = numberSaid (wordAt words 2);
 }
 
--- the command of a scan
-abbrev pub requestOf : Form → Verb → Scan → Request
-requestOf (Form.Numbers k) v s = record { verb = v; count = s .count; first = s .first; second = s .second; third = s .third }
-requestOf Form.Cycle v s = record { verb = v; count = s .count; first = s .first; second = s .second; third = s .third }
-requestOf Form.File v s = record { verb = v; count = 1; first = 0; second = 0; third = 0 }
+-- the words that a scan tells of are what a command wants
+abbrev pub scanFits : Form → Scan → Bool
+scanFits (Form.Numbers k) s = eqb (s .count) k && s .good
+scanFits (Form.Optional k) s = leb k (s .count) && (leb (s .count) (k + 1) && s .good)
+scanFits Form.Cycle s = leb 1 (s .count) && s .good
+scanFits Form.File s = eqb (s .count) 1
 
 -- the latencies of words, as bytes
 abbrev pub narrowed : List (List ℕ) → List ℕ
-narrowed words = map (λ word. narrow (numberIn word)) words
+narrowed words = map (λ word. narrow (numberSaid word)) words

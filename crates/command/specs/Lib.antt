@@ -1,3 +1,2 @@
-pub mod Verbs
 pub mod Lines
 pub mod Inner

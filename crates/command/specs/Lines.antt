@@ -1,33 +1,51 @@
 -- What a line of the console says.
-use mathlib.Core.Bool.{Bool, true, false, cond, _&&_}
+use mathlib.Core.Bool.{Bool, true, false, cond, _&&_, _||_}
 use mathlib.Core.List.{List, [], _∷_, _++_, map}
-use Prim.Native.Nat.{ℕ}
-use lib.Dec.{leb, ltb, eqb}
+use Prim.Native.Nat.{ℕ, _+_, _-_}
+use lib.Dec.{leb, eqb}
 use lib.ListN.{length, getD, take, drop}
+use Rattle.words.specs.Bytes.{narrow}
 use Rattle.text.specs.Text.{value}
-use Rattle.command.specs.declared.Verb.{Verb}
-use Rattle.command.specs.declared.Named.{Named}
-use Rattle.command.specs.declared.Named.the-variants as Named
-use Rattle.command.specs.declared.Trouble.{Trouble}
+use Rattle.command_table.specs.declared.Form.{Form}
+use Rattle.command_table.specs.declared.Form.the-variants as Form
+use Rattle.command_table.specs.declared.Verb.{Verb}
+use Rattle.command_table.specs.declared.Named.{Named}
+use Rattle.command_table.specs.declared.Named.the-variants as Named
+use Rattle.command_table.specs.Commands.{commandOf}
 use Rattle.command.specs.declared.Trouble.the-variants as Trouble
 use Rattle.command.specs.declared.Request.{Request}
 use Rattle.command.specs.declared.Parsed.{Parsed}
 use Rattle.command.specs.declared.Parsed.the-variants as Parsed
-use Rattle.command.specs.declared.Form.{Form}
-use Rattle.command.specs.declared.Form.the-variants as Form
-use Rattle.command.specs.Verbs.{verbOf, formOf}
 
 -- Words
 
--- a byte in front of the first word
+-- a line without the carriage return at its end, if there is one
+unfoldable pub textOf : List ℕ → List ℕ
+textOf line = cond (eqb (getD line (length line - 1) 0) 13) (take (length line - 1) line) line
+
+-- a space or a tab
+abbrev pub isBlank : ℕ → Bool
+isBlank b = eqb b 32 || eqb b 9
+
+-- a byte in front of the first part
 abbrev pub onto : ℕ → List (List ℕ) → List (List ℕ)
 onto b [] = (b ∷ []) ∷ []
-onto b (w ∷ words) = (b ∷ w) ∷ words
+onto b (p ∷ parts) = (b ∷ p) ∷ parts
 
--- the words of a line, which one space separates: between two spaces side by side stands an empty word
+-- the parts of a text between its blanks: between two blanks side by side stands an empty part
+unfoldable pub partsOf : List ℕ → List (List ℕ)
+partsOf [] = [] ∷ []
+partsOf (b ∷ text) = cond (isBlank b) ([] ∷ partsOf text) (onto b (partsOf text))
+
+-- those that are not empty
+abbrev pub filled : List (List ℕ) → List (List ℕ)
+filled [] = []
+filled ([] ∷ parts) = filled parts
+filled ((b ∷ p) ∷ parts) = (b ∷ p) ∷ filled parts
+
+-- the words of a text, which blanks separate
 unfoldable pub wordsOf : List ℕ → List (List ℕ)
-wordsOf [] = [] ∷ []
-wordsOf (b ∷ line) = cond (eqb b 32) ([] ∷ wordsOf line) (onto b (wordsOf line))
+wordsOf text = filled (partsOf text)
 
 -- word i, the first being word 0; empty where there is none
 abbrev pub wordAt : List (List ℕ) → ℕ → List ℕ
@@ -47,8 +65,8 @@ unfoldable pub isNumber : List ℕ → Bool
 isNumber word = leb 1 (length word) && (digitsOnly word && leb (value word) 4294967295)
 
 -- the number that a word says, 0 where it says none
-unfoldable pub numberIn : List ℕ → ℕ
-numberIn word = cond (isNumber word) (value word) 0
+unfoldable pub numberSaid : List ℕ → ℕ
+numberSaid word = cond (isNumber word) (value word) 0
 
 unfoldable pub allNumbers : List (List ℕ) → Bool
 allNumbers [] = true
@@ -59,52 +77,43 @@ allNumbers (w ∷ words) = isNumber w && allNumbers words
 -- the words after the name are what the command wants
 abbrev pub fits : Form → List (List ℕ) → Bool
 fits (Form.Numbers k) words = eqb (length words) k && allNumbers words
+fits (Form.Optional k) words = leb k (length words) && (leb (length words) (k + 1) && allNumbers words)
 fits Form.Cycle words = leb 1 (length words) && allNumbers words
-fits Form.File words = eqb (length words) 1 && leb 1 (length (wordAt words 0))
+fits Form.File words = eqb (length words) 1
 
--- the command with the number of words after its name, and the first three numbers
-abbrev pub requested : Form → Verb → List (List ℕ) → Request
-requested (Form.Numbers k) v words = record {
+-- the command with the number of words after its name, and the numbers that the first three say
+abbrev pub requested : Verb → List (List ℕ) → Request
+requested v words = record {
   verb = v;
   count = length words;
-  first = numberIn (wordAt words 0);
-  second = numberIn (wordAt words 1);
-  third = numberIn (wordAt words 2);
+  first = numberSaid (wordAt words 0);
+  second = numberSaid (wordAt words 1);
+  third = numberSaid (wordAt words 2);
 }
-requested Form.Cycle v words = record {
-  verb = v;
-  count = length words;
-  first = numberIn (wordAt words 0);
-  second = numberIn (wordAt words 1);
-  third = numberIn (wordAt words 2);
-}
-requested Form.File v words = record { verb = v; count = 1; first = 0; second = 0; third = 0 }
 
 abbrev pub named : Named → List (List ℕ) → Parsed
 named Named.Unknown words = Parsed.Bad Trouble.NoCommand
-named (Named.Known v) words = cond (fits (formOf v) words) (Parsed.Command (requested (formOf v) v words)) (Parsed.Bad (Trouble.Usage v))
+named (Named.Known e) words = cond (fits (e .form) words) (Parsed.Command (requested (e .verb) words)) (Parsed.Bad (Trouble.Usage (e .row)))
 
+-- a word that begins with #
+abbrev pub isComment : List ℕ → Bool
+isComment [] = false
+isComment (b ∷ word) = eqb b 35
+
+-- no words, and words of which the first begins with #, say nothing
 unfoldable pub said : List (List ℕ) → Parsed
-said words = named (verbOf (wordAt words 0)) (drop 1 words)
-
--- an empty line, or one that begins with #
-abbrev pub silent : List ℕ → Bool
-silent [] = true
-silent (b ∷ line) = eqb b 35
+said [] = Parsed.Nothing
+said (w ∷ words) = cond (isComment w) Parsed.Nothing (named (commandOf w) words)
 
 -- what a line says
 unfoldable pub meaning : List ℕ → Parsed
-meaning line = cond (leb (length line) 4096) (cond (silent line) Parsed.Nothing (said (wordsOf line))) (Parsed.Bad Trouble.TooLong)
+meaning line = cond (leb (length line) 4096) (said (wordsOf (textOf line))) (Parsed.Bad Trouble.TooLong)
 
 -- The rest of some lines
 
--- a number too large for a byte becomes 0, which no call accepts
-abbrev pub narrow : ℕ → ℕ
-narrow n = cond (ltb n 256) n 0
-
--- the latencies of a cycle that is judged: the numbers after the name and the tag
+-- the latencies of a cycle that is judged: the numbers after the name and the tag, 0 for one that no byte holds
 unfoldable pub latenciesIn : List ℕ → List ℕ
-latenciesIn line = map (λ word. narrow (numberIn word)) (drop 2 (wordsOf line))
+latenciesIn line = map (λ word. narrow (numberSaid word)) (drop 2 (wordsOf (textOf line)))
 
 -- as many as there is room for stand in front, the bytes after them are as before
 abbrev pub inFront : List ℕ → List ℕ → List ℕ
@@ -112,4 +121,4 @@ inFront l bytes = take (length bytes) l ++ drop (length l) bytes
 
 -- the file of a load or a save: the word after the name
 unfoldable pub fileIn : List ℕ → List ℕ
-fileIn line = wordAt (wordsOf line) 1
+fileIn line = wordAt (wordsOf (textOf line)) 1

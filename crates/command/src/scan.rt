@@ -1,11 +1,12 @@
-// Words of a line, and the numbers that they say.
+// Words of a text, and the numbers that they say.
 ghost use mathlib.Core.Path.{_≡_};
 ghost use mathlib.Core.Bool.{cond};
 ghost use Prim.Native.Nat.{_+_, _≤_, _<_, min};
 ghost use lib.Dec.{eqb};
 ghost use lib.ListN.{length};
-ghost use Rattle.command.specs.Lines.{numberIn, narrow, inFront};
-ghost use Rattle.command.specs.Inner.{wordFrom, wordsAfter, numeral, noted, withWord, scanned, narrowed};
+ghost use Rattle.words.specs.Bytes.{narrow};
+ghost use Rattle.command.specs.Lines.{isBlank, numberSaid, inFront};
+ghost use Rattle.command.specs.Inner.{wordFrom, wordsFrom, Begins, numeral, noted, withWord, scanned, narrowed};
 
 // Whether all words are numbers, how many they are, and the first three numbers, 0 where there is none.
 pub struct Scan {
@@ -22,14 +23,36 @@ pub enum Numeral {
     Other,
 }
 
-// The index at which the word from an index on ends: that of the next space, or of the line's end.
-pub fn word_end(line: &[u8], from: usize) -> usize
-    requires { ⌜ from ≤ length (now line) ⌝ }
-    ensures { λ r. ⌜ r ≡ from + length (wordFrom (now (line .entry)) from) ⌝ }
+// A space or a tab.
+fn is_blank(byte: u8) -> bool
+    ensures { λ r. ⌜ r ≡ isBlank byte ⌝ }
+{
+    byte == 32 || byte == 9
+}
+
+// The index from an index on at which the next word begins, or the end of the text.
+pub fn word_start(text: &[u8], from: usize) -> usize
+    requires { ⌜ from ≤ length (now text) ⌝ }
+    ensures { λ r. ⌜ Begins (now (text .entry)) from r ⌝ }
 {
     let mut at = from;
-    while at < line.len() {
-        if line[at] == 32 {
+    while at < text.len() {
+        if !is_blank(text[at]) {
+            return at;
+        }
+        at += 1;
+    }
+    at
+}
+
+// The index at which the word from an index on ends: that of the next blank, or of the text's end.
+pub fn word_end(text: &[u8], from: usize) -> usize
+    requires { ⌜ from ≤ length (now text) ⌝ }
+    ensures { λ r. ⌜ r ≡ from + length (wordFrom (now (text .entry)) from) ⌝ }
+{
+    let mut at = from;
+    while at < text.len() {
+        if is_blank(text[at]) {
             return at;
         }
         at += 1;
@@ -100,10 +123,10 @@ fn with_word(words: Scan, word: &[u8]) -> Scan
     }
 }
 
-// The words after the one that ends at an index.
-pub fn scan_words(line: &[u8], from: usize) -> Scan
-    requires { ⌜ length (wordFrom (now line) from) ≡ 0 ⌝ }
-    ensures { λ r. ⌜ r ≡ scanned (wordsAfter (now (line .entry)) from) ⌝ }
+// The words from an index on.
+pub fn scan_words(text: &[u8], from: usize) -> Scan
+    requires { ⌜ from ≤ length (now text) ⌝ }
+    ensures { λ r. ⌜ r ≡ scanned (wordsFrom (now (text .entry)) from) ⌝ }
 {
     let mut words = Scan {
         good: true,
@@ -112,46 +135,41 @@ pub fn scan_words(line: &[u8], from: usize) -> Scan
         second: 0,
         third: 0,
     };
-    let mut at = from;
-    while at < line.len() {
-        let start = at + 1;
-        let end = word_end(line, start);
-        words = with_word(words, &line[start..end]);
-        at = end;
+    let mut at = word_start(text, from);
+    while at < text.len() {
+        let end = word_end(text, at);
+        words = with_word(words, &text[at..end]);
+        at = word_start(text, end);
     }
     words
 }
 
 // The number that a word says as a byte: 0 where it is too large for one, or where the word says none.
 fn latency_of(word: &[u8]) -> u8
-    ensures { λ r. ⌜ r ≡ narrow (numberIn (now (word .entry))) ⌝ }
+    ensures { λ r. ⌜ r ≡ narrow (numberSaid (now (word .entry))) ⌝ }
 {
     let Numeral::Number(number) = number_of(word) else {
         return 0;
     };
-    if number < 256 {
-        return number as u8;
-    }
-    0
+    words::byte(number)
 }
 
-// The latencies in the words after the one that ends at an index, as many as there is room for.
-pub fn latencies_after(line: &[u8], from: usize, cycle: &mut [u8]) -> usize
-    requires { ⌜ length (wordFrom (now line) from) ≡ 0 ⌝ }
-    ensures { λ r. ⌜ r ≡ min (length (narrowed (wordsAfter (now (line .entry)) from))) (length (now (cycle .entry))) ⌝ }
-    ensures { λ _. ⌜ now (cycle .exit) ≡ inFront (narrowed (wordsAfter (now (line .entry)) from)) (now (cycle .entry)) ⌝ }
+// The latencies in the words from an index on, as many as there is room for.
+pub fn latencies_after(text: &[u8], from: usize, cycle: &mut [u8]) -> usize
+    requires { ⌜ from ≤ length (now text) ⌝ }
+    ensures { λ r. ⌜ r ≡ min (length (narrowed (wordsFrom (now (text .entry)) from))) (length (now (cycle .entry))) ⌝ }
+    ensures { λ _. ⌜ now (cycle .exit) ≡ inFront (narrowed (wordsFrom (now (text .entry)) from)) (now (cycle .entry)) ⌝ }
 {
     let mut count = 0;
-    let mut at = from;
-    while at < line.len() {
+    let mut at = word_start(text, from);
+    while at < text.len() {
         if count == cycle.len() {
             return count;
         }
-        let start = at + 1;
-        let end = word_end(line, start);
-        cycle[count] = latency_of(&line[start..end]);
+        let end = word_end(text, at);
+        cycle[count] = latency_of(&text[at..end]);
         count += 1;
-        at = end;
+        at = word_start(text, end);
     }
     count
 }

@@ -2,59 +2,91 @@
 use mathlib.Core.Path.{_≡_, refl, sym, ap, _∙_}
 use mathlib.Core.Bool.{Bool, true, false, cond, not, _&&_}
 use mathlib.Core.List.{List, [], _∷_, _++_, map, append-assoc, append-nil}
-use Prim.Native.Nat.{ℕ, zero, suc, _+_, _^_, _≤_, _<_}
+use Prim.Native.Nat.{ℕ, zero, suc, _+_, _-_, _^_, _≤_, _<_}
 use native.Mathlib.Omega.{arith}
-use borrow.Author.Tests.{ne-eqb, not-true, le-leb}
+use borrow.Author.Tests.{ne-eqb, eqb-false, not-true, leb-true}
 use lib.Dec.{eqb, leb}
-use lib.ListN.{length, getD, drop}
+use lib.ListN.{length, getD, take, drop}
+use lib.Seq.{take-all, drop-at}
 use Rattle.words.specs.Below.{joinBelow}
+use Rattle.words.specs.Bytes.{narrow}
 use Rattle.words.proofs.Tests.{and-left, and-right, and-true, nowhere}
 use Rattle.text.specs.Text.{ascii, decimal, spaced, value}
 use Rattle.text.proofs.DecimalLaws.{decimal-some, decimal-value, decimal-digits}
-use Rattle.command.specs.declared.Verb.{Verb}
-use Rattle.command.specs.declared.Verb.the-variants as Verb
-use Rattle.command.specs.declared.Named.{Named}
-use Rattle.command.specs.declared.Named.the-variants as Named
+use Rattle.command_table.specs.declared.Verb.{Verb}
+use Rattle.command_table.specs.declared.Form.{Form}
+use Rattle.command_table.specs.declared.Form.the-variants as Form
+use Rattle.command_table.specs.declared.Named.the-variants as Named
+use Rattle.command_table.specs.Commands.{rows, rowAt, nameAt, entryAt, commandOf}
+use Rattle.command_table.proofs.TableLaws.{isLetter, lettersOnly, name-some, name-letters, name-command}
 use Rattle.command.specs.declared.Trouble.the-variants as Trouble
 use Rattle.command.specs.declared.Request.{Request}
 use Rattle.command.specs.declared.Parsed.{Parsed}
 use Rattle.command.specs.declared.Parsed.the-variants as Parsed
-use Rattle.command.specs.declared.Form.{Form}
-use Rattle.command.specs.declared.Form.the-variants as Form
-use Rattle.command.specs.Verbs.{nameOf, same, among, verbOf, formOf}
-use Rattle.command.specs.Lines.{onto, wordsOf, wordAt, isNumber, numberIn, allNumbers, fits, requested, named, said, silent, meaning, narrow, latenciesIn, fileIn}
-use Rattle.command.proofs.WordLaws.{words-none, words-space, words-byte}
+use Rattle.command.specs.Lines.{textOf, isBlank, partsOf, wordsOf, wordAt, isNumber, numberSaid, allNumbers, fits, requested, named, isComment, said, meaning, latenciesIn, fileIn}
+use Rattle.command.proofs.WordLaws.{first-byte, first-blank, first-none, words-none, words-blank, words-first}
 use Rattle.command.proofs.NumberLaws.{digits-each, number-is}
 use Rattle.command.proofs.ScanLaws.{all-cons, all-none, number-none}
-use Rattle.command.proofs.LineLaws.{meaning-said}
+use Rattle.command.proofs.LineLaws.{text-whole, meaning-said}
 use Rattle.command_text.specs.Written.{numberLine, fileLine, suits}
 
--- Words without a space
+-- Words without a blank
 
-abbrev spaceless : List ℕ → Bool
-spaceless [] = true
-spaceless (b ∷ word) = not (eqb b 32) && spaceless word
+abbrev blankless : List ℕ → Bool
+blankless [] = true
+blankless (b ∷ word) = not (isBlank b) && blankless word
 
-spaceless-each : (word : List ℕ) → ((i : ℕ) → i < length word → getD word i 0 ≡ 32 → ⊥) → spaceless word ≡ true
-spaceless-each [] each = refl
-spaceless-each (b ∷ word) each =
-    and-true (ap not (ne-eqb b 32 (each 0 (omega arith)))) (spaceless-each word (λ i h. each (suc i) (omega arith)))
+blankless-each : (word : List ℕ) → ((i : ℕ) → i < length word → isBlank (getD word i 0) ≡ false) → blankless word ≡ true
+blankless-each [] each = refl
+blankless-each (b ∷ word) each = and-true (ap not (each 0 (omega arith))) (blankless-each word (λ i h. each (suc i) (omega arith)))
 
-first-byte : (b : ℕ) (word : List ℕ) → spaceless (b ∷ word) ≡ true → eqb b 32 ≡ false
-first-byte b word e = not-true (eqb b 32) (and-left (not (eqb b 32)) (spaceless word) e)
+first-word : (b : ℕ) (word : List ℕ) → blankless (b ∷ word) ≡ true → isBlank b ≡ false
+first-word b word e = not-true (isBlank b) (and-left (not (isBlank b)) (blankless word) e)
 
-other-bytes : (b : ℕ) (word : List ℕ) → spaceless (b ∷ word) ≡ true → spaceless word ≡ true
-other-bytes b word e = and-right (not (eqb b 32)) (spaceless word) e
+-- a word before what begins with a blank, or is empty
+word-before : (word rest : List ℕ) → blankless word ≡ true → wordAt (partsOf rest) 0 ≡ [] → wordAt (partsOf (word ++ rest)) 0 ≡ word
+word-before [] rest e n = n
+word-before (b ∷ word) rest e n =
+    first-byte b (word ++ rest) (first-word b word e) ∙ ap (λ w. b ∷ w) (word-before word rest (and-right (not (isBlank b)) (blankless word) e) n)
 
--- a word alone, and one before a space
-words-alone : (word : List ℕ) → spaceless word ≡ true → wordsOf word ≡ word ∷ []
-words-alone [] e = words-none
-words-alone (b ∷ word) e = words-byte b word (first-byte b word e) ∙ ap (onto b) (words-alone word (other-bytes b word e))
+words-before : (word rest : List ℕ) → 1 ≤ length word → blankless word ≡ true → wordAt (partsOf rest) 0 ≡ [] → wordsOf (word ++ rest) ≡ word ∷ wordsOf rest
+words-before [] rest h e n = absurd (omega arith)
+words-before (b ∷ word) rest h e n =
+    let same : wordAt (partsOf ((b ∷ word) ++ rest)) 0 ≡ b ∷ word = word-before (b ∷ word) rest e n in
+    words-first b (word ++ rest) (first-word b word e) ∙ ap (λ w. w ∷ wordsOf (drop (length w) ((b ∷ word) ++ rest))) same
+    ∙ ap (λ l. (b ∷ word) ∷ wordsOf l) (drop-at (b ∷ word) rest (length (b ∷ word)) refl)
 
-words-then : (word rest : List ℕ) → spaceless word ≡ true → wordsOf (word ++ (32 ∷ rest)) ≡ word ∷ wordsOf rest
-words-then [] rest e = words-space rest
-words-then (b ∷ word) rest e =
-    words-byte b (word ++ (32 ∷ rest)) (first-byte b word e) ∙ ap (onto b) (words-then word rest (other-bytes b word e))
+words-alone : (word : List ℕ) → 1 ≤ length word → blankless word ≡ true → wordsOf word ≡ word ∷ []
+words-alone word h e =
+    ap wordsOf (sym (append-nil word)) ∙ words-before word [] h e first-none ∙ ap (λ w. word ∷ w) words-none
+
+words-then : (word rest : List ℕ) → 1 ≤ length word → blankless word ≡ true → wordsOf (word ++ (32 ∷ rest)) ≡ word ∷ wordsOf rest
+words-then word rest h e = words-before word (32 ∷ rest) h e (first-blank 32 rest refl) ∙ ap (λ w. word ∷ w) (words-blank 32 rest refl)
+
+-- Lines without a carriage return
+
+abbrev returnless : List ℕ → Bool
+returnless [] = true
+returnless (b ∷ line) = not (eqb b 13) && returnless line
+
+returnless-each : (line : List ℕ) → ((i : ℕ) → i < length line → getD line i 0 ≡ 13 → ⊥) → returnless line ≡ true
+returnless-each [] each = refl
+returnless-each (b ∷ line) each =
+    and-true (ap not (ne-eqb b 13 (each 0 (omega arith)))) (returnless-each line (λ i h. each (suc i) (omega arith)))
+
+returnless-join : (a b : List ℕ) → returnless a ≡ true → returnless b ≡ true → returnless (a ++ b) ≡ true
+returnless-join [] b p q = q
+returnless-join (x ∷ a) b p q =
+    and-true (and-left (not (eqb x 13)) (returnless a) p) (returnless-join a b (and-right (not (eqb x 13)) (returnless a) p) q)
+
+returnless-at : (line : List ℕ) (i : ℕ) → returnless line ≡ true → getD line i 0 ≡ 13 → ⊥
+returnless-at [] i e q = omega arith
+returnless-at (b ∷ line) zero e q =
+    let t : eqb b 13 ≡ false = not-true (eqb b 13) (and-left (not (eqb b 13)) (returnless line) e) in eqb-false b 13 t q
+returnless-at (b ∷ line) (suc i) e q = returnless-at line i (and-right (not (eqb b 13)) (returnless line) e) q
+
+whole-text : (line : List ℕ) → returnless line ≡ true → textOf line ≡ line
+whole-text line e = let w = text-whole line (returnless-at line (length line - 1) e) in sym (w .text) ∙ take-all (length line) line (omega arith)
 
 -- Numbers after a word
 
@@ -72,16 +104,25 @@ spaced-cons : (n : ℕ) (numbers : List ℕ) → spaced (n ∷ numbers) ≡ 32 �
 unfolding spaced
 spaced-cons n numbers = join-first (length numbers) (λ i. ascii " " ++ decimal (getD (n ∷ numbers) i 0))
 
-decimal-spaceless : (n : ℕ) → spaceless (decimal n) ≡ true
-decimal-spaceless n = spaceless-each (decimal n) (λ i h e. omega (arith, decimal-digits n i h .0))
+digit-plain : (b : ℕ) → 48 ≤ b → isBlank b ≡ false
+digit-plain b h = rw (ne-eqb b 32 (λ e. omega arith), ne-eqb b 9 (λ e. omega arith))
 
-words-numbers : (word numbers : List ℕ) → spaceless word ≡ true → wordsOf (word ++ spaced numbers) ≡ word ∷ map decimal numbers
-words-numbers word [] e = ap wordsOf (ap (λ x. word ++ x) spaced-none ∙ append-nil word) ∙ words-alone word e
-words-numbers word (n ∷ numbers) e =
-    ap (λ x. wordsOf (word ++ x)) (spaced-cons n numbers) ∙ words-then word (decimal n ++ spaced numbers) e
-    ∙ ap (λ x. word ∷ x) (words-numbers (decimal n) numbers (decimal-spaceless n))
+decimal-blankless : (n : ℕ) → blankless (decimal n) ≡ true
+decimal-blankless n = blankless-each (decimal n) (λ i h. digit-plain (getD (decimal n) i 0) (decimal-digits n i h .0))
 
-decimal-number : (n : ℕ) → n < 2 ^ 32 → (isNumber (decimal n) ≡ true) × (numberIn (decimal n) ≡ n)
+words-numbers : (word numbers : List ℕ) → 1 ≤ length word → blankless word ≡ true → wordsOf (word ++ spaced numbers) ≡ word ∷ map decimal numbers
+words-numbers word [] h e = ap wordsOf (ap (λ x. word ++ x) spaced-none ∙ append-nil word) ∙ words-alone word h e
+words-numbers word (n ∷ numbers) h e =
+    ap (λ x. wordsOf (word ++ x)) (spaced-cons n numbers) ∙ words-then word (decimal n ++ spaced numbers) h e
+    ∙ ap (λ x. word ∷ x) (words-numbers (decimal n) numbers (decimal-some n) (decimal-blankless n))
+
+spaced-returnless : (numbers : List ℕ) → returnless (spaced numbers) ≡ true
+spaced-returnless [] = ap returnless spaced-none
+spaced-returnless (n ∷ numbers) =
+    let digits : returnless (decimal n) ≡ true = returnless-each (decimal n) (λ i h e. omega (arith, decimal-digits n i h .0)) in
+    ap returnless (spaced-cons n numbers) ∙ returnless-join (decimal n) (spaced numbers) digits (spaced-returnless numbers)
+
+decimal-number : (n : ℕ) → n < 2 ^ 32 → (isNumber (decimal n) ≡ true) × (numberSaid (decimal n) ≡ n)
 decimal-number n h =
     let v : value (decimal n) ≡ n = decimal-value n (omega arith) in
     let p = number-is (decimal n) (decimal-some n) (digits-each (decimal n) (decimal-digits n)) (omega arith) in
@@ -99,7 +140,7 @@ all-decimal [] s = all-none
 all-decimal (n ∷ numbers) s =
     all-cons (decimal n) (map decimal numbers) ∙ and-true (decimal-number n (s 0 (omega arith)) .0) (all-decimal numbers (small-rest n numbers s))
 
-number-at : (numbers : List ℕ) (i : ℕ) → Small numbers → numberIn (wordAt (map decimal numbers) i) ≡ getD numbers i 0
+number-at : (numbers : List ℕ) (i : ℕ) → Small numbers → numberSaid (wordAt (map decimal numbers) i) ≡ getD numbers i 0
 number-at [] i s = number-none
 number-at (n ∷ numbers) zero s = decimal-number n (s 0 (omega arith)) .1
 number-at (n ∷ numbers) (suc i) s = number-at numbers i (small-rest n numbers s)
@@ -108,102 +149,70 @@ count-decimal : (numbers : List ℕ) → length (map decimal numbers) ≡ length
 count-decimal [] = refl
 count-decimal (n ∷ numbers) = ap suc (count-decimal numbers)
 
-narrow-decimal : (numbers : List ℕ) → Small numbers → map (λ word. narrow (numberIn word)) (map decimal numbers) ≡ map narrow numbers
+narrow-decimal : (numbers : List ℕ) → Small numbers → map (λ word. narrow (numberSaid word)) (map decimal numbers) ≡ map narrow numbers
 narrow-decimal [] s = refl
 narrow-decimal (n ∷ numbers) s =
-    ap (λ x. x ∷ map (λ word. narrow (numberIn word)) (map decimal numbers)) (ap narrow (decimal-number n (s 0 (omega arith)) .1))
+    ap (λ x. x ∷ map (λ word. narrow (numberSaid word)) (map decimal numbers)) (ap narrow (decimal-number n (s 0 (omega arith)) .1))
     ∙ ap (λ x. narrow n ∷ x) (narrow-decimal numbers (small-rest n numbers s))
 
 -- Names
 
-name-spaceless : (v : Verb) → spaceless (ascii (nameOf v)) ≡ true
-name-spaceless Verb.Fresh = refl
-name-spaceless Verb.Mark = refl
-name-spaceless Verb.Unmark = refl
-name-spaceless Verb.Search = refl
-name-spaceless Verb.Read = refl
-name-spaceless Verb.Vector = refl
-name-spaceless Verb.Row = refl
-name-spaceless Verb.States = refl
-name-spaceless Verb.Greedy = refl
-name-spaceless Verb.Bound = refl
-name-spaceless Verb.Upper = refl
-name-spaceless Verb.Constant = refl
-name-spaceless Verb.Judge = refl
-name-spaceless Verb.Tick = refl
-name-spaceless Verb.Start = refl
-name-spaceless Verb.Bank = refl
-name-spaceless Verb.Load = refl
-name-spaceless Verb.Save = refl
-name-spaceless Verb.List = refl
-name-spaceless Verb.Table = refl
-name-spaceless Verb.Diagram = refl
+letter-from : (b : ℕ) → isLetter b ≡ true → 97 ≤ b
+letter-from b e = leb-true 97 b (and-left (leb 97 b) (leb b 122) e)
 
--- no name is empty or begins with #
-name-loud : (v : Verb) (rest : List ℕ) → silent (ascii (nameOf v) ++ rest) ≡ false
-name-loud Verb.Fresh rest = refl
-name-loud Verb.Mark rest = refl
-name-loud Verb.Unmark rest = refl
-name-loud Verb.Search rest = refl
-name-loud Verb.Read rest = refl
-name-loud Verb.Vector rest = refl
-name-loud Verb.Row rest = refl
-name-loud Verb.States rest = refl
-name-loud Verb.Greedy rest = refl
-name-loud Verb.Bound rest = refl
-name-loud Verb.Upper rest = refl
-name-loud Verb.Constant rest = refl
-name-loud Verb.Judge rest = refl
-name-loud Verb.Tick rest = refl
-name-loud Verb.Start rest = refl
-name-loud Verb.Bank rest = refl
-name-loud Verb.Load rest = refl
-name-loud Verb.Save rest = refl
-name-loud Verb.List rest = refl
-name-loud Verb.Table rest = refl
-name-loud Verb.Diagram rest = refl
+letters-blankless : (word : List ℕ) → lettersOnly word ≡ true → blankless word ≡ true
+letters-blankless [] e = refl
+letters-blankless (b ∷ word) e =
+    let l = letter-from b (and-left (isLetter b) (lettersOnly word) e) in
+    and-true (ap not (digit-plain b (omega arith))) (letters-blankless word (and-right (isLetter b) (lettersOnly word) e))
 
--- each name is one command's
-pub name-verb : (v : Verb) → verbOf (ascii (nameOf v)) ≡ Named.Known v
-unfolding verbOf among same
-name-verb Verb.Fresh = refl
-name-verb Verb.Mark = refl
-name-verb Verb.Unmark = refl
-name-verb Verb.Search = refl
-name-verb Verb.Read = refl
-name-verb Verb.Vector = refl
-name-verb Verb.Row = refl
-name-verb Verb.States = refl
-name-verb Verb.Greedy = refl
-name-verb Verb.Bound = refl
-name-verb Verb.Upper = refl
-name-verb Verb.Constant = refl
-name-verb Verb.Judge = refl
-name-verb Verb.Tick = refl
-name-verb Verb.Start = refl
-name-verb Verb.Bank = refl
-name-verb Verb.Load = refl
-name-verb Verb.Save = refl
-name-verb Verb.List = refl
-name-verb Verb.Table = refl
-name-verb Verb.Diagram = refl
+letters-returnless : (word : List ℕ) → lettersOnly word ≡ true → returnless word ≡ true
+letters-returnless [] e = refl
+letters-returnless (b ∷ word) e =
+    let l = letter-from b (and-left (isLetter b) (lettersOnly word) e) in
+    and-true (ap not (ne-eqb b 13 (λ q. omega arith))) (letters-returnless word (and-right (isLetter b) (lettersOnly word) e))
+
+letters-no-comment : (word : List ℕ) → lettersOnly word ≡ true → isComment word ≡ false
+letters-no-comment [] e = refl
+letters-no-comment (b ∷ word) e =
+    let l = letter-from b (and-left (isLetter b) (lettersOnly word) e) in ne-eqb b 35 (λ q. omega arith)
 
 -- The laws
 
-said-name : (v : Verb) (words : List (List ℕ)) → said (ascii (nameOf v) ∷ words) ≡ named (Named.Known v) words
-unfolding said
-said-name v words = ap (λ x. named x words) (name-verb v)
+module _ (row : ℕ) (listed : row < length rows) where
+  letters : lettersOnly (nameAt row) ≡ true
+  letters = name-letters row listed
 
--- what a line of a name and words says
-line-says : (v : Verb) (rest : List ℕ) (words : List (List ℕ)) → length (ascii (nameOf v) ++ rest) ≤ 4096
-    → wordsOf (ascii (nameOf v) ++ rest) ≡ ascii (nameOf v) ∷ words → fits (formOf v) words ≡ true
-    → meaning (ascii (nameOf v) ++ rest) ≡ Parsed.Command (requested (formOf v) v words)
-line-says v rest words l w f =
-    meaning-said (ascii (nameOf v) ++ rest) l (name-loud v rest) ∙ ap said w ∙ said-name v words
-    ∙ ap (λ b. cond b (Parsed.Command (requested (formOf v) v words)) (Parsed.Bad (Trouble.Usage v))) f
+  said-name : (words : List (List ℕ)) → said (nameAt row ∷ words) ≡ named (Named.Known (entryAt row)) words
+  unfolding said
+  said-name words =
+      ap (λ t. cond t Parsed.Nothing (named (commandOf (nameAt row)) words)) (letters-no-comment (nameAt row) letters)
+      ∙ ap (λ x. named x words) (name-command row listed)
+
+  -- what a line of the name and words says
+  line-says : (rest : List ℕ) (words : List (List ℕ)) → length (nameAt row ++ rest) ≤ 4096 → returnless rest ≡ true
+      → wordsOf (nameAt row ++ rest) ≡ nameAt row ∷ words → fits (rowAt row .form) words ≡ true
+      → meaning (nameAt row ++ rest) ≡ Parsed.Command (requested (rowAt row .verb) words)
+  line-says rest words l r w f =
+      let text : textOf (nameAt row ++ rest) ≡ nameAt row ++ rest =
+      whole-text (nameAt row ++ rest) (returnless-join (nameAt row) rest (letters-returnless (nameAt row) letters) r)
+      in
+      meaning-said (nameAt row ++ rest) l ∙ ap (λ x. said (wordsOf x)) text ∙ ap said w ∙ said-name words
+      ∙ ap (λ b. cond b (Parsed.Command (requested (rowAt row .verb) words)) (Parsed.Bad (Trouble.Usage row))) f
+
+  number-words : (numbers : List ℕ) → wordsOf (numberLine row numbers) ≡ nameAt row ∷ map decimal numbers
+  number-words numbers = words-numbers (nameAt row) numbers (name-some row listed) (letters-blankless (nameAt row) letters)
+
+  number-text : (numbers : List ℕ) → textOf (numberLine row numbers) ≡ numberLine row numbers
+  number-text numbers =
+      whole-text (numberLine row numbers)
+      (returnless-join (nameAt row) (spaced numbers) (letters-returnless (nameAt row) letters) (spaced-returnless numbers))
 
 suits-fits : (form : Form) (numbers : List ℕ) → Small numbers → suits form numbers ≡ true → fits form (map decimal numbers) ≡ true
 suits-fits (Form.Numbers k) numbers s e = and-true (ap (λ n. eqb n k) (count-decimal numbers) ∙ e) (all-decimal numbers s)
+suits-fits (Form.Optional k) numbers s e =
+    and-true (ap (leb k) (count-decimal numbers) ∙ and-left (leb k (length numbers)) (leb (length numbers) (k + 1)) e)
+    (and-true (ap (λ n. leb n (k + 1)) (count-decimal numbers) ∙ and-right (leb k (length numbers)) (leb (length numbers) (k + 1)) e) (all-decimal numbers s))
 suits-fits Form.Cycle numbers s e = and-true (ap (leb 1) (count-decimal numbers) ∙ e) (all-decimal numbers s)
 suits-fits Form.File numbers s e = nowhere e
 
@@ -214,40 +223,41 @@ request v count first second third = record { verb = v; count = count; first = f
 same-request : (v : Verb) {m n a b d e x y : ℕ} → m ≡ n → a ≡ b → d ≡ e → x ≡ y → request v m a d x ≡ request v n b e y
 same-request v p q r s = λ i. request v (p i) (q i) (r i) (s i)
 
-request-numbers : (form : Form) (v : Verb) (numbers : List ℕ) → Small numbers → suits form numbers ≡ true
-    → requested form v (map decimal numbers) ≡ request v (length numbers) (getD numbers 0 0) (getD numbers 1 0) (getD numbers 2 0)
-request-numbers (Form.Numbers k) v numbers s e =
-    same-request v (count-decimal numbers) (number-at numbers 0 s) (number-at numbers 1 s) (number-at numbers 2 s)
-request-numbers Form.Cycle v numbers s e =
-    same-request v (count-decimal numbers) (number-at numbers 0 s) (number-at numbers 1 s) (number-at numbers 2 s)
-request-numbers Form.File v numbers s e = nowhere e
-
--- a command with numbers is parsed again
-pub numbers-parsed : (v : Verb) (numbers : List ℕ) → ((i : ℕ) → i < length numbers → getD numbers i 0 < 2 ^ 32) → suits (formOf v) numbers ≡ true
-    → length (numberLine v numbers) ≤ 4096
-    → meaning (numberLine v numbers)
-    ≡ Parsed.Command (record { verb = v; count = length numbers; first = getD numbers 0 0; second = getD numbers 1 0; third = getD numbers 2 0 })
-numbers-parsed v numbers s e l =
-    line-says v (spaced numbers) (map decimal numbers) l (words-numbers (ascii (nameOf v)) numbers (name-spaceless v)) (suits-fits (formOf v) numbers s e)
-    ∙ ap Parsed.Command (request-numbers (formOf v) v numbers s e)
+-- a command of the table with numbers is parsed again
+pub numbers-parsed : (row : ℕ) (numbers : List ℕ) → row < length rows → ((i : ℕ) → i < length numbers → getD numbers i 0 < 2 ^ 32)
+    → suits (rowAt row .form) numbers ≡ true → length (numberLine row numbers) ≤ 4096
+    → meaning (numberLine row numbers)
+    ≡ Parsed.Command (record { verb = rowAt row .verb; count = length numbers; first = getD numbers 0 0; second = getD numbers 1 0; third = getD numbers 2 0 })
+numbers-parsed row numbers h s e l =
+    line-says row h (spaced numbers) (map decimal numbers) l (spaced-returnless numbers) (number-words row h numbers) (suits-fits (rowAt row .form) numbers s e)
+    ∙ ap Parsed.Command
+    (same-request (rowAt row .verb) (count-decimal numbers) (number-at numbers 0 s) (number-at numbers 1 s) (number-at numbers 2 s))
 
 -- and so are the latencies of a cycle
-pub latencies-parsed : (q : ℕ) (latencies : List ℕ) → ((i : ℕ) → i < length latencies → getD latencies i 0 < 2 ^ 32)
-    → latenciesIn (numberLine Verb.Judge (q ∷ latencies)) ≡ map narrow latencies
+pub latencies-parsed : (row q : ℕ) (latencies : List ℕ) → row < length rows → ((i : ℕ) → i < length latencies → getD latencies i 0 < 2 ^ 32)
+    → latenciesIn (numberLine row (q ∷ latencies)) ≡ map narrow latencies
 unfolding latenciesIn
-latencies-parsed q latencies s =
-    ap (λ w. map (λ word. narrow (numberIn word)) (drop 2 w)) (words-numbers (ascii "judge") (q ∷ latencies) refl) ∙ narrow-decimal latencies s
+latencies-parsed row q latencies h s =
+    ap (λ x. map (λ word. narrow (numberSaid word)) (drop 2 (wordsOf x))) (number-text row h (q ∷ latencies))
+    ∙ ap (λ w. map (λ word. narrow (numberSaid word)) (drop 2 w)) (number-words row h (q ∷ latencies)) ∙ narrow-decimal latencies s
 
 -- a command with a file is parsed again, and its file is the same
-pub file-parsed : (v : Verb) (file : List ℕ) → formOf v ≡ Form.File → 1 ≤ length file → ((i : ℕ) → i < length file → getD file i 0 ≡ 32 → ⊥)
-    → length (fileLine v file) ≤ 4096
-    → (meaning (fileLine v file) ≡ Parsed.Command (record { verb = v; count = 1; first = 0; second = 0; third = 0 })) × (fileIn (fileLine v file) ≡ file)
+pub file-parsed : (row : ℕ) (file : List ℕ) → row < length rows → rowAt row .form ≡ Form.File → 1 ≤ length file
+    → ((i : ℕ) → i < length file → isBlank (getD file i 0) ≡ false) → ((i : ℕ) → i < length file → getD file i 0 ≡ 13 → ⊥)
+    → length (fileLine row file) ≤ 4096
+    → (meaning (fileLine row file) ≡ Parsed.Command (record { verb = rowAt row .verb; count = 1; first = numberSaid file; second = 0; third = 0 }))
+    × (fileIn (fileLine row file) ≡ file)
 unfolding fileIn
-file-parsed v file f some each l =
-    let words : wordsOf (fileLine v file) ≡ ascii (nameOf v) ∷ file ∷ [] =
-    words-then (ascii (nameOf v)) file (name-spaceless v) ∙ ap (λ x. ascii (nameOf v) ∷ x) (words-alone file (spaceless-each file each))
+file-parsed row file h f some each none l =
+    let words : wordsOf (fileLine row file) ≡ nameAt row ∷ file ∷ [] =
+    words-then (nameAt row) file (name-some row h) (letters-blankless (nameAt row) (letters row h))
+    ∙ ap (λ x. nameAt row ∷ x) (words-alone file some (blankless-each file each))
     in
-    let fit : fits (formOf v) (file ∷ []) ≡ true = ap (λ x. fits x (file ∷ [])) f ∙ le-leb 1 (length file) some in (
-      line-says v (32 ∷ file) (file ∷ []) l words fit ∙ ap (λ x. Parsed.Command (requested x v (file ∷ []))) f,
-      ap (λ w. wordAt w 1) words,
+    let plain : returnless (32 ∷ file) ≡ true = returnless-each file none in
+    let fit : fits (rowAt row .form) (file ∷ []) ≡ true = ap (λ x. fits x (file ∷ [])) f in
+    let text : textOf (fileLine row file) ≡ fileLine row file =
+    whole-text (fileLine row file) (returnless-join (nameAt row) (32 ∷ file) (letters-returnless (nameAt row) (letters row h)) plain)
+    in (
+      line-says row h (32 ∷ file) (file ∷ []) l plain words fit ∙ ap Parsed.Command (same-request (rowAt row .verb) refl refl number-none number-none),
+      ap (λ x. wordAt (wordsOf x) 1) text ∙ ap (λ w. wordAt w 1) words,
     )

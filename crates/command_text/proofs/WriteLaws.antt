@@ -11,13 +11,11 @@ use Rattle.text.proofs.DecimalLaws.{decimal-length}
 use Rattle.text.proofs.PutLaws.{placed-front}
 use Rattle.text.proofs.WroteLaws.{wrote-one, wrote-put, wrote-more, wrote-length}
 use Rattle.text.proofs.RowLaws.{wrote-as}
-use Rattle.command.specs.declared.Verb.{Verb}
-use Rattle.command.specs.declared.Verb.the-variants as Verb
 use Rattle.command.specs.declared.Trouble.{Trouble}
 use Rattle.command.specs.declared.Trouble.the-variants as Trouble
-use Rattle.command.specs.Verbs.{nameOf}
-use Rattle.command.proofs.NameLaws.{name-short}
-use Rattle.command_text.specs.Written.{numberLine, wanted, expected, troubleText}
+use Rattle.command_table.specs.Commands.{nameAt, usageAt}
+use Rattle.command_table.proofs.TableLaws.{usage-short}
+use Rattle.command_text.specs.Written.{numberLine, expected, troubleText}
 
 -- A command
 
@@ -29,11 +27,11 @@ put-after out at a b p q =
     (q .0 ∙ ap₂ (λ (m : List ℕ) (k : ℕ). putEnd m k b) (p .1) (p .0), q .1 ∙ ap₂ (λ (m : List ℕ) (k : ℕ). putIn m k b) (p .1) (p .0))
 
 -- where there is room for the whole, the line that says the command is put
-pub command-written : (out : List ℕ) (at : ℕ) (v : Verb) (numbers : List ℕ) → at + length (numberLine v numbers) ≤ length out
-    → (putIn (putIn out at (ascii (nameOf v))) (putEnd out at (ascii (nameOf v))) (spaced numbers) ≡ placed out at (numberLine v numbers))
-    × (putEnd (putIn out at (ascii (nameOf v))) (putEnd out at (ascii (nameOf v))) (spaced numbers) ≡ at + length (numberLine v numbers))
-command-written out at v numbers h =
-    let name : List ℕ = ascii (nameOf v) in
+pub command-written : (out : List ℕ) (at : ℕ) (row : ℕ) (numbers : List ℕ) → at + length (numberLine row numbers) ≤ length out
+    → (putIn (putIn out at (nameAt row)) (putEnd out at (nameAt row)) (spaced numbers) ≡ placed out at (numberLine row numbers))
+    × (putEnd (putIn out at (nameAt row)) (putEnd out at (nameAt row)) (spaced numbers) ≡ at + length (numberLine row numbers))
+command-written out at row numbers h =
+    let name : List ℕ = nameAt row in
     let l : length (name ++ spaced numbers) ≡ length name + length (spaced numbers) = length-append name (spaced numbers) in
     let w : Wrote out at name (putIn out at name) (putEnd out at name) = wrote-one (refl, refl) (omega arith) in
     let v = wrote-put (spaced numbers) w (refl, refl) (omega arith) in
@@ -41,47 +39,18 @@ command-written out at v numbers h =
 
 -- What was expected
 
-pub wanted-short : (v : Verb) → length (ascii (wanted v)) ≤ 9
-wanted-short Verb.Fresh = omega arith
-wanted-short Verb.Mark = omega arith
-wanted-short Verb.Unmark = omega arith
-wanted-short Verb.Search = omega arith
-wanted-short Verb.Read = omega arith
-wanted-short Verb.Vector = omega arith
-wanted-short Verb.Row = omega arith
-wanted-short Verb.States = omega arith
-wanted-short Verb.Greedy = omega arith
-wanted-short Verb.Bound = omega arith
-wanted-short Verb.Upper = omega arith
-wanted-short Verb.Constant = omega arith
-wanted-short Verb.Judge = omega arith
-wanted-short Verb.Tick = omega arith
-wanted-short Verb.Start = omega arith
-wanted-short Verb.Bank = omega arith
-wanted-short Verb.Load = omega arith
-wanted-short Verb.Save = omega arith
-wanted-short Verb.List = omega arith
-wanted-short Verb.Table = omega arith
-wanted-short Verb.Diagram = omega arith
-
-expected-short : (trouble : Trouble) → length (expected trouble) ≤ 26
+expected-short : (trouble : Trouble) → length (expected trouble) ≤ 54
 expected-short Trouble.TooLong = omega arith
 expected-short Trouble.NoCommand = omega arith
-expected-short (Trouble.Usage v) = omega (arith, length-append (ascii (nameOf v)) (ascii (wanted v)), name-short v, wanted-short v)
+expected-short (Trouble.Usage row) = omega (arith, length-append (ascii "expected ") (usageAt row), usage-short row)
 
-pub usage-wrote : {out a b after : List ℕ} {at d e end : ℕ} (v : Verb) → (d ≡ putEnd out at (ascii "expected ")) × (a ≡ putIn out at (ascii "expected "))
-    → (e ≡ putEnd a d (ascii (nameOf v))) × (b ≡ putIn a d (ascii (nameOf v)))
-    → (end ≡ putEnd b e (ascii (wanted v))) × (after ≡ putIn b e (ascii (wanted v))) → at + 26 ≤ length out
-    → Wrote out at (expected (Trouble.Usage v)) after end
-usage-wrote v p q r h =
-    let l = length-append (ascii "expected ") (ascii (nameOf v)) in
-    let w = wrote-put (ascii (nameOf v)) (wrote-one p (omega arith)) q (omega (arith, name-short v)) in
-    let x = wrote-put (ascii (wanted v)) w r (omega (arith, name-short v, wanted-short v, l)) in
-    wrote-as x (append-assoc (ascii "expected ") (ascii (nameOf v)) (ascii (wanted v)))
+pub usage-wrote : {out a after : List ℕ} {at d end : ℕ} (row : ℕ) → (d ≡ putEnd out at (ascii "expected ")) × (a ≡ putIn out at (ascii "expected "))
+    → (end ≡ putEnd a d (usageAt row)) × (after ≡ putIn a d (usageAt row)) → at + 54 ≤ length out → Wrote out at (expected (Trouble.Usage row)) after end
+usage-wrote row p q h = wrote-put (usageAt row) (wrote-one p (omega arith)) q (omega (arith, usage-short row))
 
 -- the whole line: what stands before what was expected, and all of it
 pub trouble-head : {line a b d : List ℕ} {i j k : ℕ} (n : ℕ) → n < 2 ^ 32 → (i ≡ putEnd line 0 (ascii "line ")) × (a ≡ putIn line 0 (ascii "line "))
-    → (j ≡ putEnd a i (decimal n)) × (b ≡ putIn a i (decimal n)) → (k ≡ putEnd b j (ascii ": ")) × (d ≡ putIn b j (ascii ": ")) → 44 ≤ length line
+    → (j ≡ putEnd a i (decimal n)) × (b ≡ putIn a i (decimal n)) → (k ≡ putEnd b j (ascii ": ")) × (d ≡ putIn b j (ascii ": ")) → 72 ≤ length line
     → Wrote line 0 ((ascii "line " ++ decimal n) ++ ascii ": ") d k
 trouble-head n s p q r h =
     let l = length-append (ascii "line ") (decimal n) in
@@ -92,13 +61,13 @@ head-short : (n : ℕ) → n < 2 ^ 32 → length ((ascii "line " ++ decimal n) +
 head-short n s =
     omega (arith, length-append (ascii "line " ++ decimal n) (ascii ": "), length-append (ascii "line ") (decimal n), decimal-length n 10 (omega arith) (omega arith))
 
-pub trouble-room : {line d : List ℕ} {k : ℕ} (n : ℕ) → n < 2 ^ 32 → Wrote line 0 ((ascii "line " ++ decimal n) ++ ascii ": ") d k → 44 ≤ length line
-    → k + 26 ≤ length d
+pub trouble-room : {line d : List ℕ} {k : ℕ} (n : ℕ) → n < 2 ^ 32 → Wrote line 0 ((ascii "line " ++ decimal n) ++ ascii ": ") d k → 72 ≤ length line
+    → k + 54 ≤ length d
 trouble-room n s w h = omega (arith, w .next, head-short n s, wrote-length w)
 
 pub trouble-wrote : {line d f after : List ℕ} {k m end : ℕ} (n : ℕ) (trouble : Trouble) → n < 2 ^ 32
     → Wrote line 0 ((ascii "line " ++ decimal n) ++ ascii ": ") d k → Wrote d k (expected trouble) f m
-    → (end ≡ putEnd f m (10 ∷ [])) × (after ≡ putIn f m (10 ∷ [])) → 44 ≤ length line → Wrote line 0 (troubleText n trouble) after end
+    → (end ≡ putEnd f m (10 ∷ [])) × (after ≡ putIn f m (10 ∷ [])) → 72 ≤ length line → Wrote line 0 (troubleText n trouble) after end
 unfolding troubleText
 trouble-wrote n trouble s w v p h =
     let head : List ℕ = (ascii "line " ++ decimal n) ++ ascii ": " in

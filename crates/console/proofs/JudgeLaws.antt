@@ -22,7 +22,7 @@ use Rattle.command.specs.Lines.{latenciesIn, inFront}
 use Rattle.session.specs.declared.Session.{Session}
 use Rattle.console.specs.Turns.{question}
 use Rattle.session.specs.Sessions.{Line}
-use Rattle.session.specs.Inner.{Gives}
+use Rattle.console.specs.Inner.{Gives}
 use Rattle.session.proofs.LineLaws.{line-as}
 
 -- The cut

@@ -26,18 +26,18 @@ use Rattle.planner.specs.Plans.{searchAnswer, Found, SearchPromise, readAnswer,
 use Rattle.questions.specs.Replies.{answered}
 use Rattle.session.specs.declared.Session.{Session}
 use Rattle.session.specs.declared.Reply.{Reply}
-use Rattle.session.specs.Sessions.{answerLine, Line}
-use Rattle.console.specs.Turns.{withUnit, withBank, planLine, eventAsked, Sought}
-use Rattle.session.specs.Inner.{Gives}
+use Rattle.session.specs.Sessions.{taken, answerLine, Line, Made}
 use Rattle.session.proofs.LineLaws.{line-as}
+use Rattle.session.proofs.SessionLaws.{made-as}
+use Rattle.console.specs.Turns.{withBank, planLine, eventAsked, Sought}
+use Rattle.console.specs.Inner.{Gives}
 
 -- A unit or a bank that a call left
 
-pub edited-as : (s : Session) {made asked : Outcome} {before after : List ℕ} {t : Reply} → made ≡ asked
-    → Gives (answerLine (made .answer)) (λ x. x ≡ withUnit s (made .unit)) before after t
-    → Gives (answerLine (asked .answer)) (λ x. x ≡ withUnit s (asked .unit)) before after t
-edited-as s {made} {asked} {before} {after} {t} e g =
-    subst (λ (m : Outcome). Gives (answerLine (m .answer)) (λ x. x ≡ withUnit s (m .unit)) before after t) e g
+pub edited-as : (s : Session) {made asked : Outcome} {before after : List ℕ} {t : Reply} → made ≡ asked → Made s made before after t
+    → Gives (answerLine (asked .answer)) (λ x. x ≡ taken s (asked .answer) (asked .unit)) before after t
+edited-as s {made} {asked} {before} {after} {t} e m =
+    let g = made-as e m in record { line = record { next = g .end; out = g .out }; next = g .next }
 
 pub stepped-as : (s : Session) (event : Event) {stepped : Stepped} {before after : List ℕ} {end : ℕ} → stepped ≡ stepOf (s .unit) (s .bank) event
     → Line (answerLine (stepped .answer)) before after end
@@ -47,20 +47,22 @@ stepped-as s event e l = record { line = line-as (ap (λ (x : Stepped). answerLi
 
 -- A search
 
-pub sought : {s : Session} {q : ℕ} {made : Outcome} {words before after : List ℕ} {t : Reply} (zeros : List ℕ) → length zeros ≡ 16000
-    → SearchPromise (s .unit) q zeros words (made .answer) (made .unit)
-    → Gives (answerLine (made .answer)) (λ x. x ≡ withUnit s (made .unit)) before after t
-    → Gives (answerLine (searchAnswer (s .unit) q 16000)) (Sought s q) before after t
-sought {s} {q} {made} {t = t} zeros n p g =
+-- the unit that a search left, with the bank that was there
+abbrev searched : Session → FunctionUnit → Session
+searched s u = record { present = s .present; unit = u; bank = s .bank }
+
+pub sought : (s : Session) {q : ℕ} {made : Outcome} {words before after : List ℕ} {end : ℕ} (zeros : List ℕ) → length zeros ≡ 16000
+    → SearchPromise (s .unit) q zeros words (made .answer) (made .unit) → Line (answerLine (made .answer)) before after end
+    → Gives (answerLine (searchAnswer (s .unit) q 16000)) (Sought s q) before after record { session = searched s (made .unit); end = end }
+sought s {q} {made} zeros n p l =
     let says : made .answer ≡ searchAnswer (s .unit) q 16000 = p .says ∙ ap (searchAnswer (s .unit) q) n in
-    let left : t .session .unit ≡ made .unit = ap (λ (x : Session). x .unit) (g .next) in
     record {
-      line = line-as (ap answerLine says) (g .line);
+      line = line-as (ap answerLine says) l;
       next = record {
-        present = ap (λ (x : Session). x .present) (g .next);
-        bank = ap (λ (x : Session). x .bank) (g .next);
-        kept = λ why e. left ∙ p .kept why (says ∙ e);
-        found = λ e. subst (Found (s .unit) q) (sym left) (p .found (says ∙ e));
+        present = refl;
+        bank = refl;
+        kept = λ why e. p .kept why (says ∙ e);
+        found = λ e. p .found (says ∙ e);
       };
     }
 

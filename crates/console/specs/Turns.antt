@@ -7,6 +7,7 @@ use lib.ListN.{take}
 use Rattle.text.specs.Text.{ascii, decimal, spaced, putIn, putEnd}
 use Rattle.unit.specs.declared.FunctionUnit.{FunctionUnit}
 use Rattle.unit.specs.declared.Plan.{Plan}
+use Rattle.unit.specs.declared.Outcome.{Outcome}
 use Rattle.unit.specs.declared.Refusal.{Refusal}
 use Rattle.unit.specs.declared.Answer.{Answer}
 use Rattle.unit.specs.declared.Answer.the-variants.{Done, Refused}
@@ -20,18 +21,19 @@ use Rattle.listing.specs.Lines.{newline}
 use Rattle.questions.specs.declared.Question.{Question}
 use Rattle.questions.specs.declared.Question.the-variants as Question
 use Rattle.questions.specs.Replies.{answered, replyTo}
-use Rattle.command.specs.declared.Verb.{Verb}
-use Rattle.command.specs.declared.Verb.the-variants as Verb
+use Rattle.command_table.specs.declared.Act.{Act}
+use Rattle.command_table.specs.declared.Act.the-variants as Act
+use Rattle.command_table.specs.declared.Ask.{Ask}
+use Rattle.command_table.specs.declared.Ask.the-variants as Ask
+use Rattle.command_table.specs.declared.Verb.{Verb}
+use Rattle.command_table.specs.declared.Verb.the-variants as Verb
 use Rattle.command.specs.declared.Request.{Request}
 use Rattle.command.specs.Lines.{latenciesIn}
 use Rattle.session.specs.declared.Session.{Session}
 use Rattle.session.specs.declared.Reply.{Reply}
-use Rattle.session.specs.Sessions.{one, two, three, tag, answerLine}
+use Rattle.session.specs.Sessions.{taken, one, two, three, tag, answerLine}
 
 -- Sessions
-
-abbrev pub withUnit : Session → FunctionUnit → Session
-withUnit s u = record { present = s .present; unit = u; bank = s .bank }
 
 abbrev pub withBank : Session → Bank → Session
 withBank s b = record { present = s .present; unit = s .unit; bank = b }
@@ -60,30 +62,41 @@ eventAsked s e = stepOf (s .unit) (s .bank) e .answer
 abbrev pub question : Session → Question → List ℕ → List ℕ
 question s asked line = replyTo (s .unit) asked (latenciesIn line)
 
--- What a session with a unit answers to a command. The commands that make a unit, a save, a listing and the drawings are answered elsewhere, and
+-- what is asked of a function, by its tag
+abbrev pub questionOf : Ask → Request → Question
+questionOf Ask.Vector r = Question.Vector (tag (one r))
+questionOf Ask.Row r = Question.Row (tag (one r)) (tag (two r))
+questionOf Ask.States r = Question.States (tag (one r))
+questionOf Ask.Greedy r = Question.Greedy (tag (one r))
+questionOf Ask.Bound r = Question.Bound (tag (one r))
+questionOf Ask.Upper r = Question.Upper (tag (one r))
+questionOf Ask.Constant r = Question.Constant (tag (one r))
+questionOf Ask.Judge r = Question.Judge (tag (one r))
+
+abbrev pub marking : Session → Request → Outcome
+marking s r = markOf (s .unit) (one r) (two r) (three r)
+
+abbrev pub unmarking : Session → Request → Outcome
+unmarking s r = unmarkOf (s .unit) (one r) (two r) (three r)
+
+-- what is done with the unit and the bank
+abbrev pub actReply : Act → Session → Request → List ℕ
+actReply Act.Mark s r = answerLine (marking s r .answer)
+actReply Act.Unmark s r = answerLine (unmarking s r .answer)
+actReply Act.Search s r = answerLine (searchAnswer (s .unit) (one r) 16000)
+actReply Act.Read s r = answered (readAnswer (s .unit)) (planLine (s .unit .plan))
+actReply Act.Tick s r = answerLine (eventAsked s Event.Tick)
+actReply Act.Start s r = answerLine (eventAsked s (Event.Start (tag (one r))))
+actReply Act.Bank s r = bankLine (s .bank)
+
+-- What a session with a unit answers to a command. The commands that make a unit, and those that write a file, list or draw, are answered elsewhere, and
 -- here by nothing.
 unfoldable pub unitReply : Verb → Session → Request → List ℕ → List ℕ
 unitReply Verb.Fresh s r line = []
-unitReply Verb.Mark s r line = answerLine (markOf (s .unit) (one r) (two r) (three r) .answer)
-unitReply Verb.Unmark s r line = answerLine (unmarkOf (s .unit) (one r) (two r) (three r) .answer)
-unitReply Verb.Search s r line = answerLine (searchAnswer (s .unit) (one r) 16000)
-unitReply Verb.Read s r line = answered (readAnswer (s .unit)) (planLine (s .unit .plan))
-unitReply Verb.Vector s r line = question s (Question.Vector (tag (one r))) line
-unitReply Verb.Row s r line = question s (Question.Row (tag (one r)) (tag (two r))) line
-unitReply Verb.States s r line = question s (Question.States (tag (one r))) line
-unitReply Verb.Greedy s r line = question s (Question.Greedy (tag (one r))) line
-unitReply Verb.Bound s r line = question s (Question.Bound (tag (one r))) line
-unitReply Verb.Upper s r line = question s (Question.Upper (tag (one r))) line
-unitReply Verb.Constant s r line = question s (Question.Constant (tag (one r))) line
-unitReply Verb.Judge s r line = question s (Question.Judge (tag (one r))) line
-unitReply Verb.Tick s r line = answerLine (eventAsked s Event.Tick)
-unitReply Verb.Start s r line = answerLine (eventAsked s (Event.Start (tag (one r))))
-unitReply Verb.Bank s r line = bankLine (s .bank)
 unitReply Verb.Load s r line = []
-unitReply Verb.Save s r line = []
-unitReply Verb.List s r line = []
-unitReply Verb.Table s r line = []
-unitReply Verb.Diagram s r line = []
+unitReply (Verb.Act a) s r line = actReply a s r
+unitReply (Verb.Ask a) s r line = question s (questionOf a r) line
+unitReply (Verb.Show a) s r line = []
 
 -- before the first fresh or load every other command is answered `no unit`
 unfoldable pub turnReply : Session → Request → List ℕ → List ℕ
@@ -98,29 +111,23 @@ pub record Sought (s : Session) (q : ℕ) (after : Session) : Type 0 where
   pub kept : (why : Refusal) → searchAnswer (s .unit) q 16000 ≡ Refused why → after .unit ≡ s .unit
   pub found : searchAnswer (s .unit) q 16000 ≡ Done → Found (s .unit) q (after .unit)
 
--- a mark and an unmark leave another unit, an event another bank; a refused call leaves what was there
+-- an accepted mark or unmark leaves another unit and an empty bank, an event another bank; a refused call leaves what was there
+abbrev pub ActNext : Act → Session → Request → Session → Type 0
+ActNext Act.Mark s r after = after ≡ taken s (marking s r .answer) (marking s r .unit)
+ActNext Act.Unmark s r after = after ≡ taken s (unmarking s r .answer) (unmarking s r .unit)
+ActNext Act.Search s r after = Sought s (one r) after
+ActNext Act.Read s r after = after ≡ s
+ActNext Act.Tick s r after = after ≡ withBank s (stepOf (s .unit) (s .bank) Event.Tick .bank)
+ActNext Act.Start s r after = after ≡ withBank s (stepOf (s .unit) (s .bank) (Event.Start (tag (one r))) .bank)
+ActNext Act.Bank s r after = after ≡ s
+
+-- every other command leaves the session as it is
 unfoldable pub UnitNext : Verb → Session → Request → Session → Type 0
 UnitNext Verb.Fresh s r after = after ≡ s
-UnitNext Verb.Mark s r after = after ≡ withUnit s (markOf (s .unit) (one r) (two r) (three r) .unit)
-UnitNext Verb.Unmark s r after = after ≡ withUnit s (unmarkOf (s .unit) (one r) (two r) (three r) .unit)
-UnitNext Verb.Search s r after = Sought s (one r) after
-UnitNext Verb.Read s r after = after ≡ s
-UnitNext Verb.Vector s r after = after ≡ s
-UnitNext Verb.Row s r after = after ≡ s
-UnitNext Verb.States s r after = after ≡ s
-UnitNext Verb.Greedy s r after = after ≡ s
-UnitNext Verb.Bound s r after = after ≡ s
-UnitNext Verb.Upper s r after = after ≡ s
-UnitNext Verb.Constant s r after = after ≡ s
-UnitNext Verb.Judge s r after = after ≡ s
-UnitNext Verb.Tick s r after = after ≡ withBank s (stepOf (s .unit) (s .bank) Event.Tick .bank)
-UnitNext Verb.Start s r after = after ≡ withBank s (stepOf (s .unit) (s .bank) (Event.Start (tag (one r))) .bank)
-UnitNext Verb.Bank s r after = after ≡ s
 UnitNext Verb.Load s r after = after ≡ s
-UnitNext Verb.Save s r after = after ≡ s
-UnitNext Verb.List s r after = after ≡ s
-UnitNext Verb.Table s r after = after ≡ s
-UnitNext Verb.Diagram s r after = after ≡ s
+UnitNext (Verb.Act a) s r after = ActNext a s r after
+UnitNext (Verb.Ask a) s r after = after ≡ s
+UnitNext (Verb.Show a) s r after = after ≡ s
 
 -- without a unit nothing changes
 abbrev pub Next : Bool → Verb → Session → Request → Session → Type 0

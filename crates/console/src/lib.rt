@@ -3,60 +3,43 @@
 mod lines;
 
 ghost use mathlib.Core.Path.{_≡_};
-ghost use Rattle.unit.specs.Calls.{markOf, unmarkOf};
 ghost use Rattle.controller.specs.Bank.{stepOf};
 ghost use Rattle.planner.specs.Plans.{searchAnswer, readAnswer};
 ghost use Rattle.questions.specs.Replies.{answered};
-ghost use Rattle.session.specs.Sessions.{one, two, three, answerLine};
-ghost use Rattle.session.specs.Inner.{Gives};
-ghost use Rattle.console.specs.Turns.{withUnit, withBank, planLine, bankLine, eventAsked, question, Sought, Turned};
-ghost use Rattle.console.specs.Inner.{questionOf};
+ghost use Rattle.session.specs.Sessions.{answerLine};
+ghost use Rattle.console.specs.Turns.{withBank, planLine, bankLine, eventAsked, question, questionOf, actReply, ActNext, Sought, Turned};
+ghost use Rattle.console.specs.Inner.{Gives};
 use command::Request;
-use command::Verb;
+use command_table::Act;
+use command_table::Ask;
+use command_table::Verb;
 use controller::Event;
 use questions::Question;
 use session::Reply;
 use session::Session;
-use session::byte;
 use unit::Answer;
-use unit::Outcome;
 use unit::Segment;
 use unit::Tag;
-
-// Goes on with an edited unit.
-fn keep_unit(session: Session, made: Outcome, out: &mut [u8]) -> Reply
-    ensures { λ r. ⌜ Gives (answerLine (made .answer)) (λ after. after ≡ withUnit session (made .unit)) (now (out .entry)) (now (out .exit)) r ⌝ }
-{
-    let answer = made.answer;
-    let end = session::put_answer(out, answer);
-    let unit = made.unit;
-    let bank = session.bank;
-    let next = Session {
-        present: session.present,
-        unit,
-        bank,
-    };
-    Reply { session: next, end }
-}
+use words::byte;
 
 fn mark(session: Session, request: Request, out: &mut [u8]) -> Reply
-    ensures { λ r. ⌜ Gives (answerLine (markOf (session .unit) (one request) (two request) (three request) .answer)) (λ after. after ≡ withUnit session (markOf (session .unit) (one request) (two request) (three request) .unit)) (now (out .entry)) (now (out .exit)) r ⌝ }
+    ensures { λ r. ⌜ Gives (actReply Act.Mark session request) (ActNext Act.Mark session request) (now (out .entry)) (now (out .exit)) r ⌝ }
 {
     let unit = session.unit;
     let tag = Tag(byte(request.first));
     let segment = Segment(byte(request.second));
     let made = edits::mark(unit, tag, segment, byte(request.third));
-    keep_unit(session, made, out)
+    session::take_unit(session, made, out)
 }
 
 fn unmark(session: Session, request: Request, out: &mut [u8]) -> Reply
-    ensures { λ r. ⌜ Gives (answerLine (unmarkOf (session .unit) (one request) (two request) (three request) .answer)) (λ after. after ≡ withUnit session (unmarkOf (session .unit) (one request) (two request) (three request) .unit)) (now (out .entry)) (now (out .exit)) r ⌝ }
+    ensures { λ r. ⌜ Gives (actReply Act.Unmark session request) (ActNext Act.Unmark session request) (now (out .entry)) (now (out .exit)) r ⌝ }
 {
     let unit = session.unit;
     let tag = Tag(byte(request.first));
     let segment = Segment(byte(request.second));
     let made = edits::unmark(unit, tag, segment, byte(request.third));
-    keep_unit(session, made, out)
+    session::take_unit(session, made, out)
 }
 
 // Searches for a best cycle, with working words of its own.
@@ -66,7 +49,16 @@ fn seek(session: Session, tag: Tag, out: &mut [u8]) -> Reply
     let unit = session.unit;
     let mut work = [0u32; 16000];
     let made = planner::search(unit, tag, &mut work);
-    keep_unit(session, made, out)
+    let answer = made.answer;
+    let end = session::put_answer(out, answer);
+    let found = made.unit;
+    let bank = session.bank;
+    let next = Session {
+        present: session.present,
+        unit: found,
+        bank,
+    };
+    Reply { session: next, end }
 }
 
 // Tells the plan.
@@ -114,34 +106,48 @@ fn step(session: Session, event: Event, out: &mut [u8]) -> Reply
     Reply { session: next, end }
 }
 
-// The question of a verb that asks one; any other is taken for a judge.
-fn question_of(request: Request) -> Question
-    ensures { λ r. ⌜ r ≡ questionOf (request .verb) request ⌝ }
+fn question_of(ask: Ask, request: Request) -> Question
+    ensures { λ r. ⌜ r ≡ questionOf ask request ⌝ }
 {
     let tag = Tag(byte(request.first));
-    let verb = request.verb;
-    match verb {
-        Verb::Vector => Question::Vector(tag),
-        Verb::Row => Question::Row(tag, Tag(byte(request.second))),
-        Verb::States => Question::States(tag),
-        Verb::Greedy => Question::Greedy(tag),
-        Verb::Bound => Question::Bound(tag),
-        Verb::Upper => Question::Upper(tag),
-        Verb::Constant => Question::Constant(tag),
-        _ => Question::Judge(tag),
+    match ask {
+        Ask::Vector => Question::Vector(tag),
+        Ask::Row => Question::Row(tag, Tag(byte(request.second))),
+        Ask::States => Question::States(tag),
+        Ask::Greedy => Question::Greedy(tag),
+        Ask::Bound => Question::Bound(tag),
+        Ask::Upper => Question::Upper(tag),
+        Ask::Constant => Question::Constant(tag),
+        Ask::Judge => Question::Judge(tag),
     }
 }
 
 // Answers a question; a judge is asked about the latencies of the line.
-fn tell(session: Session, request: Request, line: &[u8], out: &mut [u8]) -> Reply
-    ensures { λ r. ⌜ Gives (question session (questionOf (request .verb) request) (now (line .entry))) (λ after. after ≡ session) (now (out .entry)) (now (out .exit)) r ⌝ }
+fn tell(session: Session, ask: Ask, request: Request, line: &[u8], out: &mut [u8]) -> Reply
+    ensures { λ r. ⌜ Gives (question session (questionOf ask request) (now (line .entry))) (λ after. after ≡ session) (now (out .entry)) (now (out .exit)) r ⌝ }
 {
-    let asked = question_of(request);
+    let asked = question_of(ask, request);
     let mut cycle = [0u8; 257];
     let count = command::latencies(line, &mut cycle);
     let unit = session.unit;
     let end = questions::ask(out, 0, unit, asked, &cycle[..count]);
     Reply { session, end }
+}
+
+// Works on the unit and the bank.
+fn act(session: Session, what: Act, request: Request, out: &mut [u8]) -> Reply
+    ensures { λ r. ⌜ Gives (actReply what session request) (ActNext what session request) (now (out .entry)) (now (out .exit)) r ⌝ }
+{
+    let tag = Tag(byte(request.first));
+    match what {
+        Act::Mark => mark(session, request, out),
+        Act::Unmark => unmark(session, request, out),
+        Act::Search => seek(session, tag, out),
+        Act::Read => tell_plan(session, out),
+        Act::Tick => step(session, Event::Tick, out),
+        Act::Start => step(session, Event::Start(tag), out),
+        Act::Bank => tell_bank(session, out),
+    }
 }
 
 // One command on the unit; `line` is the line that said it, for the latencies that a judge is asked about.
@@ -152,27 +158,12 @@ pub fn turn(session: Session, request: Request, line: &[u8], out: &mut [u8]) -> 
         let end = text::put(out, 0, b"no unit\n");
         return Reply { session, end };
     }
-    let tag = Tag(byte(request.first));
     let verb = request.verb;
     match verb {
-        Verb::Mark => mark(session, request, out),
-        Verb::Unmark => unmark(session, request, out),
-        Verb::Search => seek(session, tag, out),
-        Verb::Read => tell_plan(session, out),
-        Verb::Tick => step(session, Event::Tick, out),
-        Verb::Start => step(session, Event::Start(tag), out),
-        Verb::Bank => tell_bank(session, out),
-        Verb::Vector
-        | Verb::Row
-        | Verb::States
-        | Verb::Greedy
-        | Verb::Bound
-        | Verb::Upper
-        | Verb::Constant
-        | Verb::Judge => tell(session, request, line, out),
-        Verb::Fresh | Verb::Load | Verb::Save | Verb::List | Verb::Table | Verb::Diagram => Reply {
-            session,
-            end: 0,
-        },
+        Verb::Act(what) => act(session, what, request, out),
+        Verb::Ask(what) => tell(session, what, request, line, out),
+        Verb::Fresh => Reply { session, end: 0 },
+        Verb::Load => Reply { session, end: 0 },
+        Verb::Show(_) => Reply { session, end: 0 },
     }
 }

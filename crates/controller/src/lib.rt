@@ -62,8 +62,8 @@ fn row_for(u: FunctionUnit, q: Tag, r: Tag) -> u32
     if u.functions < r.0 {
         return 0;
     }
-    let later = unit::columns_of(u, r);
-    let earlier = unit::columns_of(u, q);
+    let later = columns::columns_of(u, r);
+    let earlier = columns::columns_of(u, q);
     collision::row_of(later, earlier)
 }
 

@@ -29,7 +29,7 @@ use Rattle.cycles.specs.Inner.{notedIn, Walkable, Walked, Copyable}
 
 -- The working words
 
-work-same : (a : Answer) (w : List ℕ) → WorkAfter a w w
+pub work-same : (a : Answer) (w : List ℕ) → WorkAfter a w w
 work-same a w = record { size = refl; beyond = λ i l. refl; kept = λ why e ne. refl }
 
 work-many : (before after : List ℕ) (cv r : ℕ) → Enlisted 1 cv before after r → WorkAfter (Refused TooManyStates) before after

@@ -1,4 +1,5 @@
 // Unit files by name.
+ghost use Rattle.libc.specs.Io.{Ended};
 use unit::FunctionUnit;
 use unit_file::Written;
 
@@ -30,16 +31,9 @@ pub fn load(name: &[u8], file: &mut [u8]) -> Found {
     found
 }
 
-// Writes the front of an area to a file, and answers whether it stands there.
-fn store(name: &[u8], area: &[u8], length: usize) -> bool {
-    if area.len() < length {
-        return false;
-    }
-    let to = os::open_overwrite(name);
-    if to < 0 {
-        return false;
-    }
-    let is_written = io::write_all(to, &area[..length]);
+// Writes bytes to a file that was opened, closes it, and answers whether all of them stand there.
+fn fill(to: i32, bytes: &[u8]) -> bool {
+    let is_written = io::write_all(to, bytes);
     let closed = libc::close(to);
     if closed < 0 {
         return false;
@@ -47,17 +41,96 @@ fn store(name: &[u8], area: &[u8], length: usize) -> bool {
     is_written
 }
 
-// Writes a unit's file.
-pub fn save(u: FunctionUnit, name: &[u8]) {
+// Writes bytes to the file of a name, in place.
+fn overwrite(name: &[u8], bytes: &[u8]) -> bool {
+    let to = os::open_overwrite(name);
+    if to < 0 {
+        return false;
+    }
+    fill(to, bytes)
+}
+
+// Writes bytes beside a file, under the name `part`, and gives them the file's name once they stand there whole. What was there before stays until
+// then.
+fn replace(name: &[u8], part: &[u8], bytes: &[u8]) -> bool {
+    if overwrite(part, bytes) {
+        if 0 <= os::rename(part, name) {
+            return true;
+        }
+    }
+    os::unlink(part);
+    false
+}
+
+// A name as C reads it.
+fn ended(name: &[u8]) -> [u8; 4096]
+    ensures { λ r. ⌜ Ended r ⌝ }
+{
+    let mut path = io::buffer();
+    text::put(&mut path, 0, name);
+    path[4095] = 0;
+    path
+}
+
+// Whether a name is a link.
+fn is_link(name: &[u8]) -> bool {
+    let path = ended(name);
+    let mut target = [0u8; 1];
+    let got = libc::readlink(&path, &mut target);
+    0 <= got
+}
+
+// Whether a file that was opened is a plain one: its length can be set, here to what it is.
+fn is_plain(file: i32) -> bool {
+    let length = libc::lseek(file, 0, libc::SEEK_END);
+    if length < 0 {
+        return false;
+    }
+    0 <= libc::ftruncate(file, length)
+}
+
+// Whether the file of a name is plain, or missing. A link, a device and a pipe are not.
+fn is_replaceable(name: &[u8]) -> bool {
+    if is_link(name) {
+        return false;
+    }
+    let file = os::open_update(name);
+    if file < 0 {
+        return os::errno() == libc::ENOENT;
+    }
+    let is_one = is_plain(file);
+    libc::close(file);
+    is_one
+}
+
+// Writes the front of an area to a file, and answers whether it stands there. Links and devices are written in place.
+fn store(name: &[u8], area: &[u8], length: usize) -> bool {
+    if area.len() < length {
+        return false;
+    }
+    if !is_replaceable(name) {
+        return overwrite(name, &area[..length]);
+    }
+    let mut part = [0u8; 4200];
+    let name_end = text::put(&mut part, 0, name);
+    let end = text::put(&mut part, name_end, b".part");
+    if part.len() < end {
+        return false;
+    }
+    replace(name, &part[..end], &area[..length])
+}
+
+// Writes a unit's file, and answers whether the answer was said.
+pub fn save(u: FunctionUnit, name: &[u8]) -> bool {
     let mut area = [0u8; 512];
-    let written = unit_file::write(u, &mut area);
+    let written = unit_writer::write(u, &mut area);
     match written {
         Written::Refused(why) => crate::say_refusal(why),
         Written::Length(length) => {
             if store(name, &area, length as usize) {
-                io::write_all(1, b"ok\n");
+                io::write_all(1, b"ok\n")
             } else {
-                io::write_all(1, b"not written\n");
+                io::write_all(1, b"not written\n")
             }
         }
     }

@@ -1,6 +1,6 @@
 // The designer's console: reads commands from standard input, one a line, and answers each on standard output. What a line says, what a
 // command does and every byte of an answer are given by the contracts of the crates below; here lines are cut out of the input, and files are
-// opened.
+// opened. The program stops at the first answer that can't be written.
 mod files;
 
 ghost use mathlib.Core.Path.{_≡_};
@@ -8,37 +8,40 @@ ghost use lib.ListN.{length};
 use command::Parsed;
 use command::Request;
 use command::Trouble;
-use command::Verb;
+use command_table::Show;
+use command_table::Verb;
 use drawing::Drawn;
 use files::Found;
 use listing::Listed;
 use session::Reply;
 use session::Session;
+use unit::Answer;
 use unit::FunctionUnit;
 use unit::Refusal;
 use unit::Tag;
 
-// Answers.
+// Answers. Each function that says one tells whether it could be written.
 
-fn say_front(area: &[u8], length: usize) {
+fn say_front(area: &[u8], length: usize) -> bool {
     if length <= area.len() {
-        io::write_all(1, &area[..length]);
+        return io::write_all(1, &area[..length]);
     }
+    false
 }
 
-fn say_refusal(why: Refusal) {
-    io::write_all(1, b"refused ");
-    io::print_decimal(1, unit::number(why) as u64);
-    io::write_all(1, b"\n");
-}
-
-fn say_trouble(number: u32, trouble: Trouble) {
+fn say_refusal(why: Refusal) -> bool {
     let mut area = [0u8; 64];
-    let end = command_text::put_trouble(&mut area, 0, number, trouble);
-    say_front(&area, end);
+    let end = session::put_answer(&mut area, Answer::Refused(why));
+    say_front(&area, end)
 }
 
-fn say_drawn(drawn: Drawn, area: &[u8]) {
+fn say_trouble(number: u32, trouble: Trouble) -> bool {
+    let mut area = [0u8; 80];
+    let end = command_text::put_trouble(&mut area, 0, number, trouble);
+    say_front(&area, end)
+}
+
+fn say_drawn(drawn: Drawn, area: &[u8]) -> bool {
     match drawn {
         Drawn::Length(length) => say_front(area, length as usize),
         Drawn::Refused(why) => say_refusal(why),
@@ -47,16 +50,15 @@ fn say_drawn(drawn: Drawn, area: &[u8]) {
 
 // Commands.
 
-// A number too large for a byte becomes 0, which is no tag.
-fn tag_of(number: u32) -> Tag {
-    if number < 256 {
-        return Tag(number as u8);
-    }
-    Tag(0)
+// Zeros for a listing, and for the text of a diagram. The `ensures` gives their number, which lending them as a slice needs.
+fn list_area() -> [u8; listing::AREA]
+    ensures { λ r. ⌜ 8888 ≡ length r ⌝ }
+{
+    [0; listing::AREA]
 }
 
-fn list(u: FunctionUnit) {
-    let mut area = [0u8; listing::AREA];
+fn list(u: FunctionUnit) -> bool {
+    let mut area = list_area();
     let listed = listing::list_unit(u, &mut area);
     match listed {
         Listed::Length(length) => say_front(&area, length as usize),
@@ -64,100 +66,113 @@ fn list(u: FunctionUnit) {
     }
 }
 
-fn draw_table(u: FunctionUnit, tag: Tag) {
+fn draw_table(u: FunctionUnit, tag: Tag) -> bool {
     let mut area = [0u8; drawing::TABLE];
     let drawn = drawing::table(u, tag, &mut area);
-    say_drawn(drawn, &area);
+    say_drawn(drawn, &area)
 }
 
-// Zeros for the text of a diagram. The `ensures` gives their number, which lending them as a slice needs.
 fn dot_area() -> [u8; graph::DOT]
     ensures { λ r. ⌜ 1048576 ≡ length r ⌝ }
 {
     [0; graph::DOT]
 }
 
-fn draw_diagram(u: FunctionUnit, tag: Tag) {
+fn draw_diagram(u: FunctionUnit, tag: Tag) -> bool {
     let mut area = dot_area();
     let drawn = graph::dot(u, tag, &mut area);
-    say_drawn(drawn, &area);
+    say_drawn(drawn, &area)
 }
 
 // What leaves the session as it is: to save, to list and to draw.
-fn show(u: FunctionUnit, request: Request, line: &[u8]) {
-    let verb = request.verb;
-    match verb {
-        Verb::Save => files::save(u, command::file_name(line)),
-        Verb::List => list(u),
-        Verb::Table => draw_table(u, tag_of(request.first)),
-        _ => draw_diagram(u, tag_of(request.first)),
+fn show_unit(u: FunctionUnit, what: Show, request: Request, line: &[u8]) -> bool {
+    let tag = Tag(words::byte(request.first));
+    match what {
+        Show::Save => files::save(u, command::file_name(line)),
+        Show::List => list(u),
+        Show::Table => draw_table(u, tag),
+        Show::Diagram => draw_diagram(u, tag),
     }
 }
 
-// Says the answer, and hands on the session.
-fn conclude(reply: Reply, area: &[u8]) -> Session {
-    say_front(area, reply.end);
-    let session = reply.session;
-    session
+// The session after a line, and whether its answer was written.
+struct Answered {
+    session: Session,
+    said: bool,
 }
 
-fn fresh(session: Session, request: Request) -> Session {
-    let mut area = [0u8; 4096];
+// Says the answer, and hands on the session.
+fn conclude(reply: Reply, area: &[u8]) -> Answered {
+    let said = say_front(area, reply.end);
+    let session = reply.session;
+    Answered { session, said }
+}
+
+fn fresh(session: Session, request: Request) -> Answered {
+    let mut area = io::buffer();
     let reply = session::fresh(session, request, &mut area);
     conclude(reply, &area)
 }
 
-fn turn(session: Session, request: Request, line: &[u8]) -> Session {
-    let mut area = [0u8; 4096];
+fn turn(session: Session, request: Request, line: &[u8]) -> Answered {
+    let mut area = io::buffer();
     let reply = console::turn(session, request, line, &mut area);
     conclude(reply, &area)
 }
 
-fn load_front(session: Session, file: &[u8], count: usize) -> Session {
-    if file.len() < count {
-        return session;
+fn show(session: Session, what: Show, request: Request, line: &[u8]) -> Answered {
+    if session.present {
+        let said = show_unit(session.unit, what, request, line);
+        return Answered { session, said };
     }
-    let mut area = [0u8; 4096];
+    turn(session, request, line)
+}
+
+fn load_front(session: Session, file: &[u8], count: usize) -> Answered {
+    if file.len() < count {
+        return Answered {
+            session,
+            said: false,
+        };
+    }
+    let mut area = io::buffer();
     let reply = session::load(session, &file[..count], &mut area);
     conclude(reply, &area)
 }
 
 // No unit file has more than 268 bytes, and the answer to a longer one depends on its first 269 alone (`read-cut`, crate unit_file).
-fn load(session: Session, name: &[u8]) -> Session {
+fn load(session: Session, name: &[u8]) -> Answered {
     let mut file = [0u8; 512];
     let found = files::load(name, &mut file);
     match found {
         Found::Nothing => {
-            io::write_all(1, b"no file\n");
-            session
+            let said = io::write_all(1, b"no file\n");
+            Answered { session, said }
         }
         Found::Bytes(count) => load_front(session, &file, count),
     }
 }
 
-fn obey(session: Session, request: Request, line: &[u8]) -> Session {
+fn obey(session: Session, request: Request, line: &[u8]) -> Answered {
     let verb = request.verb;
     match verb {
         Verb::Fresh => fresh(session, request),
         Verb::Load => load(session, command::file_name(line)),
-        Verb::Save | Verb::List | Verb::Table | Verb::Diagram => {
-            if session.present {
-                show(session.unit, request, line);
-                return session;
-            }
-            turn(session, request, line)
-        }
+        Verb::Show(what) => show(session, what, request, line),
         _ => turn(session, request, line),
     }
 }
 
-fn answer(session: Session, number: u32, line: &[u8]) -> Session {
+fn answer(session: Session, number: u32, line: &[u8]) -> Answered {
     let said = command::parse(line);
     match said {
-        Parsed::Nothing => session,
+        Parsed::Nothing => Answered {
+            session,
+            said: true,
+        },
         Parsed::Bad(trouble) => {
-            say_trouble(number, trouble);
-            session
+            let said = say_trouble(number, trouble);
+            Answered { session, said }
         }
         Parsed::Command(request) => obey(session, request, line),
     }
@@ -165,11 +180,12 @@ fn answer(session: Session, number: u32, line: &[u8]) -> Session {
 
 // Lines. A line is held in 4,097 bytes: where it is longer, what is held is longer than a command can be, and the rest is passed over.
 
-// The session, the number of the present line, and how many of its bytes are held.
+// The session, the number of the present line, how many of its bytes are held, and whether all answers so far were written.
 struct Reading {
     session: Session,
     number: u32,
     held: usize,
+    open: bool,
 }
 
 fn end_line(reading: Reading, line: &[u8]) -> Reading {
@@ -180,10 +196,12 @@ fn end_line(reading: Reading, line: &[u8]) -> Reading {
         return reading;
     }
     let next = answer(session, number, &line[..held]);
+    let after = next.session;
     Reading {
-        session: next,
+        session: after,
         number: following(number),
         held: 0,
+        open: next.said,
     }
 }
 
@@ -207,22 +225,27 @@ fn take_byte(reading: Reading, byte: u8, line: &mut [u8]) -> Reading {
             session,
             number: reading.number,
             held: held + 1,
+            open: reading.open,
         };
     }
     reading
 }
 
+// The lines of some bytes, up to the first whose answer can't be written.
 fn take_bytes(reading: Reading, bytes: &[u8], line: &mut [u8]) -> Reading {
     let mut now = reading;
     let mut i = 0;
     while i < bytes.len() {
+        if !now.open {
+            return now;
+        }
         now = take_byte(now, bytes[i], line);
         i += 1;
     }
     now
 }
 
-// Reads some of the input, and answers every line that ends in it.
+// Reads some of the input, and answers every line that ends in it. More follows unless the input has ended, or an answer could not be written.
 struct Taken {
     reading: Reading,
     more: bool,
@@ -235,7 +258,7 @@ fn take_some(reading: Reading, line: &mut [u8]) -> Taken {
     let next = take_bytes(reading, &chunk[..count], line);
     Taken {
         reading: next,
-        more: 0 < count,
+        more: 0 < count && next.open,
     }
 }
 
@@ -263,9 +286,10 @@ fn main() {
         session,
         number: 1,
         held: 0,
+        open: true,
     };
     let last = take_all(first, &mut line);
-    if 0 < last.held {
+    if last.open && 0 < last.held {
         end_line(last, &line);
     }
 }

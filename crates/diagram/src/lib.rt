@@ -9,12 +9,7 @@ ghost use Rattle.words.specs.Bits.{isSet};
 ghost use Rattle.diagram.specs.Diagram.{width, longest};
 ghost use Rattle.diagram.specs.States.{add, expand, states};
 ghost use Rattle.diagram.specs.Work.{stateIn, bucket, placeIn, Indexed, Enlisted};
-ghost use Rattle.diagram.specs.Answers.{statesAnswer, statesOut};
 ghost use Rattle.diagram.specs.Inner.{Cleared, Held, Grown, Ready, visited};
-use collision::Number;
-use unit::FunctionUnit;
-use unit::Refusal;
-use unit::Tag;
 
 // n of a collision vector: its largest column with a 1, or 0.
 pub fn width_of(vector: u32) -> u32
@@ -156,39 +151,4 @@ pub fn enlist(vector: u32, work: &mut [u32]) -> usize
         return 0;
     }
     count
-}
-
-// Copies the first words of one slice to the front of another.
-fn copy_front(from: &[u32], count: usize, out: &mut [u32])
-    requires { ⌜ (count ≤ length (now from)) × (count ≤ length (now out)) ⌝ }
-    ensures { λ _. ⌜ now (out .exit) ≡ take count (now (from .entry)) ++ drop count (now (out .entry)) ⌝ }
-{
-    let mut i = 0;
-    while i < count {
-        out[i] = from[i];
-        i += 1;
-    }
-}
-
-// Lists the states of a function's diagram in lent words, and answers their number. The states are found in words of its own,
-// so that a call that is refused, also for too many states, changes none of the lent ones: it then copies none.
-pub fn states(u: FunctionUnit, tag: Tag, out: &mut [u32]) -> Number
-    ensures { λ r. ⌜ (r ≡ statesAnswer u (tag .0) (length (now (out .entry)))) × (now (out .exit) ≡ statesOut u (tag .0) (now (out .entry))) ⌝ }
-{
-    let vector = collision::vector(u, tag);
-    match vector {
-        Number::Refused(why) => Number::Refused(why),
-        Number::Value(word) => {
-            if out.len() < 256 {
-                return Number::Refused(Refusal::ShortOutput);
-            }
-            let mut work = [0u32; 768];
-            let count = enlist(word, &mut work);
-            copy_front(&work, count, out);
-            if count == 0 {
-                return Number::Refused(Refusal::TooManyStates);
-            }
-            Number::Value(count as u32)
-        }
-    }
 }

@@ -31,7 +31,7 @@ pub fn table(u: FunctionUnit, tag: Tag, out: &mut [u8]) -> Drawn
             if out.len() < tables::length_of(u.segments, u.columns) {
                 return Drawn::Refused(Refusal::ShortOutput);
             }
-            let marks = unit::columns_of(u, tag);
+            let marks = columns::columns_of(u, tag);
             let end = tables::put_lines(out, marks, u.segments as u32, u.columns as u32);
             Drawn::Length(end as u32)
         }

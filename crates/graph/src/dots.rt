@@ -82,7 +82,7 @@ fn put_state(out: &mut [u8], at: usize, columns: u32, state: u32) -> usize
     ensures { λ r. ⌜ Put 34 (now (out .entry)) at (stateText columns state) (now (out .exit)) r ⌝ }
 {
     let after_quote = text::put(out, at, b"\"");
-    let after_state = text::put_columns(out, after_quote, columns, state);
+    let after_state = column_text::put_columns(out, after_quote, columns, state);
     text::put(out, after_state, b"\"")
 }
 

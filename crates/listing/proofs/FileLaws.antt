@@ -7,13 +7,13 @@ use lib.ListN.{length, length-append}
 use Rattle.text.specs.Text.{ascii, decimal}
 use Rattle.text.proofs.DecimalLaws.{decimal-length}
 use Rattle.unit.specs.declared.Refusal.{Refusal}
-use Rattle.unit.specs.declared.Refusal.the-variants.{NotSound, NoSuchTag, NoSuchSegment, NoSuchColumn, ShortWork, ShortOutput, TooManyStates, NoPlan, BadCycle, NotGranted, BadLength, BadHeader, MarkBeyondColumns}
 use Rattle.unit.specs.declared.Outcome.{Outcome}
 use Rattle.unit.specs.declared.Answer.the-variants.{Done, Refused}
 use Rattle.unit.specs.Numbers.{numberOf}
 use Rattle.unit.specs.Table.{Table}
 use Rattle.unit.specs.Calls.{unitOf}
 use Rattle.unit.proofs.Laws.{never-done}
+use Rattle.unit.proofs.NumberLaws.{numbered}
 use Rattle.unit_file.specs.Read.{functionsIn, segmentsIn, columnsIn, fileTable, readAnswer, readOf}
 use Rattle.unit_file.proofs.AcceptedLaws.{Accepted, accepted, read-answer}
 use Rattle.listing.specs.declared.Listed.{Listed}
@@ -22,24 +22,9 @@ use Rattle.listing.specs.Listing.{roomAnswer, Printed, Bests, unitRefusa
 
 -- A refused file
 
-number-small : (why : Refusal) → numberOf why < 100
-number-small NotSound = omega arith
-number-small NoSuchTag = omega arith
-number-small NoSuchSegment = omega arith
-number-small NoSuchColumn = omega arith
-number-small ShortWork = omega arith
-number-small ShortOutput = omega arith
-number-small TooManyStates = omega arith
-number-small NoPlan = omega arith
-number-small BadCycle = omega arith
-number-small NotGranted = omega arith
-number-small BadLength = omega arith
-number-small BadHeader = omega arith
-number-small MarkBeyondColumns = omega arith
-
 refused-short : (why : Refusal) → length (refusedLine why) ≤ 8888
 refused-short why =
-    let d : length (decimal (numberOf why)) ≤ 2 = decimal-length (numberOf why) 2 (omega arith) (number-small why) in
+    let d : length (decimal (numberOf why)) ≤ 2 = decimal-length (numberOf why) 2 (omega arith) (omega (arith, numbered why .to)) in
     rw (length-append (ascii "refused " ++ decimal (numberOf why)) newline, length-append (ascii "refused ") (decimal (numberOf why))) (omega arith)
 
 -- what was read says the file's answer

@@ -86,7 +86,7 @@ fn put_states(out: &mut [u8], at: usize, u: FunctionUnit, tag: Tag) -> usize
     ensures { λ r. ⌜ Told 2108 (stateLines (marked u) (tag .0)) u (tag .0) (now (out .entry)) at (now (out .exit)) r ⌝ }
 {
     let mut list = [0u32; 256];
-    let counted = diagram::states(u, tag, &mut list);
+    let counted = state_list::states(u, tag, &mut list);
     let Number::Value(count) = counted else {
         return text::put(out, at, b"refused 7\n");
     };

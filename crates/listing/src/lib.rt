@@ -57,7 +57,12 @@ fn list_refusal(why: Refusal, out: &mut [u8]) -> Listed
     ensures { λ r. ⌜ Printed (roomAnswer (refusedLine why) (length (now (out .entry)))) (refusedLine why) (now (out .entry)) (now (out .exit)) r ⌝ }
 {
     let mut line = [0u8; 32];
-    let end = lines::put_line(&mut line, 0, b"refused ", unit::number(why) as u32);
+    let end = lines::put_line(
+        &mut line,
+        0,
+        b"refused ",
+        unit::number_in(Answer::Refused(why)) as u32,
+    );
     hand_out(&line[..end], out)
 }
 

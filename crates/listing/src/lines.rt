@@ -22,7 +22,7 @@ pub fn put_vector(out: &mut [u8], at: usize, vector: u32) -> usize
     requires { ⌜ at + 32 ≤ length (now out) ⌝ }
     ensures { λ r. ⌜ Put 32 (now (out .entry)) at (vectorText (width vector) vector) (now (out .exit)) r ⌝ }
 {
-    text::put_columns(out, at, diagram::width_of(vector), vector)
+    column_text::put_columns(out, at, diagram::width_of(vector), vector)
 }
 
 // A word, the latencies of a cycle, and their sum.

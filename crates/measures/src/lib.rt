@@ -56,7 +56,7 @@ pub fn bound(u: FunctionUnit, tag: Tag) -> Number
     match answer {
         Answer::Refused(why) => Number::Refused(why),
         Answer::Done => {
-            let columns = unit::columns_of(u, tag);
+            let columns = columns::columns_of(u, tag);
             Number::Value(most_marks(columns))
         }
     }

@@ -13,44 +13,29 @@ use Rattle.unit.specs.declared.Plan.{Plan}
 use Rattle.unit.specs.declared.FunctionUnit.{FunctionUnit}
 use Rattle.unit.specs.declared.Outcome.{Outcome}
 use Rattle.unit.specs.declared.Refusal.{Refusal}
-use Rattle.unit.specs.declared.Refusal.the-variants.{NotSound, NoSuchTag, NoSuchSegment, NoSuchColumn, ShortWork, ShortOutput, TooManyStates, NoPlan, BadCycle, NotGranted, BadLength, BadHeader, MarkBeyondColumns}
+use Rattle.unit.specs.declared.Refusal.the-variants.{NoSuchTag, ShortWork, TooManyStates, NoPlan}
 use Rattle.unit.specs.declared.Answer.{Answer}
 use Rattle.unit.specs.declared.Answer.the-variants.{Done, Refused}
-use Rattle.unit.specs.Numbers.{numberOf}
+use Rattle.unit.specs.Numbers.{numberOf, numberIn}
 use Rattle.unit.specs.Table.{Table, changed}
 use Rattle.unit.specs.Unit.{inside, marked, marksInside, soundPlan, soundOf, goodCounts}
 use Rattle.unit.specs.Calls.{check, andThen, tagAnswer, spotAnswer, noPlan, freshOf, markOf, unmarkOf}
+use Rattle.unit.proofs.NumberLaws.{number-some}
 use Rattle.unit.proofs.Laws.{inside-of, Sound, sound-has, sound-of}
 use Rattle.unit.proofs.SoundLaws.{Words, inside-means, inside-test}
 use Rattle.unit.proofs.EditLaws.{Edited, mark-accepted, unmark-accepted, mark-refused, unmark-refused, mark-answer, unmark-answer, blank-words, blank-table, fresh-sound}
 use Rattle.collision.specs.Pipeline.{total}
 use Rattle.planner.specs.declared.Handed.{Handed}
 use Rattle.planner.specs.Plans.{Best, planOf, withPlan, searchAnswer, Found, SearchPromise, readAnswer, handing, readOf}
-use Rattle.planner.specs.Inner.{numberIn}
 use Rattle.planner.specs.Sheet.{Call, Reply, replyTo, readReply, Searching, Step, Run, Sheet, start, edited, owing, spotNumber, searchNumber, next, fed, told, Owed, ReadRight, Agrees, Right, EveryList}
 use Rattle.planner.specs.Sheet.Call.{Mark, Unmark, Search, Read}
 use Rattle.planner.specs.Sheet.Reply.{accepted, refused, handed}
 
 -- Answers and their numbers
 
-never-zero : (why : Refusal) → eqb (numberOf why) 0 ≡ false
-never-zero NotSound = refl
-never-zero NoSuchTag = refl
-never-zero NoSuchSegment = refl
-never-zero NoSuchColumn = refl
-never-zero ShortWork = refl
-never-zero ShortOutput = refl
-never-zero TooManyStates = refl
-never-zero NoPlan = refl
-never-zero BadCycle = refl
-never-zero NotGranted = refl
-never-zero BadLength = refl
-never-zero BadHeader = refl
-never-zero MarkBeyondColumns = refl
-
 reply-told : (a : Answer) → replyTo a ≡ told (numberIn a)
 reply-told Done = refl
-reply-told (Refused why) = simp (never-zero why)
+reply-told (Refused why) = simp (number-some why)
 
 number-check : (ok : Bool) (why : Refusal) (rest : Answer) → numberIn (check ok why rest) ≡ cond ok (numberIn rest) (numberOf why)
 number-check true why rest = refl
@@ -102,7 +87,7 @@ edit-step u after t q s c b k d r = go (spotAnswer u q s c) refl
         rw z (edit-kept u after t q s c b k (d e))
     go (Refused why) e =
         let z : spotNumber t q s c ≡ numberOf why = sym (spot-number u t q s c k) ∙ ap numberIn e in
-        rw (z, never-zero why) (subst (λ (x : FunctionUnit). Kept x t) (sym (r why e)) k)
+        rw (z, number-some why) (subst (λ (x : FunctionUnit). Kept x t) (sym (r why e)) k)
 
 edit-told : (u : FunctionUnit) (t : Sheet) (q s c : ℕ) (a : Reply) (x : Answer) → Kept u t → a ≡ replyTo x → x ≡ spotAnswer u q s c → a ≡ told (spotNumber t q s c)
 edit-told u t q s c a x k e f = e ∙ ap replyTo f ∙ reply-told (spotAnswer u q s c) ∙ ap told (spot-number u t q s c k)
@@ -186,7 +171,7 @@ search-step u t q room a after k h = (
         rw z (found-kept u t q after k (h .promise .found e))
     go (Refused why) e =
         let z : searchNumber t q room ≡ numberOf why = sym (search-number u t q room k) ∙ ap numberIn (sym says ∙ e) in
-        rw (z, never-zero why) (subst (λ (x : FunctionUnit). Kept x t) (sym (h .promise .kept why e)) k)
+        rw (z, number-some why) (subst (λ (x : FunctionUnit). Kept x t) (sym (h .promise .kept why e)) k)
 
 -- A read
 

@@ -1,4 +1,4 @@
--- What the private functions ask and find, here and in crate player. No public contract cites this file.
+-- What the private functions ask and find. No public contract cites this file.
 use mathlib.Core.Path.{_≡_}
 use Prim.Native.Nat.{ℕ, _+_, _^_, _≤_, _<_}
 use mathlib.Core.List.{List}
@@ -6,19 +6,13 @@ use lib.ListN.{length, getD, take, drop}
 use Rattle.unit.specs.declared.Plan.{Plan}
 use Rattle.unit.specs.declared.FunctionUnit.{FunctionUnit}
 use Rattle.unit.specs.declared.Answer.{Answer}
-use Rattle.unit.specs.declared.Answer.the-variants.{Done, Refused}
-use Rattle.unit.specs.Numbers.{numberOf}
+use Rattle.unit.specs.declared.Answer.the-variants.{Done}
 use Rattle.unit.specs.Unit.{marked}
 use Rattle.collision.specs.Pipeline.{total}
 use Rattle.cycles.specs.Greedy.{WorkAfter}
 use Rattle.cycles.specs.Rotation.{rotate, firstRotation}
 use Rattle.mean_cycle.specs.declared.Cycle.{Cycle}
 use Rattle.planner.specs.Plans.{Best, planOf, searchAnswer}
-
--- the number that an answer tells, or 0
-abbrev pub numberIn : Answer → ℕ
-numberIn Done = 0
-numberIn (Refused why) = numberOf why
 
 -- the latencies of a cycle of that many, which stand in the working words from 1536 on
 abbrev pub found : List ℕ → ℕ → List ℕ

@@ -11,13 +11,12 @@ use Rattle.unit.specs.declared.FunctionUnit.{FunctionUnit}
 use Rattle.unit.specs.declared.Outcome.{Outcome}
 use Rattle.unit.specs.declared.Answer.{Answer}
 use Rattle.unit.specs.declared.Answer.the-variants.{Done, Refused}
-use Rattle.unit.specs.Numbers.{numberOf}
+use Rattle.unit.specs.Numbers.{numberOf, numberIn}
 use Rattle.unit.specs.Calls.{noPlan, markOf, unmarkOf}
 use Rattle.planner.specs.declared.Handed.{Handed}
 use Rattle.planner.specs.Plans.{SearchPromise, handing, readAnswer, readOf}
 use Rattle.planner.specs.Sheet.{Call, replyTo, readReply, Step}
 use Rattle.planner.specs.Sheet.Call.{Mark, Unmark, Search, Read}
-use Rattle.planner.specs.Inner.{numberIn}
 use Rattle.player.specs.Play.{callOf, planBytes, replyBytes, mayUse}
 use Rattle.player.specs.Inner.{Told, Turned}
 

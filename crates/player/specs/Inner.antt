@@ -7,9 +7,9 @@ use lib.ListN.{length, getD}
 use Rattle.unit.specs.declared.Plan.{Plan}
 use Rattle.unit.specs.declared.FunctionUnit.{FunctionUnit}
 use Rattle.unit.specs.declared.Outcome.{Outcome}
+use Rattle.unit.specs.Numbers.{numberIn}
 use Rattle.unit.specs.Calls.{noPlan}
 use Rattle.planner.specs.Sheet.{Call, Reply, Step}
-use Rattle.planner.specs.Inner.{numberIn}
 use Rattle.player.specs.Play.{planBytes, replyBytes, mayUse}
 
 -- what a call that hands out no plan leaves

@@ -5,7 +5,6 @@ ghost use mathlib.Core.Path.{_≡_};
 ghost use mathlib.Core.List.{_∷_};
 ghost use Prim.Native.Nat.{min};
 ghost use lib.ListN.{length};
-ghost use Rattle.planner.specs.Inner.{numberIn};
 ghost use Rattle.player.specs.Play.{planBytes, callOf, Played};
 ghost use Rattle.player.specs.Inner.{Told, Turned};
 use unit::Answer;
@@ -28,23 +27,13 @@ fn smaller(a: usize, b: usize) -> usize
     if a < b { a } else { b }
 }
 
-// The number of an answer, or 0.
-fn number_in(answer: Answer) -> u8
-    ensures { λ r. ⌜ r ≡ numberIn answer ⌝ }
-{
-    match answer {
-        Answer::Done => 0,
-        Answer::Refused(why) => unit::number(why),
-    }
-}
-
 // What a call that hands out no plan leaves.
 fn told(outcome: Outcome) -> Turn
     ensures { λ r. ⌜ Told outcome (r .number) (r .plan) (r .unit) ⌝ }
 {
     let answer = outcome.answer;
     let left = outcome.unit;
-    let number = number_in(answer);
+    let number = unit::number_in(answer);
     let plan = unit::no_plan();
     Turn {
         number,
@@ -69,7 +58,7 @@ fn one(u: FunctionUnit, kind: u8, tag: u8, segment: u8, column: u8, work: &mut [
     let handed = planner::read(u);
     let answer = handed.answer;
     let plan = handed.plan;
-    let number = number_in(answer);
+    let number = unit::number_in(answer);
     Turn {
         number,
         plan,

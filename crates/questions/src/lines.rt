@@ -14,6 +14,7 @@ use crate::Question;
 use collision::Number;
 use cycles::GreedyAnswer;
 use judge::Verdict;
+use unit::Answer;
 use unit::FunctionUnit;
 use unit::Refusal;
 use unit::Tag;
@@ -33,7 +34,11 @@ fn put_refusal(line: &mut [u8], why: Refusal) -> usize
     requires { ⌜ 4096 ≤ length (now line) ⌝ }
     ensures { λ r. ⌜ Wrote (now (line .entry)) 0 (refusedLine why) (now (line .exit)) r ⌝ }
 {
-    put_value(line, b"refused ", unit::number(why) as u32)
+    put_value(
+        line,
+        b"refused ",
+        unit::number_in(Answer::Refused(why)) as u32,
+    )
 }
 
 // A word and the number that was asked for.
@@ -53,7 +58,7 @@ fn put_columns(line: &mut [u8], word: &[u8], columns: u32, row: u32) -> usize
     ensures { λ r. ⌜ Wrote (now (line .entry)) 0 (now (word .entry) ++ vectorText columns row ++ newline) (now (line .exit)) r ⌝ }
 {
     let after_word = text::put(line, 0, word);
-    let after_columns = text::put_columns(line, after_word, columns, row);
+    let after_columns = column_text::put_columns(line, after_word, columns, row);
     text::put(line, after_columns, b"\n")
 }
 
@@ -75,8 +80,8 @@ fn put_vector(line: &mut [u8], u: FunctionUnit, tag: Tag) -> usize
 fn row_width(u: FunctionUnit, q: Tag, r: Tag) -> u32
     ensures { λ n. ⌜ n ≡ width (rowWord (marked u) (q .0) (r .0)) ⌝ }
 {
-    let later = unit::columns_of(u, q);
-    let earlier = unit::columns_of(u, r);
+    let later = columns::columns_of(u, q);
+    let earlier = columns::columns_of(u, r);
     let row = collision::row_of(later, earlier);
     diagram::width_of(row)
 }
@@ -128,7 +133,7 @@ fn put_states(line: &mut [u8], u: FunctionUnit, tag: Tag) -> usize
     ensures { λ r. ⌜ Wrote (now (line .entry)) 0 (statesReply u (tag .0)) (now (line .exit)) r ⌝ }
 {
     let mut list = [0u32; 256];
-    let asked = diagram::states(u, tag, &mut list);
+    let asked = state_list::states(u, tag, &mut list);
     match asked {
         Number::Refused(why) => put_refusal(line, why),
         Number::Value(number) => {

@@ -10,7 +10,6 @@ use Rattle.unit.specs.declared.Answer.the-variants.{Done, Refused}
 use Rattle.session.specs.declared.Session.{Session}
 use Rattle.session.specs.declared.Reply.{Reply}
 use Rattle.session.specs.Sessions.{taken, answerLine, Line, Made}
-use Rattle.session.specs.Inner.{Gives}
 
 -- three numbers, each in other words
 pub by-three : {A : Type 0} (f : ℕ → ℕ → ℕ → A) {x y z a b c : ℕ} → x ≡ a → y ≡ b → z ≡ c → f x y z ≡ f a b c
@@ -19,14 +18,12 @@ by-three f {x} {y} {z} {a} e g h = ap (λ n. f n y z) e ∙ ap₂ (f a) g h
 -- A unit that was made
 
 pub taken-refused : (s : Session) (u : FunctionUnit) {a : Answer} {why : Refusal} {before after : List ℕ} {end : ℕ} → a ≡ Refused why
-    → Line (answerLine a) before after end → Gives (answerLine a) (λ x. x ≡ taken s a u) before after record { session = s; end = end }
-taken-refused s u e l = record { line = l; next = ap (λ b. taken s b u) (sym e) }
+    → Line (answerLine a) before after end → Made s (record { answer = a; unit = u }) before after record { session = s; end = end }
+taken-refused s u e l = record { out = l .out; end = l .next; next = ap (λ b. taken s b u) (sym e) }
 
 pub taken-done : (s : Session) (u : FunctionUnit) {a : Answer} {before after : List ℕ} {end : ℕ} → a ≡ Done
-    → Line (answerLine a) before after end → Gives (answerLine a) (λ x. x ≡ taken s a u) before after record { session = taken s Done u; end = end }
-taken-done s u e l = record { line = l; next = ap (λ b. taken s b u) (sym e) }
+    → Line (answerLine a) before after end → Made s (record { answer = a; unit = u }) before after record { session = taken s Done u; end = end }
+taken-done s u e l = record { out = l .out; end = l .next; next = ap (λ b. taken s b u) (sym e) }
 
-pub made-as : {s : Session} {made asked : Outcome} {before after : List ℕ} {t : Reply} → made ≡ asked
-    → Gives (answerLine (made .answer)) (λ x. x ≡ taken s (made .answer) (made .unit)) before after t → Made s asked before after t
-made-as {s} {made} {asked} {before} {after} {t} e g =
-    subst (λ (m : Outcome). Made s m before after t) e record { out = g .line .out; end = g .line .next; next = g .next }
+pub made-as : {s : Session} {made asked : Outcome} {before after : List ℕ} {t : Reply} → made ≡ asked → Made s made before after t → Made s asked before after t
+made-as {s} {before = before} {after} {t} e m = subst (λ (o : Outcome). Made s o before after t) e m

@@ -3,6 +3,7 @@ use mathlib.Core.Path.{_≡_}
 use mathlib.Core.Bool.{true, false}
 use mathlib.Core.List.{List}
 use Prim.Native.Nat.{ℕ}
+use Rattle.words.specs.Bytes.{narrow}
 use Rattle.text.specs.Text.{ascii, putIn, putEnd}
 use Rattle.unit.specs.declared.FunctionUnit.{FunctionUnit}
 use Rattle.unit.specs.declared.Outcome.{Outcome}
@@ -13,7 +14,6 @@ use Rattle.unit.specs.Calls.{blank, freshOf}
 use Rattle.controller.specs.Bank.{empty}
 use Rattle.listing.specs.Lines.{refusedLine}
 use Rattle.command.specs.declared.Request.{Request}
-use Rattle.command.specs.Lines.{narrow}
 use Rattle.session.specs.declared.Session.{Session}
 use Rattle.session.specs.declared.Reply.{Reply}
 
@@ -21,7 +21,7 @@ use Rattle.session.specs.declared.Reply.{Reply}
 abbrev pub opening : Session
 opening = record { present = false; unit = blank 0 0 0; bank = empty }
 
--- a unit that a fresh or a load made, with an empty bank; a refused one keeps the session as it was
+-- a unit that a fresh, a load, a mark or an unmark made, with an empty bank; a refused one keeps the session as it was
 abbrev pub taken : Session → Answer → FunctionUnit → Session
 taken s Done u = record { present = true; unit = u; bank = empty }
 taken s (Refused why) u = s
@@ -57,7 +57,7 @@ pub record Line (text before after : List ℕ) (end : ℕ) : Type 0 where
 abbrev pub freshAsked : Request → Outcome
 freshAsked r = freshOf (one r) (two r) (three r)
 
--- a unit was made, by a fresh or from a file
+-- a unit was made: by a fresh, from a file, or by an edit
 pub record Made (s : Session) (made : Outcome) (before after : List ℕ) (t : Reply) : Type 0 where
   pub out : after ≡ putIn before 0 (answerLine (made .answer))
   pub end : t .end ≡ putEnd before 0 (answerLine (made .answer))

@@ -6,9 +6,7 @@ ghost use lib.ListN.{length};
 ghost use Rattle.text.specs.Wrote.{Wrote};
 ghost use Rattle.unit_file.specs.Read.{readOf};
 ghost use Rattle.listing.specs.Lines.{refusedLine};
-ghost use Rattle.command.specs.Lines.{narrow};
-ghost use Rattle.session.specs.Sessions.{opening, taken, answerLine, Line, freshAsked, Made};
-ghost use Rattle.session.specs.Inner.{Gives};
+ghost use Rattle.session.specs.Sessions.{opening, answerLine, Line, freshAsked, Made};
 use command::Request;
 use controller::Bank;
 use unit::Answer;
@@ -48,16 +46,6 @@ pub fn open() -> Session
     }
 }
 
-// A number too large for a byte becomes 0, which is no count, no tag, no segment and no column.
-pub fn byte(number: u32) -> u8
-    ensures { λ r. ⌜ r ≡ narrow number ⌝ }
-{
-    if number < 256 {
-        return number as u8;
-    }
-    0
-}
-
 // Lines that answer
 
 // `refused` and the number of the refusal.
@@ -66,7 +54,11 @@ fn write_refused(line: &mut [u8], why: Refusal) -> usize
     ensures { λ r. ⌜ Wrote (now (line .entry)) 0 (refusedLine why) (now (line .exit)) r ⌝ }
 {
     let after_word = text::put(line, 0, b"refused ");
-    let after_number = text::put_number(line, after_word, unit::number(why) as u32);
+    let after_number = text::put_number(
+        line,
+        after_word,
+        unit::number_in(Answer::Refused(why)) as u32,
+    );
     text::put(line, after_number, b"\n")
 }
 
@@ -88,9 +80,9 @@ pub fn put_answer(out: &mut [u8], answer: Answer) -> usize
     }
 }
 
-// Takes the unit that was made, with an empty bank; where none was made the session stays.
-fn take_unit(session: Session, made: Outcome, out: &mut [u8]) -> Reply
-    ensures { λ r. ⌜ Gives (answerLine (made .answer)) (λ after. after ≡ taken session (made .answer) (made .unit)) (now (out .entry)) (now (out .exit)) r ⌝ }
+// Takes the unit that was made or edited, with an empty bank; where none was made the session stays.
+pub fn take_unit(session: Session, made: Outcome, out: &mut [u8]) -> Reply
+    ensures { λ r. ⌜ Made session made (now (out .entry)) (now (out .exit)) r ⌝ }
 {
     let answer = made.answer;
     let end = put_answer(out, answer);
@@ -119,9 +111,9 @@ pub fn fresh(session: Session, request: Request, out: &mut [u8]) -> Reply
     ensures { λ r. ⌜ Made session (freshAsked request) (now (out .entry)) (now (out .exit)) r ⌝ }
 {
     let made = unit::fresh(
-        byte(request.first),
-        byte(request.second),
-        byte(request.third),
+        words::byte(request.first),
+        words::byte(request.second),
+        words::byte(request.third),
     );
     take_unit(session, made, out)
 }

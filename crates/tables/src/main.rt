@@ -1,7 +1,5 @@
 // Runs the calls on the tables of the papers and prints a line for each answer. The file stdout beside it holds the answers
 // that follow from the papers, worked out by hand.
-mod files;
-
 ghost use mathlib.Core.Path.{_≡_};
 ghost use lib.ListN.{length};
 use collision::Number;
@@ -16,6 +14,7 @@ use unit::Plan;
 use unit::Refusal;
 use unit::Segment;
 use unit::Tag;
+use unit_file::Written;
 
 // Printing.
 
@@ -31,7 +30,7 @@ fn print_number(number: u32) {
 
 fn print_refusal(why: Refusal) {
     io::write_all(1, b" refused");
-    print_number(unit::number(why) as u32);
+    print_number(unit::number_in(Answer::Refused(why)) as u32);
 }
 
 fn print_answer(answer: Answer) {
@@ -150,30 +149,30 @@ fn with_row(u: FunctionUnit, tag: u8, segment: u8, columns: &[u8]) -> FunctionUn
 }
 
 fn figure_1() -> FunctionUnit {
-    let none = unit_of(1, 5, 9);
-    let to_1 = with_row(none, 1, 1, b"\x01\x09");
-    let to_2 = with_row(to_1, 1, 2, b"\x02\x03\x08");
-    let to_3 = with_row(to_2, 1, 3, b"\x04");
-    let to_4 = with_row(to_3, 1, 4, b"\x05\x06");
-    with_row(to_4, 1, 5, b"\x07\x08")
+    let mut u = unit_of(1, 5, 9);
+    u = with_row(u, 1, 1, b"\x01\x09");
+    u = with_row(u, 1, 2, b"\x02\x03\x08");
+    u = with_row(u, 1, 3, b"\x04");
+    u = with_row(u, 1, 4, b"\x05\x06");
+    with_row(u, 1, 5, b"\x07\x08")
 }
 
 // A has the tag 1, B the tag 2.
 fn figure_2() -> FunctionUnit {
-    let none = unit_of(2, 3, 5);
-    let to_a1 = with_row(none, 1, 1, b"\x01\x04");
-    let to_a2 = with_row(to_a1, 1, 2, b"\x02");
-    let to_a3 = with_row(to_a2, 1, 3, b"\x03\x05");
-    let to_b1 = with_row(to_a3, 2, 1, b"\x02\x05");
-    let to_b2 = with_row(to_b1, 2, 2, b"\x04");
-    with_row(to_b2, 2, 3, b"\x01\x03")
+    let mut u = unit_of(2, 3, 5);
+    u = with_row(u, 1, 1, b"\x01\x04");
+    u = with_row(u, 1, 2, b"\x02");
+    u = with_row(u, 1, 3, b"\x03\x05");
+    u = with_row(u, 2, 1, b"\x02\x05");
+    u = with_row(u, 2, 2, b"\x04");
+    with_row(u, 2, 3, b"\x01\x03")
 }
 
 fn three_segments() -> FunctionUnit {
-    let none = unit_of(1, 3, 7);
-    let to_1 = with_row(none, 1, 1, b"\x01\x03");
-    let to_2 = with_row(to_1, 1, 2, b"\x01\x04");
-    with_row(to_2, 1, 3, b"\x01\x07")
+    let mut u = unit_of(1, 3, 7);
+    u = with_row(u, 1, 1, b"\x01\x03");
+    u = with_row(u, 1, 2, b"\x01\x04");
+    with_row(u, 1, 3, b"\x01\x07")
 }
 
 // A unit of one function and one segment, from the columns of its marks.
@@ -216,7 +215,7 @@ fn show_constant(name: &[u8], u: FunctionUnit) {
 
 fn show_states(name: &[u8], u: FunctionUnit) {
     let mut states = [0u32; 256];
-    let asked = diagram::states(u, Tag(1), &mut states);
+    let asked = state_list::states(u, Tag(1), &mut states);
     begin(name, b" states");
     print_asked(asked);
     end_line();
@@ -486,7 +485,7 @@ fn try_short_work(u: FunctionUnit) {
 
 fn try_short_output(u: FunctionUnit) {
     let mut states = [0u32; 255];
-    let asked = diagram::states(u, Tag(1), &mut states);
+    let asked = state_list::states(u, Tag(1), &mut states);
     io::write_all(1, b"fig 1 states with 255 words");
     print_asked(asked);
     end_line();
@@ -512,6 +511,34 @@ fn show_better<'a>(first: &'a [u8], second: &'a [u8]) {
     end_line();
 }
 
+// The file of a unit.
+
+fn show_written(name: &[u8], written: Written) {
+    io::write_all(1, name);
+    match written {
+        Written::Length(length) => print_number(length),
+        Written::Refused(why) => print_refusal(why),
+    }
+    end_line();
+}
+
+fn try_writing() {
+    let u = figure_2();
+    let mut file = [0u8; 64];
+    show_written(b"fig 2 file length", unit_writer::write(u, &mut file));
+    io::write_all(1, b"fig 2 file offsets");
+    print_byte(file[4]);
+    print_byte(file[5]);
+    print_byte(file[6]);
+    print_byte(file[7]);
+    end_line();
+    let mut short = [0u8; 31];
+    show_written(
+        b"fig 2 file into 31 bytes",
+        unit_writer::write(u, &mut short),
+    );
+}
+
 fn main() {
     try_figure_1();
     try_judge();
@@ -523,5 +550,5 @@ fn main() {
     try_refusals();
     show_better(b"\x03\x04", b"\x02\x02\x07");
     show_better(b"\x02\x02\x07", b"\x03\x04");
-    files::try_all();
+    try_writing();
 }

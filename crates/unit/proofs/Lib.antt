@@ -1,4 +1,6 @@
+pub mod NumberLaws
 pub mod Laws
+pub mod EndLaws
 pub mod SoundLaws
 pub mod JoinLaws
 pub mod EditLaws

@@ -80,6 +80,11 @@ abbrev pub outcome : Answer → FunctionUnit → FunctionUnit → Outcome
 outcome Done old new = record { answer = Done; unit = new }
 outcome (Refused why) old new = record { answer = Refused why; unit = old }
 
+-- an accepted call hands out the new value, a refused one leaves what was there
+abbrev pub handed : {A : Type 0} → Answer → A → A → A
+handed Done new old = new
+handed (Refused why) new old = old
+
 -- The calls
 
 unfoldable pub freshOf : ℕ → ℕ → ℕ → Outcome

@@ -1,7 +1,10 @@
--- The number of each refusal.
+-- The number of each refusal, and of an answer.
+use mathlib.Core.List.{List, [], _∷_}
 use Prim.Native.Nat.{ℕ}
 use Rattle.unit.specs.declared.Refusal.{Refusal}
 use Rattle.unit.specs.declared.Refusal.the-variants.{NotSound, NoSuchTag, NoSuchSegment, NoSuchColumn, ShortWork, ShortOutput, TooManyStates, NoPlan, BadCycle, NotGranted, BadLength, BadHeader, MarkBeyondColumns}
+use Rattle.unit.specs.declared.Answer.{Answer}
+use Rattle.unit.specs.declared.Answer.the-variants.{Done, Refused}
 
 abbrev pub numberOf : Refusal → ℕ
 -- a count outside its range, a mark outside the counts, or a plan whose K is 0 or above 256
@@ -28,3 +31,14 @@ numberOf BadLength = 11
 numberOf BadHeader = 12
 -- a mark of a file beyond the columns
 numberOf MarkBeyondColumns = 13
+
+-- the refusals, the one of number 1 first
+abbrev pub refusals : List Refusal
+refusals =
+    NotSound ∷ NoSuchTag ∷ NoSuchSegment ∷ NoSuchColumn ∷ ShortWork ∷ ShortOutput ∷ TooManyStates ∷ NoPlan ∷ BadCycle ∷ NotGranted ∷ BadLength
+    ∷ BadHeader ∷ MarkBeyondColumns ∷ []
+
+-- the number that an answer tells: 0 where the call was accepted
+abbrev pub numberIn : Answer → ℕ
+numberIn Done = 0
+numberIn (Refused why) = numberOf why

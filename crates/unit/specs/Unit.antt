@@ -7,12 +7,9 @@ use lib.ListN.{getD, take, drop, replicate}
 use lib.Dec.{leb, eqb}
 use Rattle.words.specs.Bits.{isSet}
 use Rattle.words.specs.Below.{someBelow}
+pub use Rattle.words.specs.Below.{inside}
 use Rattle.unit.specs.declared.FunctionUnit.{FunctionUnit}
 use Rattle.unit.specs.Table.{Table}
-
--- x is one of 1 to n
-abbrev pub inside : ℕ → ℕ → Bool
-inside x n = leb 1 x && leb x n
 
 -- Marks
 

@@ -4,7 +4,7 @@
 ghost use mathlib.Core.Path.{_≡_};
 ghost use Prim.Native.Nat.{_≤_};
 ghost use Rattle.unit.specs.Inner.{Between, Beyond, Joins, Tested, Somewhere};
-ghost use Rattle.unit.specs.Numbers.{numberOf};
+ghost use Rattle.unit.specs.Numbers.{numberOf, numberIn};
 ghost use Rattle.unit.specs.Unit.{inside, goodCounts, soundPlan, soundOf, place, columnsOf};
 ghost use Rattle.unit.specs.Calls.{noPlan, withWord, tagAnswer, spotAnswer, freshOf, columnAnswer, columnOf};
 
@@ -61,7 +61,7 @@ pub struct Outcome {
 }
 
 // The number that whoever is refused is told.
-pub fn number(why: Refusal) -> u8
+fn number(why: Refusal) -> u8
     ensures { λ r. ⌜ r ≡ numberOf why ⌝ }
 {
     match why {
@@ -81,16 +81,14 @@ pub fn number(why: Refusal) -> u8
     }
 }
 
-// Whether x is one of 1 to n.
-fn is_inside(x: u8, n: u8) -> bool
-    ensures { λ r. ⌜ r ≡ inside x n ⌝ }
+// The number that an answer tells: 0 where the call was accepted.
+pub fn number_in(answer: Answer) -> u8
+    ensures { λ r. ⌜ r ≡ numberIn answer ⌝ }
 {
-    if 1 <= x {
-        if x <= n {
-            return true;
-        }
+    match answer {
+        Answer::Done => 0,
+        Answer::Refused(why) => number(why),
     }
-    false
 }
 
 // No plan: tag, count, sum and all 256 bytes are 0.
@@ -170,13 +168,13 @@ fn clean_marks(functions: u8, segments: u8, columns: u8, marks: [u16; 128]) -> b
 fn counts(functions: u8, segments: u8, columns: u8) -> bool
     ensures { λ r. ⌜ r ≡ goodCounts functions segments columns ⌝ }
 {
-    if !is_inside(functions, 4) {
+    if !words::is_inside(functions, 4) {
         return false;
     }
-    if !is_inside(segments, 16) {
+    if !words::is_inside(segments, 16) {
         return false;
     }
-    is_inside(columns, 32)
+    words::is_inside(columns, 32)
 }
 
 // Whether the counts are in their ranges, every mark lies within them, and the plan, if there is one, has 1 to 256 latencies.
@@ -200,55 +198,10 @@ pub fn check_tag(u: FunctionUnit, tag: Tag) -> Answer
     if !sound(u) {
         return Answer::Refused(Refusal::NotSound);
     }
-    if !is_inside(tag.0, u.functions) {
+    if !words::is_inside(tag.0, u.functions) {
         return Answer::Refused(Refusal::NoSuchTag);
     }
     Answer::Done
-}
-
-// Whether the mark of a tag at a segment in a column can be edited.
-pub fn check_spot(u: FunctionUnit, tag: Tag, segment: Segment, column: u8) -> Answer
-    ensures { λ r. ⌜ r ≡ spotAnswer u (tag .0) (segment .0) column ⌝ }
-{
-    let first = check_tag(u, tag);
-    match first {
-        Answer::Refused(why) => Answer::Refused(why),
-        Answer::Done => {
-            if !is_inside(segment.0, u.segments) {
-                return Answer::Refused(Refusal::NoSuchSegment);
-            }
-            if !is_inside(column, u.columns) {
-                return Answer::Refused(Refusal::NoSuchColumn);
-            }
-            Answer::Done
-        }
-    }
-}
-
-// The index of the word of a tag in a column.
-fn place_of(tag: u8, column: u8) -> usize
-    requires { ⌜ Somewhere tag column ⌝ }
-    ensures { λ r. ⌜ r ≡ place tag column ⌝ }
-{
-    (tag as usize - 1) * 32 + (column as usize - 1)
-}
-
-// The unit with another word for a tag in a column, and without plan.
-fn with_word(u: FunctionUnit, tag: u8, column: u8, word: u16) -> FunctionUnit
-    requires { ⌜ Somewhere tag column ⌝ }
-    ensures { λ r. ⌜ r ≡ withWord u tag column word ⌝ }
-{
-    let i = place_of(tag, column);
-    let mut marks = u.marks;
-    marks[i] = word;
-    let kept = no_plan();
-    FunctionUnit {
-        functions: u.functions,
-        segments: u.segments,
-        columns: u.columns,
-        marks,
-        plan: kept,
-    }
 }
 
 // The unit of the three counts, without marks or plan. Where a count is outside its range the unit that is handed out has
@@ -276,63 +229,4 @@ pub fn fresh(functions: u8, segments: u8, columns: u8) -> Outcome
             unit,
         }
     }
-}
-
-// Whether a column's word can be given to a function.
-fn check_column(u: FunctionUnit, tag: Tag, column: u8, word: u16) -> Answer
-    ensures { λ r. ⌜ r ≡ columnAnswer u (tag .0) column word ⌝ }
-{
-    let first = check_tag(u, tag);
-    match first {
-        Answer::Refused(why) => Answer::Refused(why),
-        Answer::Done => {
-            let top: u32 = 1 << u.segments;
-            if top <= (word as u32) {
-                return Answer::Refused(Refusal::NoSuchSegment);
-            }
-            if !is_inside(column, u.columns) {
-                return Answer::Refused(Refusal::NoSuchColumn);
-            }
-            Answer::Done
-        }
-    }
-}
-
-// Gives a function all its marks in one column at once, bit r - 1 for segment r, and drops the plan.
-pub fn with_column(u: FunctionUnit, tag: Tag, column: u8, word: u16) -> Outcome
-    ensures { λ r. ⌜ r ≡ columnOf u (tag .0) column word ⌝ }
-{
-    let answer = check_column(u, tag, column, word);
-    match answer {
-        Answer::Refused(why) => Outcome {
-            answer: Answer::Refused(why),
-            unit: u,
-        },
-        Answer::Done => {
-            let filled = with_word(u, tag.0, column, word);
-            Outcome {
-                answer: Answer::Done,
-                unit: filled,
-            }
-        }
-    }
-}
-
-// The marks of a function by column: word column - 1 holds the column's marks, bit r - 1 for segment r. A tag outside 1 to 4
-// has none.
-pub fn columns_of(u: FunctionUnit, tag: Tag) -> [u16; 32]
-    ensures { λ r. ⌜ r ≡ columnsOf u (tag .0) ⌝ }
-{
-    let mut columns = [0u16; 32];
-    if !is_inside(tag.0, 4) {
-        return columns;
-    }
-    let marks = u.marks;
-    let first = (tag.0 as usize - 1) * 32;
-    let mut i: usize = 0;
-    while i < 32 {
-        columns[i] = marks[first + i];
-        i += 1;
-    }
-    columns
 }

@@ -2,10 +2,11 @@ mod PlaceLaws
 mod ReadLaws
 mod ColumnLaws
 mod FillLaws
-mod FrontLaws
-mod WriteLaws
+pub mod FrontLaws
+pub mod WriteLaws
 pub mod ByteLaws
 pub mod FileLaws
 pub mod AcceptedLaws
+pub mod AskedLaws
 pub mod LongLaws
 pub mod RoundTrips

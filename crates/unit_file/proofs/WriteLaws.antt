@@ -17,7 +17,7 @@ use Rattle.unit.specs.Table.{Table}
 use Rattle.unit.specs.Unit.{marked, columnsOf, soundOf}
 use Rattle.unit.proofs.Laws.{within, sound-has}
 use Rattle.unit.proofs.ColumnLaws.{columns-marked}
-use Rattle.unit_file.specs.declared.writer.Written.the-variants as Written
+use Rattle.unit_file.specs.declared.Written.the-variants as Written
 use Rattle.unit_file.specs.File.{bytes16, bytes32, offsetOf, fileLength, segmentWord, tableBytes, offsetBytes, fileOf}
 use Rattle.unit_file.specs.InnerWrite.{inFront, inFrom, headBytes, Counts, afterTables, columnMark, columnsWord, columnsBytes, tablesBytes}
 use Rattle.unit_file.specs.Write.{unitFile, writeRefusal, writeAnswer, writeOut}

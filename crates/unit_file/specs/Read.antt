@@ -6,13 +6,14 @@ use lib.Dec.{leb, eqb}
 use lib.ListN.{length, getD}
 use Rattle.words.specs.Bits.{isSet}
 use Rattle.words.specs.Below.{someBelow}
+use Rattle.unit.specs.declared.FunctionUnit.{FunctionUnit}
 use Rattle.unit.specs.declared.Outcome.{Outcome}
 use Rattle.unit.specs.declared.Refusal.the-variants.{NotSound, BadLength, BadHeader, MarkBeyondColumns}
 use Rattle.unit.specs.declared.Answer.{Answer}
 use Rattle.unit.specs.declared.Answer.the-variants.{Done}
 use Rattle.unit.specs.Table.{Table}
-use Rattle.unit.specs.Unit.{inside, goodCounts}
-use Rattle.unit.specs.Calls.{check, outcome, blank, unitOf}
+use Rattle.unit.specs.Unit.{inside, marked, goodCounts}
+use Rattle.unit.specs.Calls.{check, andThen, outcome, blank, unitOf}
 use Rattle.unit_file.specs.File.{offsetOf, fileLength}
 
 -- What stands in the bytes
@@ -71,3 +72,16 @@ readAnswer file =
 -- the unit, without plan; where the file is refused the unit of counts 0 0 0, which every call refuses
 unfoldable pub readOf : List ℕ → Outcome
 readOf file = outcome (readAnswer file) (blank 0 0 0) (unitOf (functionsIn file) (segmentsIn file) (columnsIn file) (fileTable file))
+
+-- What a call on a lent file goes by
+
+-- the unit that the file says, and its table
+abbrev pub unitIn : List ℕ → FunctionUnit
+unitIn file = readOf file .unit
+
+abbrev pub tableIn : List ℕ → Table
+tableIn file = marked (unitIn file)
+
+-- the file is tried first
+abbrev pub fileThen : List ℕ → Answer → Answer
+fileThen file next = andThen (readAnswer file) next

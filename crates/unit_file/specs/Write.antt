@@ -9,8 +9,8 @@ use Rattle.unit.specs.declared.Answer.{Answer}
 use Rattle.unit.specs.declared.Answer.the-variants.{Done, Refused}
 use Rattle.unit.specs.Unit.{marked, soundOf}
 use Rattle.unit.specs.Calls.{check}
-use Rattle.unit_file.specs.declared.writer.Written.{Written}
-use Rattle.unit_file.specs.declared.writer.Written.the-variants as Written
+use Rattle.unit_file.specs.declared.Written.{Written}
+use Rattle.unit_file.specs.declared.Written.the-variants as Written
 use Rattle.unit_file.specs.File.{fileLength, fileOf}
 
 -- a unit's file; a plan is not written

@@ -152,7 +152,7 @@ fn fill_function(u: FunctionUnit, file: &[u8], tag: u8) -> FunctionUnit
     let mut column: u8 = 1;
     while column <= columns {
         let word = column_word(file, tag, column);
-        let given = unit::with_column(unit, Tag(tag), column, word);
+        let given = columns::with_column(unit, Tag(tag), column, word);
         let filled = given.unit;
         unit = filled;
         column += 1;

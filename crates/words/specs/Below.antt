@@ -1,7 +1,12 @@
 -- Tests on the numbers below a bound: whether one passes, how many do, the last that does, and the word that notes which; lists made number by number.
-use mathlib.Core.Bool.{Bool, false, cond, _||_}
+use mathlib.Core.Bool.{Bool, false, cond, _&&_, _||_}
 use mathlib.Core.List.{List, [], _∷_, _++_}
 use Prim.Native.Nat.{ℕ, zero, suc, _+_, _^_, max}
+use lib.Dec.{leb}
+
+-- x is one of 1 to n
+abbrev pub inside : ℕ → ℕ → Bool
+inside x n = leb 1 x && leb x n
 
 -- some number below n passes the test
 unfoldable pub someBelow : ℕ → (ℕ → Bool) → Bool

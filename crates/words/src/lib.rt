@@ -1,9 +1,11 @@
-// Bits of 32-bit words: test, set and clear one, shift, count, find the next 0. Bit 0 is the lowest.
+// Bits of 32-bit words: test, set and clear one, shift, count, find the next 0; a word as a byte; a number
+// within a range. Bit 0 is the lowest.
 // Every function here is proved, total and without a `requires`; the crate assumes nothing of its own.
 ghost use mathlib.Core.Path.{_≡_};
 ghost use Prim.Native.Nat.{_/_, _%_, _^_};
 ghost use Rattle.words.specs.Bits.{isSet, setBit, clearBit, zeroFrom};
-ghost use Rattle.words.specs.Below.{countBelow};
+ghost use Rattle.words.specs.Below.{inside, countBelow};
+ghost use Rattle.words.specs.Bytes.{narrow};
 
 // Whether the bit at the index is 1. A word has no 1 from index 32 on.
 pub fn test(word: u32, index: u32) -> bool
@@ -59,4 +61,26 @@ pub fn zero_from(word: u32, from: u32) -> u32
     }
     let rest = (word as u64) >> from;
     from + u64::trailing_zeros(rest + 1)
+}
+
+// A number too large for a byte becomes 0, which is no count, no tag, no segment, no column and no latency.
+pub fn byte(number: u32) -> u8
+    ensures { λ r. ⌜ r ≡ narrow number ⌝ }
+{
+    if number < 256 {
+        return number as u8;
+    }
+    0
+}
+
+// Whether a number is one of 1 to another.
+pub fn is_inside(number: u8, most: u8) -> bool
+    ensures { λ r. ⌜ r ≡ inside number most ⌝ }
+{
+    if 1 <= number {
+        if number <= most {
+            return true;
+        }
+    }
+    false
 }

@@ -1,25 +1,27 @@
 -- `command::file_name` meets its contract. Assumes nothing.
+use mathlib.Core.Path.{sym}
 use native.Mathlib.Omega.{arith}
+use lib.Seq.{length-take-le}
+use Rattle.command.proofs.WordLaws.{word-inside}
+use Rattle.command.proofs.LineLaws.{file-word}
 use borrow.Author.Needs.{needs}
-use Rattle.command.proofs.WordLaws.{word-inside, end-word}
-use Rattle.command.proofs.LineLaws.{file-none, file-some}
 use Rattle.command.proofs.file_name.Statement.{statement}
 use Rattle.command.proofs.file_name.Tie as tie
 
+text-end-requires : tie.Need-text-end-requires
+text-end-requires c κs = search needs
+
+slice-aggregate-text : tie.Need-slice-aggregate-text
+slice-aggregate-text c = sym (length-take-le _ _ (c .before .text-end .ensures .inside))
+
+past-word-requires : tie.Need-past-word-requires
+past-word-requires c κs = search needs
+
+word-start-requires : tie.Need-word-start-requires
+word-start-requires c κs = search needs
+
 word-end-requires : tie.Need-word-end-requires
 word-end-requires c κs = search needs
-
-slice-aggregate-result : tie.Need-slice-aggregate-result
-slice-aggregate-result c = search needs
-
-returns : tie.Need-returns
-returns c = file-none _ _ (c .before .before .word-end .ensures) (c .before .if1 .taken)
-
-add-from : tie.Need-add-from
-add-from c = omega (arith, word-inside _ _ _ (c .before .word-end .ensures) (omega arith), c .if1 .left)
-
-word-end-requires-2 : tie.Need-word-end-requires-2
-word-end-requires-2 c κs = omega (arith, word-inside _ _ _ (c .before .word-end .ensures) (omega arith), c .if1 .left)
 
 sub-result : tie.Need-sub-result
 sub-result c = search needs
@@ -28,28 +30,25 @@ part-result-start : tie.Need-part-result-start
 part-result-start c = search needs
 
 part-result-end : tie.Need-part-result-end
-part-result-end c =
-    let i = c .before in
-    word-inside _ _ _ (c .word-end2 .ensures) (omega (arith, word-inside _ _ _ (i .before .word-end .ensures) (omega arith), i .if1 .left))
+part-result-end c = word-inside _ _ _ (c .word-end .ensures) (c .before .word-start .ensures .inside)
 
-returns-2 : tie.Need-returns-2
-returns-2 c =
-    let t = c .before in
-    let i = t .before in
-    let n = i .before in
-    file-some _ _ _ (n .word-end .ensures) (omega (arith, word-inside _ _ _ (n .word-end .ensures) (omega arith), i .if1 .left))
-    (end-word _ _ _ (n .word-end .ensures)) (t .word-end2 .ensures)
+returns : tie.Need-returns
+returns c =
+    let w = c .before in
+    let s = w .before in
+    let p = s .before in
+    file-word _ _ _ _ _ (p .before .before .text-end .ensures) (p .past-word .ensures) (s .word-start .ensures) (w .word-end .ensures)
 
 pub file-name-spec : {M : Type 1} → statement M
 file-name-spec =
     tie.close
     (tie.spec
+    text-end-requires
+    slice-aggregate-text
+    past-word-requires
+    word-start-requires
     word-end-requires
-    slice-aggregate-result
-    returns
-    add-from
-    word-end-requires-2
     sub-result
     part-result-start
     part-result-end
-    returns-2)
+    returns)

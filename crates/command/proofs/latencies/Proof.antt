@@ -1,52 +1,44 @@
 -- `command::latencies` meets its contract. Assumes nothing.
-use mathlib.Core.Path.{_≡_}
-use Prim.Native.Nat.{_<_}
-use native.Mathlib.Omega.{arith}
-use lib.ListN.{length}
+use mathlib.Core.Path.{sym}
+use lib.Seq.{length-take-le}
+use Rattle.command.proofs.LineLaws.{same-in-front, latencies-rest}
 use borrow.Author.Needs.{needs}
-use Rattle.command.proofs.WordLaws.{word-inside, end-word}
-use Rattle.command.proofs.LineLaws.{latencies-none, none-in-front, latencies-some, same-in-front}
 use Rattle.command.proofs.latencies.Statement.{statement}
 use Rattle.command.proofs.latencies.Tie as tie
 
-word-end-requires : tie.Need-word-end-requires
-word-end-requires c κs = search needs
+text-end-requires : tie.Need-text-end-requires
+text-end-requires c κs = search needs
 
-returns : tie.Need-returns
-returns c = none-in-front _ (c .before .before .before .before .args .cycle .now) (latencies-none _ _ (c .before .word-end .ensures) (c .if1 .taken))
+slice-aggregate-text : tie.Need-slice-aggregate-text
+slice-aggregate-text c = sym (length-take-le _ _ (c .before .text-end .ensures .inside))
 
-add-word-end : tie.Need-add-word-end
-add-word-end c = omega (arith, word-inside _ _ _ (c .before .word-end .ensures) (omega arith), c .if1 .left)
+past-word-requires : tie.Need-past-word-requires
+past-word-requires c κs = search needs
 
-word-end-requires-2 : tie.Need-word-end-requires-2
-word-end-requires-2 c κs = omega (arith, word-inside _ _ _ (c .before .word-end .ensures) (omega arith), c .if1 .left)
+past-word-requires-2 : tie.Need-past-word-requires-2
+past-word-requires-2 c κs = search needs
 
 latencies-after-requires : tie.Need-latencies-after-requires
-latencies-after-requires c κs = end-word _ _ _ (c .before .word-end2 .ensures)
+latencies-after-requires c κs = search needs
 
 same-length : tie.Need-same-length
 same-length c = search needs
 
-returns-2 : tie.Need-returns-2
-returns-2 c =
+returns : tie.Need-returns
+returns c =
     let l = c .before .before in
-    let t = l .before .before in
-    let i = t .before in
-    let n = i .before in
-    same-in-front
-    (n .before .before .before .args .cycle .now)
-    (latencies-some _ _ _ (n .word-end .ensures) (omega (arith, word-inside _ _ _ (n .word-end .ensures) (omega arith), i .if1 .left))
-    (end-word _ _ _ (n .word-end .ensures)) (t .word-end2 .ensures))
-    (l .latencies-after .ensures)
+    let q = l .before .before in
+    let p = q .before in
+    same-in-front (p .before .before .before .before .before .args .cycle .now) (latencies-rest _ _ _ _ (p .before .before .text-end .ensures) (p .past-word .ensures) (q .past-word2 .ensures)) (l .latencies-after .ensures)
 
 pub latencies-spec : {M : Type 1} → statement M
 latencies-spec =
     tie.close
     (tie.spec
-    word-end-requires
-    returns
-    add-word-end
-    word-end-requires-2
+    text-end-requires
+    slice-aggregate-text
+    past-word-requires
+    past-word-requires-2
     latencies-after-requires
     same-length
-    returns-2)
+    returns)

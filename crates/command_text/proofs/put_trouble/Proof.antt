@@ -1,6 +1,6 @@
 -- `command_text::put_trouble` meets its contract. Assumes nothing.
 use borrow.Author.Needs.{needs}
-use Rattle.command.proofs.NameLaws.{put-same}
+use Rattle.command_table.proofs.NameLaws.{put-same}
 use Rattle.command_text.proofs.WriteLaws.{front-text, front-length}
 use Rattle.command_text.proofs.put_trouble.Statement.{statement}
 use Rattle.command_text.proofs.put_trouble.Tie as tie

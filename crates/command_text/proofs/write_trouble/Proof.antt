@@ -21,7 +21,13 @@ put-requires-2 : tie.Need-put-requires-2
 put-requires-2 c κs = search needs
 
 put-expected-requires : tie.Need-put-expected-requires
-put-expected-requires c κs = trouble-room (c .before .before .before .before .before .before .before .before .before .before .before .before .before .before .before .before .args .number) (omega arith) (trouble-head (c .before .before .before .before .before .before .before .before .before .before .before .before .before .before .before .before .args .number) (omega arith) (c .before .before .before .before .before .before .before .before .before .before .before .before .put .ensures) (c .before .before .before .before .before .before .before .before .put-number .ensures) (c .before .before .before .put2 .ensures) (c .before .before .before .before .before .before .before .before .before .before .before .before .before .before .before .before .pre)) (c .before .before .before .before .before .before .before .before .before .before .before .before .before .before .before .before .pre)
+put-expected-requires c κs =
+    let colon = c .before .before .before in
+    let number = colon .before .before .before .before .before in
+    let word = number .before .before .before .before in
+    let start = word .before .before .before .before in
+    let n = start .args .number in
+    trouble-room n (omega arith) (trouble-head n (omega arith) (word .put .ensures) (number .put-number .ensures) (colon .put2 .ensures) (start .pre)) (start .pre)
 
 slice-aggregate-put-3 : tie.Need-slice-aggregate-put-3
 slice-aggregate-put-3 c = search needs
@@ -33,7 +39,17 @@ same-length : tie.Need-same-length
 same-length c = search needs
 
 returns : tie.Need-returns
-returns c = trouble-wrote (c .before .before .before .before .before .before .before .before .before .before .before .before .before .before .before .before .before .before .before .before .before .before .before .before .args .number) (c .before .before .before .before .before .before .before .before .before .before .before .before .before .before .before .before .before .before .before .before .before .before .before .before .args .trouble) (omega arith) (trouble-head (c .before .before .before .before .before .before .before .before .before .before .before .before .before .before .before .before .before .before .before .before .before .before .before .before .args .number) (omega arith) (c .before .before .before .before .before .before .before .before .before .before .before .before .before .before .before .before .before .before .before .before .put .ensures) (c .before .before .before .before .before .before .before .before .before .before .before .before .before .before .before .before .put-number .ensures) (c .before .before .before .before .before .before .before .before .before .before .before .put2 .ensures) (c .before .before .before .before .before .before .before .before .before .before .before .before .before .before .before .before .before .before .before .before .before .before .before .before .pre)) (c .before .before .before .before .before .before .before .put-expected .ensures) (c .before .before .put3 .ensures) (c .before .before .before .before .before .before .before .before .before .before .before .before .before .before .before .before .before .before .before .before .before .before .before .before .pre)
+returns c =
+    let end = c .before .before in
+    let told = end .before .before .before .before .before in
+    let colon = told .before .before .before .before in
+    let number = colon .before .before .before .before .before in
+    let word = number .before .before .before .before in
+    let start = word .before .before .before .before in
+    let n = start .args .number in
+    trouble-wrote n (start .args .trouble) (omega arith)
+    (trouble-head n (omega arith) (word .put .ensures) (number .put-number .ensures) (colon .put2 .ensures) (start .pre))
+    (told .put-expected .ensures) (end .put3 .ensures) (start .pre)
 
 pub write-trouble-spec : {M : Type 1} → statement M
 write-trouble-spec =

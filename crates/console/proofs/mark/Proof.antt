@@ -19,8 +19,8 @@ byte-requires-3 c κs = search needs
 mark-requires : tie.Need-mark-requires
 mark-requires c κs = search needs
 
-keep-unit-requires : tie.Need-keep-unit-requires
-keep-unit-requires c κs = search needs
+take-unit-requires : tie.Need-take-unit-requires
+take-unit-requires c κs = search needs
 
 same-length : tie.Need-same-length
 same-length c = search needs
@@ -31,7 +31,7 @@ returns c =
     let third = made .before in
     let s = c .before .before .before .before .before .before .before .before .before .before .args .session in
     edited-as s (made .mark .ensures ∙ by-three (markOf (s .unit)) (third .before .before .byte .ensures) (third .before .byte2 .ensures) (third .byte3 .ensures))
-    (c .before .before .keep-unit .ensures)
+    (c .before .before .take-unit .ensures)
 
 pub mark-spec : {M : Type 1} → statement M
 mark-spec =
@@ -41,6 +41,6 @@ mark-spec =
     byte-requires-2
     byte-requires-3
     mark-requires
-    keep-unit-requires
+    take-unit-requires
     same-length
     returns)

@@ -12,16 +12,19 @@ slice-aggregate-search c = search needs
 search-requires : tie.Need-search-requires
 search-requires c κs = search needs
 
-keep-unit-requires : tie.Need-keep-unit-requires
-keep-unit-requires c κs = search needs
+put-answer-requires : tie.Need-put-answer-requires
+put-answer-requires c κs = search needs
 
 same-length : tie.Need-same-length
 same-length c = search needs
 
 returns : tie.Need-returns
-returns c = sought (replicate 16000 0) refl (c .before .before .before .before .before .search .ensures) (c .before .before .keep-unit .ensures)
+returns c =
+    let told = c .before .before .before .before in
+    let found = told .before .before .before in
+    sought (found .before .before .before .before .args .session) (replicate 16000 0) refl (found .search .ensures) (told .put-answer .ensures)
 
 pub seek-spec : {M : Type 1} → statement M
 seek-spec =
     tie.close
-    (tie.spec slice-aggregate-search search-requires keep-unit-requires same-length returns)
+    (tie.spec slice-aggregate-search search-requires put-answer-requires same-length returns)

@@ -1,8 +1,8 @@
--- `console::tell` meets its contract: at most 257 latencies are handed on. Assumes nothing.
+-- `console::tell` meets its contract. Assumes nothing.
 use mathlib.Core.Path.{refl}
 use lib.ListN.{replicate}
 use Rattle.command.specs.Lines.{latenciesIn}
-use Rattle.console.specs.Inner.{questionOf}
+use Rattle.console.specs.Turns.{questionOf}
 use Rattle.console.proofs.JudgeLaws.{front-length, gives-told}
 use borrow.Author.Needs.{needs}
 use Rattle.console.proofs.tell.Statement.{statement}
@@ -37,7 +37,7 @@ returns c =
     let asked = read .before .before in
     let a = asked .before .before .before .args in
     gives-told (latenciesIn (a .line .now)) (replicate 257 0) (read .latencies .ensures .0) (read .latencies .ensures .1) (asked .question-of .result)
-    (questionOf (a .request .verb) (a .request)) (a .line .now) (a .out .now) (asked .question-of .ensures) refl refl (c .before .before .ask .ensures)
+    (questionOf (a .ask) (a .request)) (a .line .now) (a .out .now) (asked .question-of .ensures) refl refl (c .before .before .ask .ensures)
 
 pub tell-spec : {M : Type 1} → statement M
 tell-spec =

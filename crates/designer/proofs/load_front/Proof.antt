@@ -8,6 +8,9 @@ use Rattle.designer.proofs.load_front.Tie as tie
 returns : tie.Need-returns
 returns c = search needs
 
+buffer-requires : tie.Need-buffer-requires
+buffer-requires c κs = search needs
+
 slice-aggregate-load : tie.Need-slice-aggregate-load
 slice-aggregate-load c = simp length-take (omega arith)
 
@@ -31,6 +34,7 @@ load-front-spec =
     tie.close
     (tie.spec
     returns
+    buffer-requires
     slice-aggregate-load
     slice-aggregate-load-2
     load-requires

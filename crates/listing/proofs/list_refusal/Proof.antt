@@ -13,8 +13,8 @@ slice-aggregate-put-line c = search needs
 slice-aggregate-put-line-2 : tie.Need-slice-aggregate-put-line-2
 slice-aggregate-put-line-2 c = search needs
 
-number-requires : tie.Need-number-requires
-number-requires c κs = search needs
+number-in-requires : tie.Need-number-in-requires
+number-in-requires c κs = search needs
 
 cast-put-line : tie.Need-cast-put-line
 cast-put-line c = search needs
@@ -38,7 +38,7 @@ returns : tie.Need-returns
 returns c =
     let h = c .before .before in
     let l = h .before .before .before .before in
-    printed-as (put-front (number-line (ascii "refused ") (l .before .number .ensures) (l .put-line .ensures))) (h .hand-out .ensures)
+    printed-as (put-front (number-line (ascii "refused ") (l .before .number-in .ensures) (l .put-line .ensures))) (h .hand-out .ensures)
 
 pub list-refusal-spec : {M : Type 1} → statement M
 list-refusal-spec =
@@ -46,7 +46,7 @@ list-refusal-spec =
     (tie.spec
     slice-aggregate-put-line
     slice-aggregate-put-line-2
-    number-requires
+    number-in-requires
     cast-put-line
     put-line-requires
     array-share-prefix-line

@@ -12,8 +12,8 @@ slice-aggregate-put c = search needs
 put-requires : tie.Need-put-requires
 put-requires c κs = search needs
 
-number-requires : tie.Need-number-requires
-number-requires c κs = search needs
+number-in-requires : tie.Need-number-in-requires
+number-in-requires c κs = search needs
 
 cast-put-number : tie.Need-cast-put-number
 cast-put-number c = search needs
@@ -36,7 +36,7 @@ returns c =
     let word = value .before .before .before .before .before in
     let start = word .before .before .before .before in
     let room = start .pre in
-    refused-wrote (start .args .why) (value .before .number .ensures) room (value-wrote (ascii "refused ") _ (omega arith) (word .put .ensures) (value .put-number .ensures))
+    refused-wrote (start .args .why) (value .before .number-in .ensures) room (value-wrote (ascii "refused ") _ (omega arith) (word .put .ensures) (value .put-number .ensures))
     (c .before .before .put2 .ensures)
 
 pub write-refused-spec : {M : Type 1} → statement M
@@ -45,7 +45,7 @@ write-refused-spec =
     (tie.spec
     slice-aggregate-put
     put-requires
-    number-requires
+    number-in-requires
     cast-put-number
     put-number-requires
     slice-aggregate-put-2

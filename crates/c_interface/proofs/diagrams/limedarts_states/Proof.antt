@@ -1,34 +1,16 @@
--- `c_interface::diagrams::limedarts_states` meets its contract: the answer, the words and the count. Assumes nothing.
-use Rattle.c_interface.proofs.CycleLaws.{list-handed}
+-- `c_interface::diagrams::limedarts_states` meets its contract, which is that of `file_questions::states`. Assumes nothing.
 use borrow.Author.Needs.{needs}
 use Rattle.c_interface.proofs.diagrams.limedarts_states.Statement.{statement}
 use Rattle.c_interface.proofs.diagrams.limedarts_states.Tie as tie
 
-read-requires : tie.Need-read-requires
-read-requires c κs = search needs
-
-byte-requires : tie.Need-byte-requires
-byte-requires c κs = search needs
-
 states-requires : tie.Need-states-requires
 states-requires c κs = search needs
-
-hand-out-requires : tie.Need-hand-out-requires
-hand-out-requires c κs = search needs
 
 same-length : tie.Need-same-length
 same-length c = search needs
 
 returns : tie.Need-returns
-returns c =
-    let made = c .before .before .before .before in
-    let byte = made .before .before in
-    let back = byte .before in
-    let a = back .before .before .before .args in
-    list-handed (a .file .now) (a .tag) (a .out .now) (a .count .now) (back .read .result) (byte .byte .result) (made .states .result) _ _ _ (back .read .ensures)
-    (byte .byte .ensures) (made .states .ensures) (c .hand-out .ensures)
+returns c = c .before .before .states .ensures
 
 pub limedarts-states-spec : {M : Type 1} → statement M
-limedarts-states-spec =
-    tie.close
-    (tie.spec read-requires byte-requires states-requires hand-out-requires same-length returns)
+limedarts-states-spec = tie.close (tie.spec states-requires same-length returns)

@@ -13,8 +13,11 @@ enum-known-listed c = search needs
 enum-known-listed-2 : tie.Need-enum-known-listed-2
 enum-known-listed-2 c = search needs
 
-number-requires : tie.Need-number-requires
-number-requires c κs = search needs
+number-in-requires : tie.Need-number-in-requires
+number-in-requires c κs = search needs
+
+cast-result : tie.Need-cast-result
+cast-result c = search needs
 
 same-length : tie.Need-same-length
 same-length c = search needs
@@ -29,7 +32,7 @@ returns-2 : tie.Need-returns-2
 returns-2 c =
     let k = c .before .before in
     let l = k .before .before .before .before in
-    listing-refused (l .list-file .ensures) (k .listed2 .given .1) (c .number .ensures)
+    listing-refused (l .list-file .ensures) (k .listed2 .given .1) (c .number-in .ensures)
 
 pub limedarts-listing-spec : {M : Type 1} → statement M
 limedarts-listing-spec =
@@ -38,7 +41,8 @@ limedarts-listing-spec =
     list-file-requires
     enum-known-listed
     enum-known-listed-2
-    number-requires
+    number-in-requires
+    cast-result
     same-length
     returns
     same-length-2

@@ -1,49 +1,16 @@
--- `c_interface::marks::limedarts_unmark` meets its contract: a refused file is passed on, and the edit of an accepted one is written over it. Assumes nothing.
-use Rattle.c_interface.proofs.WriteLaws.{clears, edit-ends}
+-- `c_interface::marks::limedarts_unmark` meets its contract, which is that of `file_edits::unmark`. Assumes nothing.
 use borrow.Author.Needs.{needs}
 use Rattle.c_interface.proofs.marks.limedarts_unmark.Statement.{statement}
 use Rattle.c_interface.proofs.marks.limedarts_unmark.Tie as tie
 
-read-requires : tie.Need-read-requires
-read-requires c κs = search needs
-
-byte-requires : tie.Need-byte-requires
-byte-requires c κs = search needs
-
-byte-requires-2 : tie.Need-byte-requires-2
-byte-requires-2 c κs = search needs
-
-byte-requires-3 : tie.Need-byte-requires-3
-byte-requires-3 c κs = search needs
-
 unmark-requires : tie.Need-unmark-requires
 unmark-requires c κs = search needs
-
-write-back-requires : tie.Need-write-back-requires
-write-back-requires c κs = search needs
 
 same-length : tie.Need-same-length
 same-length c = search needs
 
 returns : tie.Need-returns
-returns c =
-    let w = c .before .before in
-    let m = w .before .before in
-    let z = m .before in
-    let y = z .before in
-    let x = y .before in
-    let r = x .before in
-    edit-ends clears _ _ _ _ (r .read .ensures) (x .byte .ensures) (y .byte2 .ensures) (z .byte3 .ensures) (m .unmark .ensures) (w .write-back .ensures)
+returns c = c .before .before .unmark .ensures
 
 pub limedarts-unmark-spec : {M : Type 1} → statement M
-limedarts-unmark-spec =
-    tie.close
-    (tie.spec
-    read-requires
-    byte-requires
-    byte-requires-2
-    byte-requires-3
-    unmark-requires
-    write-back-requires
-    same-length
-    returns)
+limedarts-unmark-spec = tie.close (tie.spec unmark-requires same-length returns)

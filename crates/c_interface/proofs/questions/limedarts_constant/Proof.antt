@@ -1,43 +1,13 @@
--- `c_interface::questions::limedarts_constant` meets its contract: a refused file is passed on, and an accepted one's latency is handed out. Assumes nothing.
-use mathlib.Core.Path.{ap, _∙_}
-use Rattle.unit.specs.Calls.{tagAnswer}
-use Rattle.collision.specs.Vector.{constantOf}
-use Rattle.collision.specs.Answers.{constantAnswer}
-use Rattle.c_interface.specs.Codes.{narrow}
-use Rattle.c_interface.specs.Calls.{tagRefusal}
-use Rattle.c_interface.proofs.ThenLaws.{number-handed}
+-- `c_interface::questions::limedarts_constant` meets its contract, which is that of `file_measures::constant`. Assumes nothing.
 use borrow.Author.Needs.{needs}
 use Rattle.c_interface.proofs.questions.limedarts_constant.Statement.{statement}
 use Rattle.c_interface.proofs.questions.limedarts_constant.Tie as tie
 
-read-requires : tie.Need-read-requires
-read-requires c κs = search needs
-
-byte-requires : tie.Need-byte-requires
-byte-requires c κs = search needs
-
 constant-requires : tie.Need-constant-requires
 constant-requires c κs = search needs
 
-hand-out-requires : tie.Need-hand-out-requires
-hand-out-requires c κs = search needs
-
 returns : tie.Need-returns
-unfolding tagRefusal constantAnswer
-returns c =
-    let v = c .before .before in
-    let b = v .before in
-    let r = b .before in
-    let tag = narrow (r .before .before .args .tag) in
-    number-handed _ _ (r .read .ensures) (λ u. tagAnswer u tag) (λ T. constantOf T tag) _
-    (v .constant .ensures ∙ ap (constantAnswer (r .read .result .unit)) (b .byte .ensures)) (c .hand-out .ensures)
+returns c = c .constant .ensures
 
 pub limedarts-constant-spec : {M : Type 1} → statement M
-limedarts-constant-spec =
-    tie.close
-    (tie.spec
-    read-requires
-    byte-requires
-    constant-requires
-    hand-out-requires
-    returns)
+limedarts-constant-spec = tie.close (tie.spec constant-requires returns)

@@ -2,30 +2,30 @@
 use mathlib.Core.Path.{_∙_}
 use Prim.Native.Nat.{_-_}
 use native.Mathlib.Omega.{arith}
+use borrow.Author.Needs.{needs}
 use lib.ListN.{length}
 use Rattle.command.proofs.WordLaws.{word-inside}
-use Rattle.command.proofs.FillLaws.{Filled, fill-start, fill-length, fill-more, fill-end, fill-full}
-use borrow.Author.Needs.{needs}
+use Rattle.command.proofs.FillLaws.{Filled, fill-start, fill-length, fill-more, fill-on, fill-end, fill-full}
 use Rattle.command.proofs.scan.latencies_after.Statement.{statement}
 use Rattle.command.proofs.scan.latencies_after.Tie as tie
 
 abbrev Inv-loop : tie.InvT-loop
-Inv-loop line from cycle₀ count₀ at₀ cycle count at = Filled line from cycle₀ cycle count at
+Inv-loop text from cycle₀ count₀ at₀ cycle count at = Filled text from cycle₀ cycle count at
 
 abbrev μ-loop : tie.MeasureT-loop
-μ-loop line from cycle₀ count₀ at₀ cycle count at = length line - at
+μ-loop text from cycle₀ count₀ at₀ cycle count at = length text - at
+
+word-start-requires : tie.Need-word-start-requires Inv-loop μ-loop
+word-start-requires c κs = search needs
 
 loop-holds : tie.Need-loop-holds Inv-loop μ-loop
-loop-holds c = fill-start _ _ _ (c .before .before .pre)
+loop-holds c = fill-start _ (c .word-start .ensures)
 
 same-length : tie.Need-same-length Inv-loop μ-loop
 same-length c = fill-length (c .before .before .loop .inv)
 
 returns : tie.Need-returns Inv-loop μ-loop
 returns c = let l = c .before .before in fill-full (l .loop .inv) (c .if1 .taken ∙ fill-length (l .loop .inv))
-
-add-start : tie.Need-add-start Inv-loop μ-loop
-add-start c = search needs
 
 word-end-requires : tie.Need-word-end-requires Inv-loop μ-loop
 word-end-requires c κs = search needs
@@ -48,11 +48,14 @@ slice-write-cycle c = let f = c .before .before .before .before .before .loop .i
 add-count : tie.Need-add-count Inv-loop μ-loop
 add-count c = search needs
 
+word-start-requires-2 : tie.Need-word-start-requires-2 Inv-loop μ-loop
+word-start-requires-2 c κs = word-inside _ _ _ (c .before .before .word-end .ensures) (omega arith)
+
 loop-less : tie.Need-loop-less Inv-loop μ-loop
-loop-less c = omega (arith, c .before .before .word-end .ensures)
+loop-less c = let w = c .before in let e = w .before .before in let l = e .before .before in omega (arith, fill-on _ (l .before .loop .inv) (l .loop-test .taken) (e .word-end .ensures) (c .word-start2 .ensures))
 
 loop-again : tie.Need-loop-again Inv-loop μ-loop
-loop-again c = let e = c .before .before in let i = e .before in let l = i .before in let f = l .before .loop .inv in fill-more _ _ f (l .loop-test .taken) (omega (arith, fill-length f, f .room, i .if1 .left)) (e .word-end .ensures) (c .latency-of .ensures)
+loop-again c = let w = c .before in let e = w .before .before in let i = e .before in let l = i .before in let f = l .before .loop .inv in fill-more _ _ f (l .loop-test .taken) (omega (arith, fill-length f, f .room, i .if1 .left)) (e .word-end .ensures) (w .latency-of .ensures) (c .word-start2 .ensures)
 
 same-length-2 : tie.Need-same-length-2 Inv-loop μ-loop
 same-length-2 c = fill-length (c .before .loop .inv)
@@ -66,10 +69,10 @@ latencies-after-spec =
     (tie.spec
     Inv-loop
     μ-loop
+    word-start-requires
     loop-holds
     same-length
     returns
-    add-start
     word-end-requires
     sub-latency-of
     part-latency-of-start
@@ -77,6 +80,7 @@ latencies-after-spec =
     latency-of-requires
     slice-write-cycle
     add-count
+    word-start-requires-2
     loop-less
     loop-again
     same-length-2

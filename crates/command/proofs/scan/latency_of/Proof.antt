@@ -1,9 +1,8 @@
 -- `command::scan::latency_of` meets its contract. Assumes nothing.
 use mathlib.Core.Path.{_∙_, sym, ap}
-use borrow.Author.Needs.{needs}
-use borrow.Author.Tests.{lt-ltb, le-ltb}
-use Rattle.command.specs.Lines.{narrow}
+use Rattle.words.specs.Bytes.{narrow}
 use Rattle.command.proofs.NumberLaws.{number-told, other-told}
+use borrow.Author.Needs.{needs}
 use Rattle.command.proofs.scan.latency_of.Statement.{statement}
 use Rattle.command.proofs.scan.latency_of.Tie as tie
 
@@ -19,23 +18,13 @@ enum-told c = search needs
 returns : tie.Need-returns
 returns c = ap narrow (other-told _ (sym (c .enum-told .given .1) ∙ c .before .before .number-of .ensures) .1)
 
-cast-result : tie.Need-cast-result
-cast-result c = search needs
+byte-requires : tie.Need-byte-requires
+byte-requires c κs = search needs
 
 returns-2 : tie.Need-returns-2
-returns-2 c = let n = c .before .before in rw (← number-told _ _ (sym (n .number .given .1) ∙ n .before .before .number-of .ensures) .1, lt-ltb _ _ (c .if1 .taken))
-
-returns-3 : tie.Need-returns-3
-returns-3 c = let n = c .before .before in rw (← number-told _ _ (sym (n .number .given .1) ∙ n .before .before .number-of .ensures) .1, le-ltb _ _ (c .if1 .left))
+returns-2 c = let n = c .before .before in c .byte .ensures ∙ ap narrow (number-told _ _ (sym (n .number .given .1) ∙ n .before .before .number-of .ensures) .1)
 
 pub latency-of-spec : {M : Type 1} → statement M
 latency-of-spec =
     tie.close
-    (tie.spec
-    number-of-requires
-    enum-known-number
-    enum-told
-    returns
-    cast-result
-    returns-2
-    returns-3)
+    (tie.spec number-of-requires enum-known-number enum-told returns byte-requires returns-2)

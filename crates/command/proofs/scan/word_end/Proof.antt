@@ -1,27 +1,31 @@
 -- `command::scan::word_end` meets its contract. Assumes nothing.
-use mathlib.Core.Path.{_≡_, refl}
+use mathlib.Core.Path.{_≡_, refl, sym, _∙_}
 use Prim.Native.Nat.{_+_, _-_, _≤_}
 use native.Mathlib.Omega.{arith}
 use lib.ListN.{length}
+use borrow.Author.Needs.{needs}
 use Rattle.command.specs.Inner.{wordFrom}
-use Rattle.command.proofs.WordLaws.{word-more, word-end-none, word-end-space}
+use Rattle.command.proofs.WordLaws.{word-more, word-end-none, word-end-blank}
 use Rattle.command.proofs.scan.word_end.Statement.{statement}
 use Rattle.command.proofs.scan.word_end.Tie as tie
 
 abbrev Inv-loop : tie.InvT-loop
-Inv-loop line from at₀ at = (at ≤ length line) × (at + length (wordFrom line at) ≡ from + length (wordFrom line from))
+Inv-loop text from at₀ at = (at ≤ length text) × (at + length (wordFrom text at) ≡ from + length (wordFrom text from))
 
 abbrev μ-loop : tie.MeasureT-loop
-μ-loop line from at₀ at = length line - at
+μ-loop text from at₀ at = length text - at
 
 loop-holds : tie.Need-loop-holds Inv-loop μ-loop
-loop-holds c = (c .pre, refl)
+loop-holds c = (c .before .pre, refl)
 
-shared-slice-read-if1 : tie.Need-shared-slice-read-if1 Inv-loop μ-loop
-shared-slice-read-if1 c = omega arith
+shared-slice-read-is-blank : tie.Need-shared-slice-read-is-blank Inv-loop μ-loop
+shared-slice-read-is-blank c = omega arith
+
+is-blank-requires : tie.Need-is-blank-requires Inv-loop μ-loop
+is-blank-requires c κs = search needs
 
 returns : tie.Need-returns Inv-loop μ-loop
-returns c = let l = c .before .before .before in word-end-space _ _ _ (c .before .before .loop-test .taken) (c .if1 .taken) (l .loop .inv .1)
+returns c = let b = c .before in let l = b .before .before in word-end-blank _ _ _ (l .loop-test .taken) (sym (b .is-blank .ensures) ∙ c .if1 .taken) (l .before .loop .inv .1)
 
 add-at : tie.Need-add-at Inv-loop μ-loop
 add-at c = omega arith
@@ -30,7 +34,7 @@ loop-less : tie.Need-loop-less Inv-loop μ-loop
 loop-less c = omega arith
 
 loop-again : tie.Need-loop-again Inv-loop μ-loop
-loop-again c = let l = c .before .before .before in (omega arith, word-more _ _ _ (c .before .before .loop-test .taken) (c .if1 .left) (l .loop .inv .1))
+loop-again c = let b = c .before in let l = b .before .before in (omega arith, word-more _ _ _ (l .loop-test .taken) (sym (b .is-blank .ensures) ∙ c .if1 .left) (l .before .loop .inv .1))
 
 returns-2 : tie.Need-returns-2 Inv-loop μ-loop
 returns-2 c = word-end-none _ _ _ (c .loop-test .left) (c .before .loop .inv .1)
@@ -42,7 +46,8 @@ word-end-spec =
     Inv-loop
     μ-loop
     loop-holds
-    shared-slice-read-if1
+    shared-slice-read-is-blank
+    is-blank-requires
     returns
     add-at
     loop-less

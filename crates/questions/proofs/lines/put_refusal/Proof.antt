@@ -11,8 +11,8 @@ use Rattle.questions.proofs.lines.put_refusal.Tie as tie
 slice-aggregate-put-value : tie.Need-slice-aggregate-put-value
 slice-aggregate-put-value c = search needs
 
-number-requires : tie.Need-number-requires
-number-requires c κs = search needs
+number-in-requires : tie.Need-number-in-requires
+number-in-requires c κs = search needs
 
 cast-put-value : tie.Need-cast-put-value
 cast-put-value c = search needs
@@ -26,14 +26,14 @@ same-length c = search needs
 returns : tie.Need-returns
 returns c =
     let v = c .before .before in
-    wrote-as (v .put-value .ensures) (ap (λ n. ascii "refused " ++ decimal n ++ newline) (v .before .number .ensures))
+    wrote-as (v .put-value .ensures) (ap (λ n. ascii "refused " ++ decimal n ++ newline) (v .before .number-in .ensures))
 
 pub put-refusal-spec : {M : Type 1} → statement M
 put-refusal-spec =
     tie.close
     (tie.spec
     slice-aggregate-put-value
-    number-requires
+    number-in-requires
     cast-put-value
     put-value-requires
     same-length

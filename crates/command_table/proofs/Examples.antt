@@ -1,0 +1,25 @@
+-- Some names and usages, worked out by hand. Assumes nothing.
+use mathlib.Core.Path.{_≡_, refl}
+use Rattle.text.specs.Text.{ascii}
+use Rattle.command_table.specs.declared.Named.the-variants as Named
+use Rattle.command_table.specs.Commands.{rowAt, nameAt, usageAt, entryAt, same, among, commandOf}
+
+pub name-of-mark : nameAt 1 ≡ ascii "mark"
+unfolding nameAt rowAt
+name-of-mark = refl
+
+pub usage-of-judge : usageAt 12 ≡ ascii "judge Q L L .."
+unfolding usageAt rowAt
+usage-of-judge = refl
+
+pub mark-is-found : commandOf (ascii "mark") ≡ Named.Known (entryAt 1)
+unfolding commandOf among same nameAt rowAt
+mark-is-found = refl
+
+pub part-of-a-name : commandOf (ascii "mar") ≡ Named.Unknown
+unfolding commandOf among same nameAt rowAt
+part-of-a-name = refl
+
+pub capitals : commandOf (ascii "Mark") ≡ Named.Unknown
+unfolding commandOf among same nameAt rowAt
+capitals = refl

@@ -1,0 +1,3 @@
+mod Examples
+pub mod NameLaws
+pub mod TableLaws

@@ -1,0 +1,23 @@
+-- `command_table::form_of` meets its contract. Assumes nothing.
+use Rattle.command_table.proofs.NameLaws.{form-numbers, form-optional, form-cycle, form-file}
+use borrow.Author.Needs.{needs}
+use Rattle.command_table.proofs.form_of.Statement.{statement}
+use Rattle.command_table.proofs.form_of.Tie as tie
+
+returns : tie.Need-returns
+returns c = form-numbers _ (c .if1 .taken)
+
+cast-t5 : tie.Need-cast-t5
+cast-t5 c = search needs
+
+returns-2 : tie.Need-returns-2
+returns-2 c = form-optional _ (c .before .if1 .left) (c .if2 .taken)
+
+returns-3 : tie.Need-returns-3
+returns-3 c = form-cycle _ (c .if3 .taken)
+
+returns-4 : tie.Need-returns-4
+returns-4 c = form-file _ (c .before .if2 .left) (c .if3 .left)
+
+pub form-of-spec : {M : Type 1} → statement M
+form-of-spec = tie.close (tie.spec returns cast-t5 returns-2 returns-3 returns-4)

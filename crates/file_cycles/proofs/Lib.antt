@@ -1,0 +1,2 @@
+mod GreedyLaws
+mod SearchLaws

@@ -1,0 +1,2 @@
+mod VerdictLaws
+mod StatesLaws
