@@ -218,8 +218,12 @@ impl Bench {
             self.met.meet_if(sum_of(&latencies) > 255, "greedy cycle with a sum above 255");
             Cycle { sum: sum_of(&latencies), latencies }
         });
+        let question = || format!("greedy of {tag} with {work_length} words into {out_length} bytes");
         let seen = self.lender.cycle(Kind::Greedy, &facts.file, tag, work_length, out_length);
-        same(|| format!("greedy of {tag} with {work_length} words into {out_length} bytes"), expected, seen)
+        if let Ok(cycle) = &expected {
+            facts.check_bounds(tag, cycle, &mut self.yard, &mut self.met).map_err(|why| format!("{}: {why}", question()))?;
+        }
+        same(question, expected, seen)
     }
 
     pub fn search(&mut self, facts: &mut Facts, tag: u32, work_length: usize, out_length: usize) -> Result<Option<Cycle>, Difference> {
@@ -230,6 +234,7 @@ impl Bench {
             (Ok(()), Ok(Ok(cycle))) => {
                 let checked = facts.check_best(tag, &cycle, &mut self.yard, &mut self.met);
                 checked.map_err(|why| format!("{}: {why}", question()))?;
+                facts.check_bounds(tag, &cycle, &mut self.yard, &mut self.met).map_err(|why| format!("{}: {why}", question()))?;
                 let greedy = facts.diagram(tag, &mut self.yard).expect("a diagram").greedy();
                 let ahead = cycle.sum as usize * greedy.len() < sum_of(&greedy) as usize * cycle.latencies.len();
                 self.met.meet(if ahead { "best is better than greedy" } else { "best is greedy" });

@@ -68,6 +68,18 @@ impl Facts {
         function.diagram.get_or_insert_with(|| diagram(&vector, MOST_STATES).map(Rc::new)).clone()
     }
 
+    /// "l × K ≤ S ≤ (u + 1) × K", of the best and of the greedy cycle.
+    pub fn check_bounds(&mut self, tag: u32, cycle: &Cycle, yard: &mut Yard, met: &mut Met) -> Result<(), String> {
+        let (least, most) = (bound(&self.spots(tag)) as u64, upper(&self.vector(tag, yard)) as u64);
+        let (sum, count) = (cycle.sum as u64, cycle.latencies.len() as u64);
+        if sum < least * count || most * count < sum {
+            return Err(format!("{:?} with sum {sum} is not between the bounds {least} and {most}", cycle.latencies));
+        }
+        met.meet_if(sum == least * count, "average at the lower bound");
+        met.meet_if(sum == most * count, "average at the upper bound");
+        Ok(())
+    }
+
     /// "It finds a cycle of the diagram in which no state occurs twice and whose S / K is least. The cycle is given in the rotation that
     /// comes first"; "K and S are the cycle's own". For a tag with a diagram.
     pub fn check_best(&mut self, tag: u32, cycle: &Cycle, yard: &mut Yard, met: &mut Met) -> Result<(), String> {

@@ -1,5 +1,5 @@
-mod TestLaws
-mod TableLaws
+pub mod TestLaws
+pub mod TableLaws
 mod PotentialLaws
 mod CycleLaws
 mod DiagramLaws

@@ -5,7 +5,7 @@ use mathlib.Core.Bool.{Bool, true, false, cond, not}
 use mathlib.Core.List.{List, [], _∷_, _++_}
 use native.Mathlib.Omega.{arith}
 use lib.Dec.{eqb, leb}
-use lib.ListN.{length, getD, take, drop, replicate}
+use lib.ListN.{length, getD, take, drop, replicate, length-append, length-replicate}
 use lib.Seq.{take-append-seam, drop-at}
 use borrow.Author.Tests.{eq-eqb, ne-eqb}
 use Rattle.words.proofs.Tests.{cond-same}
@@ -148,6 +148,7 @@ found-kept u t q after k f =
       tag = refl;
       plan = λ ne. record {
         tag = refl;
+        long = length-append cycle (replicate (256 - length cycle) 0) ∙ omega (arith, length-replicate {A = ℕ} (256 - length cycle) 0, f .few);
         some = f .best .latencies .nonempty;
         few = f .few;
         sum = ap total (sym e);

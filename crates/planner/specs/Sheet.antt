@@ -123,9 +123,10 @@ fed t (k ∷ calls) = fed (next t k) calls
 abbrev pub told : ℕ → Reply
 told n = cond (eqb n 0) accepted (refused n)
 
--- a plan that the sheet owes: the cycle is its first K bytes, S is their sum, and the other bytes are 0
+-- a plan that the sheet owes: the cycle is its first K bytes of 256, S is their sum, and the other bytes are 0
 pub record Owed (t : Sheet) (p : Plan) : Type 0 where
   pub tag : p .tag ≡ t .owed
+  pub long : length (p .latencies) ≡ 256
   pub some : 1 ≤ p .count
   pub few : p .count ≤ 256
   pub sum : p .sum ≡ total (take (p .count) (p .latencies))

@@ -1,0 +1,3 @@
+pub mod SetLaws
+pub mod LowerLaws
+pub mod SegmentLaws
