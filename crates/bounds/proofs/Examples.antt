@@ -78,19 +78,18 @@ quick-outside b = let h = rw figure1-marks at (b .lower) in omega arith
 
 -- Replies
 
--- Fig. 1 marked and searched, and the plan of one latency 9
-abbrev marking : List Call
-marking =
-    Mark 1 1 1 ∷ Mark 1 1 9 ∷ Mark 1 2 2 ∷ Mark 1 2 3 ∷ Mark 1 2 8 ∷ Mark 1 3 4 ∷ Mark 1 4 5 ∷ Mark 1 4 6 ∷ Mark 1 5 7 ∷ Mark 1 5 8
-    ∷ Search 1 16000 ∷ []
+-- Fig. 1 marked, and searched, and the plan of one latency 9
+abbrev marks : List Call
+marks = Mark 1 1 1 ∷ Mark 1 1 9 ∷ Mark 1 2 2 ∷ Mark 1 2 3 ∷ Mark 1 2 8 ∷ Mark 1 3 4 ∷ Mark 1 4 5 ∷ Mark 1 4 6 ∷ Mark 1 5 7 ∷ Mark 1 5 8 ∷ []
+
+abbrev searched : List Call
+searched = marks ++ Search 1 16000 ∷ []
 
 abbrev slow : Plan
 slow = record { tag = 1; count = 1; sum = 9; latencies = 9 ∷ replicate 255 0 }
 
 abbrev sheet : Sheet
-sheet =
-    fed (start 1 5 9)
-    (Mark 1 1 1 ∷ Mark 1 1 9 ∷ Mark 1 2 2 ∷ Mark 1 2 3 ∷ Mark 1 2 8 ∷ Mark 1 3 4 ∷ Mark 1 4 5 ∷ Mark 1 4 6 ∷ Mark 1 5 7 ∷ Mark 1 5 8 ∷ [])
+sheet = fed (start 1 5 9) marks
 
 sheet-ones : onesOf (vectorWord (sheet .table) 1) ≡ 4
 unfolding fed spotNumber rowWord wordBelow collides someBelow countBelow
@@ -102,11 +101,11 @@ search-table t true = refl
 search-table t false = refl
 
 -- whatever is called after, the read that comes next never hands it out
-pub slow-never-handed : (rest : List Call) (replies : List Reply) → Run (freshOf 1 5 9 .unit) (marking ++ Read ∷ rest) replies
+pub slow-never-handed : (rest : List Call) (replies : List Reply) → Run (freshOf 1 5 9 .unit) (searched ++ Read ∷ rest) replies
     → getD replies 11 accepted ≡ handed slow → ⊥
 unfolding fed
 slow-never-handed rest replies x e =
-    let b = every-plan-at 1 5 9 refl marking Read rest replies x slow e in
+    let b = every-plan-at 1 5 9 refl searched Read rest replies x slow e in
     let same = search-table sheet (eqb (searchNumber sheet 1 16000) 0) in
     let h : 9 ≤ (onesOf (vectorWord (sheet .table) 1) + 1) * 1 = subst (λ (T : Table). InBounds 1 T 1 1 9) same b .upper in
     let z : onesOf (vectorWord (sheet .table) 1) ≡ 4 = sheet-ones in

@@ -1,4 +1,4 @@
--- The bounds on the average latency S / K of a function's cycles, with the least interval g (1 in every call of the base).
+-- The bounds on the average latency S / K of a function's cycles, with the least interval g (1 in every call).
 use Prim.Native.Nat.{ℕ, _+_, _*_, _≤_}
 use mathlib.Core.Path.{_≡_}
 use mathlib.Core.Bool.{true}
