@@ -50,7 +50,9 @@ uint32_t limedarts_vector(const uint8_t *file, size_t file_length, uint32_t tag,
 /* Row `tag` of the matrix of `other`: a 1 in column t where `tag` started t after `other` would collide. Refusals: the file's, 2. */
 uint32_t limedarts_matrix_row(const uint8_t *file, size_t file_length, uint32_t tag, uint32_t other, uint32_t *word);
 
-/* Bound, upper and constant latency. Refusals: the file's, 2. */
+/* Bound: the size of the largest set of whole numbers in which every two differ by a forbidden latency, 1 for a function without marks.
+ * Upper: the number of 1s in the collision vector, plus 1. The average latency of the best and of the greedy cycle lies between them.
+ * Constant: the least latency of which no multiple is forbidden. Refusals: the file's, 2. */
 uint32_t limedarts_bound(const uint8_t *file, size_t file_length, uint32_t tag, uint32_t *value);
 uint32_t limedarts_upper(const uint8_t *file, size_t file_length, uint32_t tag, uint32_t *value);
 uint32_t limedarts_constant(const uint8_t *file, size_t file_length, uint32_t tag, uint32_t *value);

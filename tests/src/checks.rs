@@ -124,8 +124,14 @@ impl Bench {
         same(|| format!("row {tag} of the matrix of {other}"), expected, seen)
     }
 
-    pub fn bound(&mut self, facts: &Facts, tag: u32) -> Checked {
-        let expected = facts.known(tag).map(|()| bound(&facts.spots(tag)));
+    pub fn bound(&mut self, facts: &mut Facts, tag: u32) -> Checked {
+        let expected = facts.known(tag).map(|()| {
+            let (bound, marks) = (facts.bound(tag, &mut self.yard), most_marks(&facts.spots(tag)));
+            self.met.meet_if(marks == 0, "bound of a function without marks");
+            self.met.meet_if(marks > 0 && bound == marks, "bound: the marks of a segment");
+            self.met.meet_if(marks > 0 && bound > marks, "bound: above the marks of every segment");
+            bound
+        });
         let seen = self.lender.bound(&facts.file, tag);
         same(|| format!("bound of {tag}"), expected, seen)
     }

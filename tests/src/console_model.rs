@@ -469,7 +469,7 @@ impl<S: Shelf> Console<S> {
         let function = self.book.function(unit, tag);
         let text = match name {
             "vector" => format!("vector {}", vector_text(&function.vector)),
-            "bound" => format!("bound {}", bound(&function.spots)),
+            "bound" => format!("bound {}", bound(&function.vector)),
             "upper" => format!("upper {}", upper(&function.vector)),
             "constant" => format!("constant {}", constant(&function.vector)),
             "row" => self.row(unit, tag, others[0])?,

@@ -14,6 +14,7 @@ struct Function {
     vector: Option<Rc<Vec<bool>>>,
     diagram: Option<Option<Rc<Diagram>>>,
     least: Option<(i64, i64)>,
+    bound: Option<u32>,
 }
 
 pub struct Facts {
@@ -68,9 +69,14 @@ impl Facts {
         function.diagram.get_or_insert_with(|| diagram(&vector, MOST_STATES).map(Rc::new)).clone()
     }
 
-    /// "l × K ≤ S ≤ (u + 1) × K", of the best and of the greedy cycle.
+    pub fn bound(&mut self, tag: u32, yard: &mut Yard) -> u32 {
+        let vector = self.vector(tag, yard);
+        *self.functions[tag as usize - 1].bound.get_or_insert_with(|| bound(&vector))
+    }
+
+    /// "l × K ≤ S ≤ (u + 1) × K", with Bound for l, of the best and of the greedy cycle.
     pub fn check_bounds(&mut self, tag: u32, cycle: &Cycle, yard: &mut Yard, met: &mut Met) -> Result<(), String> {
-        let (least, most) = (bound(&self.spots(tag)) as u64, upper(&self.vector(tag, yard)) as u64);
+        let (least, most) = (self.bound(tag, yard) as u64, upper(&self.vector(tag, yard)) as u64);
         let (sum, count) = (cycle.sum as u64, cycle.latencies.len() as u64);
         if sum < least * count || most * count < sum {
             return Err(format!("{:?} with sum {sum} is not between the bounds {least} and {most}", cycle.latencies));

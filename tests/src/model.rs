@@ -428,13 +428,53 @@ pub fn constant(vector: &[bool]) -> u32 {
     latency as u32
 }
 
-/// "Bound: the largest number of marks the function has in one segment."
-pub fn bound(spots: &[Spot]) -> u32 {
+/// The largest number of marks that the function has in one segment.
+pub fn most_marks(spots: &[Spot]) -> u32 {
     let mut counts: HashMap<u32, u32> = HashMap::new();
     for &(segment, _) in spots {
         *counts.entry(segment).or_insert(0) += 1;
     }
     counts.values().copied().max().unwrap_or(0)
+}
+
+/// "Bound becomes the size of the largest set of whole numbers in which every two differ by a forbidden latency; a set of one always counts."
+/// Moved to begin with 0, such a set has forbidden latencies for its other numbers. These stand in two halves: every set that the lower half
+/// allows is completed by the largest set among those of the upper half that go with all of it.
+pub fn bound(vector: &[bool]) -> u32 {
+    let latencies: Vec<usize> = (1..=vector.len()).filter(|latency| vector[latency - 1]).collect();
+    let (lower, upper) = latencies.split_at(latencies.len() / 2);
+    let most = largest_among(vector, upper);
+    let (in_lower, in_upper) = (go_with(vector, lower, lower), go_with(vector, lower, upper));
+    // for a choice of the lower half, the upper half's numbers that go with all of it; none where two of the choice don't go together
+    let mut left = vec![Some(most.len() - 1); 1 << lower.len()];
+    let mut largest = 0;
+    for choice in 0..left.len() {
+        if choice > 0 {
+            let (first, rest) = (choice.trailing_zeros() as usize, choice & (choice - 1));
+            left[choice] = left[rest].filter(|_| rest & in_lower[first] == rest).map(|numbers| numbers & in_upper[first]);
+        }
+        if let Some(numbers) = left[choice] {
+            largest = largest.max(choice.count_ones() + most[numbers]);
+        }
+    }
+    largest + 1
+}
+
+/// For each of some numbers the places of those of a half, as a word, that differ from it by a forbidden latency.
+fn go_with(vector: &[bool], numbers: &[usize], half: &[usize]) -> Vec<usize> {
+    let differ = |one: usize, two: usize| one != two && vector[one.abs_diff(two) - 1];
+    numbers.iter().map(|&one| (0..half.len()).filter(|&place| differ(one, half[place])).map(|place| 1 << place).sum()).collect()
+}
+
+/// For each choice of a half's numbers, a word of their places, the size of the largest set among them in which every two go together.
+fn largest_among(vector: &[bool], half: &[usize]) -> Vec<u32> {
+    let together = go_with(vector, half, half);
+    let mut most = vec![0; 1 << half.len()];
+    for choice in 1..most.len() {
+        let (first, rest) = (choice.trailing_zeros() as usize, choice & (choice - 1));
+        most[choice] = most[rest].max(1 + most[rest & together[first]]);
+    }
+    most
 }
 
 /// "Upper: the number of 1s in the collision vector, plus 1."
@@ -642,7 +682,7 @@ pub fn listing(file: &Reply<Unit>, yard: &mut Yard, mut greedy_of: impl FnMut(u3
     for tag in 1..=unit.functions {
         let spots = unit.spots(tag);
         let vector = collision_vector(&spots, yard);
-        let head = format!("function {tag}\nvector {}\nbound {} upper {}\n", vector_text(&vector), bound(&spots), upper(&vector));
+        let head = format!("function {tag}\nvector {}\nbound {} upper {}\n", vector_text(&vector), bound(&vector), upper(&vector));
         let tail = format!("constant {}\n", constant(&vector));
         match greedy_of(tag) {
             Some((states, greedy)) => {

@@ -105,7 +105,7 @@ fn answers(unit: &Unit, tag: u32) -> Answers {
     let diagram = diagram(&vector, MOST_STATES).expect("a diagram within the limit");
     Answers {
         vector: vector_text(&vector),
-        bound: bound(&spots),
+        bound: bound(&vector),
         upper: upper(&vector),
         states: diagram.states.len(),
         greedy: diagram.greedy(),
@@ -176,11 +176,11 @@ fn papers_tables() -> Checked {
 
     let told = answers(&three_segments(), 1);
     equal("three segments best", told.best.contains(&vec![1, 4, 4]), true)?;
-    equal("three segments bound", told.bound, 2)?;
+    equal("three segments bound", (told.bound, most_marks(&three_segments().spots(1))), (3, 2))?;
 
     let told = answers(&one_segment(&[]), 1);
     equal("no marks vector", told.vector.as_str(), "-")?;
-    equal("no marks", (told.bound, told.upper, told.states, told.constant), (0, 1, 1, 1))?;
+    equal("no marks", (told.bound, told.upper, told.states, told.constant), (1, 1, 1, 1))?;
     equal("no marks best", (told.best, told.greedy), (vec![vec![1]], vec![1]))?;
     equal("1 2 best", answers(&one_segment(&[1, 2]), 1).best, vec![vec![2]])?;
 
@@ -216,6 +216,17 @@ fn papers_tables() -> Checked {
     equal("byte 3", decode(&[1, 1, 1, 1, 6, 0, 2, 0, 0, 0]), Err(12))?;
     equal("offset before mark", decode(&[1, 1, 1, 0, 7, 0, 2, 0, 0, 0]), Err(12))?;
     equal("mark beyond the columns", decode(&[1, 1, 1, 0, 6, 0, 2, 0, 0, 0]), Err(13))?;
+    Ok(())
+}
+
+/// The halves find the bound that trying every set of numbers finds, for every vector of up to `most` columns.
+fn bounds(most: usize) -> Checked {
+    for word in 0..1u32 << most {
+        let vector: Vec<bool> = (0..32 - word.leading_zeros()).map(|place| word >> place & 1 == 1).collect();
+        let goes = |set: u32| (0..most).all(|one| (one + 1..=most).all(|two| set >> one & set >> two & 1 == 0 || word >> (two - one - 1) & 1 == 1));
+        let largest = (1..2u32 << most).filter(|set| goes(*set)).map(u32::count_ones).max().unwrap_or(0);
+        equal(&format!("bound of {}", vector_text(&vector)), bound(&vector), largest)?;
+    }
     Ok(())
 }
 
@@ -274,10 +285,11 @@ fn averages(unit: &Unit, yard: &mut Yard) -> Checked {
         let (sum, count) = diagram.least_average();
         let greedy = diagram.greedy();
         let (greedy_sum, greedy_count) = (sum_of(&greedy) as i64, greedy.len() as i64);
-        let (least, most) = (bound(&spots) as i64, upper(&vector) as i64);
+        let (marks, least, most) = (most_marks(&spots) as i64, bound(&vector) as i64, upper(&vector) as i64);
         let holds = diagram.nothing_below(sum, count)
             && !diagram.nothing_below(sum * 1000 + 1, count * 1000)
             && greedy_sum * count >= sum * greedy_count
+            && marks <= least
             && least * count <= sum
             && greedy_sum <= most * greedy_count
             && diagram.has_cycle(&greedy)
@@ -358,6 +370,7 @@ fn lists(case: u64, yard: &mut Yard, met: &mut Met) -> Checked {
 /// Everything above; the number of random units tried.
 pub fn run() -> Result<u64, String> {
     papers_tables()?;
+    bounds(10)?;
     let yard = &mut Yard::new();
     let met = &mut Met::default();
     let cases = 1_000;

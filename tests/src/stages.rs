@@ -132,10 +132,10 @@ fn file_bits(bench: &mut Bench) -> Checked {
         for value in 0..=255 {
             let mut other = file.clone();
             other[place] = value;
-            let facts = Facts::of_file(other, 0);
+            let mut facts = Facts::of_file(other, 0);
             bench.meet_file(&facts);
             bench.event(&facts, &[1, 2, 3, 4], None)?;
-            bench.bound(&facts, 2)?;
+            bench.bound(&mut facts, 2)?;
         }
     }
     // the largest file, nothing marked: each bit of it
@@ -143,10 +143,10 @@ fn file_bits(bench: &mut Bench) -> Checked {
     for bit in 0..8 * file.len() {
         let mut other = file.clone();
         other[bit / 8] ^= 1 << (bit % 8);
-        let facts = Facts::of_file(other, 0);
+        let mut facts = Facts::of_file(other, 0);
         bench.event(&facts, &[1, 2, 3, 4], None)?;
         for tag in 1..=4 {
-            bench.bound(&facts, tag)?;
+            bench.bound(&mut facts, tag)?;
         }
     }
     Ok(())

@@ -58,7 +58,7 @@ pub const ALLOWED: [(Call, &str, &[u32]); 20] = [
 const NUMBERS: [u32; 14] = [0, 1, 2, 3, 4, 5, 6, 7, 8, 9, 10, 11, 12, 13];
 
 /// Special cases that a run must have met.
-pub const WANTED: [&str; 78] = [
+pub const WANTED: [&str; 81] = [
     "file: fewer than 4 bytes",
     "file: functions outside 1 to 4",
     "file: segments outside 1 to 16",
@@ -93,6 +93,9 @@ pub const WANTED: [&str; 78] = [
     "257 states",
     "best is better than greedy",
     "best is greedy",
+    "bound of a function without marks",
+    "bound: the marks of a segment",
+    "bound: above the marks of every segment",
     "average at the lower bound",
     "average at the upper bound",
     "best of two or more functions",

@@ -15,7 +15,7 @@ use Rattle.unit.specs.Table.{Table}
 use Rattle.unit.specs.Unit.{marked}
 use Rattle.unit.specs.Calls.{check, andThen, tagAnswer}
 use Rattle.collision.specs.Pipeline.{Cycle, total, NeverCollides}
-use Rattle.collision.specs.Vector.{vectorWord, upperOf}
+use Rattle.collision.specs.Vector.{vectorWord, marksOf, upperOf}
 use Rattle.collision.specs.Meaning.{Bounded}
 use Rattle.collision.proofs.VectorLaws.{marked-bounded, row-lt}
 use Rattle.diagram.specs.Diagram.{width, longest}
@@ -26,8 +26,8 @@ use Rattle.cycles.specs.declared.Counted.{Counted}
 use Rattle.cycles.specs.declared.GreedyAnswer.the-variants as GreedyAnswer
 use Rattle.cycles.specs.Greedy.{greedyOf, greedyRefusal, counting, greedyAnswer}
 use Rattle.cycles.proofs.GreedyLaws.{greedy-cycle, greedy-never}
-use Rattle.clique.proofs.LowerLaws.{per-turn}
-use Rattle.clique.proofs.SegmentLaws.{lower-marks}
+use Rattle.clique.proofs.LowerLaws.{per-turn, lower-bound}
+use Rattle.clique.proofs.SegmentLaws.{marks-most}
 use Rattle.planner.specs.Plans.{Best}
 use Rattle.bounds.specs.Bounds.{onesOf, InBounds, EveryGreedy}
 use Rattle.bounds.proofs.UpperLaws.{upper-greedy, eagerly, eagerly-length, rival-cycle, rival-never, rival-total}
@@ -64,7 +64,7 @@ module _ (T : Table) (b : Bounded T) (q g : ℕ) (pos : 1 ≤ g) where
 
   pub best-bounds : (l : List ℕ) → Best g T q l → InBounds g T q (length l) (total l)
   best-bounds l best = record {
-    lower = lower-marks T b q g l pos (best .latencies) (best .never);
+    lower = lower-bound T b q g l pos (best .latencies) (best .never);
     upper = upper-least l (best .least);
   }
 
@@ -77,9 +77,13 @@ module _ (T : Table) (b : Bounded T) (q g : ℕ) (pos : 1 ≤ g) where
       let c : Cycle g (greedyOf g T q) = walk-cycle (s .cycle .closed) (s .some) in
       let never = greedy-never T q g n cv (vector-is T b q) few in
       record {
-        lower = lower-marks T b q g (greedyOf g T q) pos c never;
+        lower = lower-bound T b q g (greedyOf g T q) pos c never;
         upper = upper-greedy g n cv pos (row-lt T q q);
       }
+
+  -- what is in bounds is so with the marks of one segment too: l × K ≤ S
+  pub in-bounds-marks : (K S : ℕ) → InBounds g T q K S → marksOf T q * K ≤ S
+  in-bounds-marks K S i = omega (arith, mul-le-mul-right K (marks-most T b q), i .lower)
 
 -- what the call answers
 pub every-greedy : EveryGreedy

@@ -9,33 +9,41 @@ use lib.ListN.{length, getD, replicate}
 use Rattle.words.specs.Bits.{isSet}
 use Rattle.words.specs.Below.{someBelow, countBelow, maxBelow, wordBelow}
 use Rattle.words.proofs.Tests.{nowhere}
+use Rattle.clique_size.specs.Largest.{mostOf, largestClique}
 use Rattle.unit.specs.declared.Plan.{Plan}
 use Rattle.unit.specs.Table.{Table}
 use Rattle.unit.specs.Calls.{freshOf}
 use Rattle.collision.specs.Pipeline.{Forbidden, Cycle, total, NeverCollides}
-use Rattle.collision.specs.Vector.{collides, rowWord, vectorWord, boundOf}
+use Rattle.collision.specs.Vector.{collides, rowWord, vectorWord, marksOf, boundOf}
 use Rattle.collision.specs.Meaning.{Bounded}
 use Rattle.collision.proofs.VectorLaws.{vector-bit}
-use Rattle.clique.specs.Sets.{Clique}
+use Rattle.clique.specs.Sets.{Clique, IsLargestClique, IsRowMaximum}
 use Rattle.clique.proofs.SetLaws.{passing}
+use Rattle.clique.proofs.LargestLaws.{clique-reached, one-counts, unmarked-bound}
 use Rattle.clique.proofs.LowerLaws.{lower}
 use Rattle.clique.proofs.SegmentLaws.{segment-clique}
+use Rattle.clique.proofs.RowLaws.{row-means}
 use Rattle.planner.specs.Sheet.{Call, Reply, Run, Sheet, start, fed, owing, spotNumber, searchNumber}
 use Rattle.planner.specs.Sheet.Call.{Mark, Search, Read}
 use Rattle.planner.specs.Sheet.Reply.{accepted, handed}
-use Rattle.papers.specs.Rows.{figure1}
+use Rattle.papers.specs.Rows.{figure1, threeSegments}
 use Rattle.papers.proofs.TableLaws.{table-bounded}
+use Rattle.papers.proofs.EveryRow.{three-segments-bound}
 use Rattle.bounds.specs.Bounds.{onesOf, InBounds}
 use Rattle.bounds.proofs.EveryPlan.{every-plan-at}
 
--- Fig. 1: its vector 10110001, three marks in the second segment
+-- Fig. 1: its vector 10110001, by which 1, 5, 6 and 8 are forbidden: the largest sets have three numbers, as 0 1 6 has
 figure1-vector : vectorWord figure1 1 ≡ 0b10110001
 unfolding rowWord wordBelow collides someBelow
 figure1-vector = refl
 
-figure1-marks : boundOf figure1 1 ≡ 3
-unfolding boundOf maxBelow countBelow
-figure1-marks = refl
+figure1-bound : boundOf figure1 1 ≡ 3
+unfolding boundOf largestClique mostOf
+figure1-bound = ap largestClique figure1-vector
+
+three-segments-ones : onesOf (vectorWord threeSegments 1) ≡ 3
+unfolding rowWord wordBelow collides someBelow countBelow
+three-segments-ones = refl
 
 figure1-ones : onesOf (vectorWord figure1 1) ≡ 4
 unfolding countBelow
@@ -64,17 +72,52 @@ permitted-difference k =
 
 -- the best cycle 3 4, and the greedy one 2 2 7
 pub best-inside : InBounds 1 figure1 1 2 7
-best-inside = record { lower = rw figure1-marks (omega arith); upper = rw figure1-ones (omega arith) }
+best-inside = record { lower = rw figure1-bound (omega arith); upper = rw figure1-ones (omega arith) }
 
 pub greedy-inside : InBounds 1 figure1 1 3 11
-greedy-inside = record { lower = rw figure1-marks (omega arith); upper = rw figure1-ones (omega arith) }
+greedy-inside = record { lower = rw figure1-bound (omega arith); upper = rw figure1-ones (omega arith) }
 
 -- the cycle 9, which never collides, and a sum of 5 for two latencies
 pub slow-outside : InBounds 1 figure1 1 1 9 → ⊥
 slow-outside b = let h = rw figure1-ones at (b .upper) in omega arith
 
 pub quick-outside : InBounds 1 figure1 1 2 5 → ⊥
-quick-outside b = let h = rw figure1-marks at (b .lower) in omega arith
+quick-outside b = let h = rw figure1-bound at (b .lower) in omega arith
+
+-- Three segments, marks 1 3; 1 4; 1 7: the request's own example
+
+-- two marks in a segment, and three numbers in the largest sets
+pub two-marks : marksOf threeSegments 1 ≡ 2
+unfolding marksOf maxBelow countBelow
+two-marks = refl
+
+three-bounded : Bounded threeSegments
+three-bounded = table-bounded (((1 ∷ 3 ∷ []) ∷ (1 ∷ 4 ∷ []) ∷ (1 ∷ 7 ∷ []) ∷ []) ∷ []) refl
+
+-- 2 is the size of a set, and not of the largest; 2 is the most marks in one row of this table, and not of any with its vector
+pub two-not-largest : IsLargestClique threeSegments 1 2 → ⊥
+two-not-largest m =
+    let r = clique-reached threeSegments three-bounded 1 in
+    omega (arith, m .most (r .0) (r .1), r .2, three-segments-bound)
+
+pub two-no-row-maximum : IsRowMaximum threeSegments 1 2 → ⊥
+two-no-row-maximum m =
+    let r = row-means threeSegments three-bounded 1 .reached in
+    omega (arith, m .most (r .0) (r .2) (r .3 .0) 33, r .3 .1, three-segments-bound)
+
+-- the best cycle 1 4 4 is at the bound; a sum of 8 for three latencies is not in bounds, though no less than 2 × 3
+pub three-inside : InBounds 1 threeSegments 1 3 9
+three-inside = record { lower = rw three-segments-bound (omega arith); upper = rw three-segments-ones (omega arith) }
+
+pub eight-outside : InBounds 1 threeSegments 1 3 8 → ⊥
+eight-outside b = let h = rw three-segments-bound at (b .lower) in omega arith
+
+-- No marks: 1, and not 0 as the marks say
+pub no-marks-bound : boundOf (λ q s c. false) 1 ≡ 1
+no-marks-bound = unmarked-bound (λ q s c. false) 1 (λ s c. refl)
+
+pub nothing-not-largest : (T : Table) (q : ℕ) → IsLargestClique T q 0 → ⊥
+nothing-not-largest T q m = omega (arith, m .most (0 ∷ []) (one-counts T q 0))
 
 -- Replies
 

@@ -22,7 +22,8 @@ use Rattle.planner.specs.Sheet.Reply.{accepted, handed}
 abbrev pub onesOf : ℕ → ℕ
 onesOf w = countBelow 32 (isSet w)
 
--- K latencies of q with sum S: l × K ≤ S ≤ (u + g) × K, where l is the largest number of marks in one segment
+-- K latencies of q with sum S: b × K ≤ S ≤ (u + g) × K, where b is Bound; and so where b is the largest number of marks in one segment, which is no
+-- larger (`in-bounds-marks`, proofs/BoundsLaws.antt)
 pub record InBounds (g : ℕ) (T : Table) (q K S : ℕ) : Type 0 where
   pub lower : boundOf T q * K ≤ S
   pub upper : S ≤ (onesOf (vectorWord T q) + g) * K

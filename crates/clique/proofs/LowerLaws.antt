@@ -1,5 +1,5 @@
--- The lower bound: a cycle that never collides takes at least as much time for each task as any clique has numbers. Assumes nothing.
-use mathlib.Core.Path.{_≡_, refl, sym, ap, _∙_}
+-- The lower bound: a cycle that never collides takes at least as much time for each task as any clique has numbers, and so Bound. Assumes nothing.
+use mathlib.Core.Path.{_≡_, refl, sym, ap, _∙_, subst}
 use mathlib.Core.List.{List}
 use Prim.Native.Nat.{ℕ, zero, suc, _+_, _-_, _*_, _/_, _%_, _≤_, _<_, zero-le}
 use native.Mathlib.Nat.{le-of-lt, mod-lt, div-add-mod', div-lt-iff-lt-mul, zero-mul, mul-comm, mul-suc, mul-assoc, mul-le-mul-left}
@@ -8,11 +8,14 @@ use native.Mathlib.Omega.{arith}
 use lib.ListN.{length, getD}
 use Rattle.unit.specs.Table.{Table}
 use Rattle.collision.specs.Pipeline.{Cycle, total, startAt, NeverCollides}
+use Rattle.collision.specs.Vector.{boundOf}
+use Rattle.collision.specs.Meaning.{Bounded}
 use Rattle.collision.proofs.ClashLaws.{never-forbidden, startAt-mono}
 use Rattle.collision.proofs.StartLaws.{startAt-turns, latency-least}
 use Rattle.diagram.proofs.Pigeon.{pigeon}
 use Rattle.clique.specs.Sets.{Clique}
 use Rattle.clique.proofs.SetLaws.{at-most-total}
+use Rattle.clique.proofs.LargestLaws.{clique-reached}
 
 -- what holds of every number of turns, up to a constant, holds of one
 pub per-turn : (a b e : ℕ) → suc e * a ≤ suc e * b + e → a ≤ b
@@ -86,3 +89,9 @@ module _ (T : Table) (q g : ℕ) (l set : List ℕ) (pos : 1 ≤ g) (c : Cycle g
           let same : suc r * (suc b * length l) ≡ turns * suc b =
           ap (λ x. suc r * x) (mul-comm (suc b) (length l)) ∙ sym (mul-assoc (suc r) (length l) (suc b)) in
           per-turn (suc b * length l) (total l) r (omega (arith, same, crowd b turns e, startAt-turns l (suc r)))
+
+-- Bound × K ≤ S
+pub lower-bound : (T : Table) → Bounded T → (q g : ℕ) (l : List ℕ) → 1 ≤ g → Cycle g l → NeverCollides T q l → boundOf T q * length l ≤ total l
+lower-bound T b q g l pos c never =
+    let r = clique-reached T b q in
+    subst (λ n. n * length l ≤ total l) (r .2) (lower T q g l (r .0) pos c never (r .1))

@@ -1,2 +1,2 @@
-// Sets of whole numbers in which every two differ by a forbidden latency, and the lower bound that each gives: definitions and laws (specs/Sets.antt,
-// proofs/LowerLaws.antt, proofs/SegmentLaws.antt).
+// Sets of whole numbers in which every two differ by a forbidden latency, the lower bound that each gives, and that Bound is the size of the largest: definitions and
+// laws (specs/Sets.antt, proofs/LargestLaws.antt, proofs/LowerLaws.antt, proofs/SegmentLaws.antt, proofs/RowLaws.antt).

@@ -18,8 +18,8 @@ use Rattle.unit.specs.Table.{Table}
 use Rattle.unit.specs.Unit.{marked}
 use Rattle.unit.proofs.SoundLaws.{marked-place}
 use Rattle.collision.specs.Pipeline.{Collides, Forbidden}
-use Rattle.collision.specs.Vector.{collides, rowWord, vectorWord, largestForbidden, boundOf, upperOf, suits, constantOf}
-use Rattle.collision.specs.Meaning.{Bounded, IsLargest, IsConstant, IsBound}
+use Rattle.collision.specs.Vector.{collides, rowWord, vectorWord, largestForbidden, marksOf, upperOf, suits, constantOf}
+use Rattle.collision.specs.Meaning.{Bounded, IsLargest, IsConstant, IsMostMarks}
 
 pub marked-bounded : (u : FunctionUnit) → Bounded (marked u)
 marked-bounded u = record {
@@ -180,11 +180,11 @@ module _ (T : Table) (b : Bounded T) where
       most (yes l) = nowhere (sym (least-skips 32 1 (suits T q) 32 (omega arith) l) ∙ suits-32 q)
       most (no l) = omega arith
 
-  -- Bound
+  -- Marks
 
-  pub bound-means : (q : ℕ) → IsBound T q (boundOf T q)
-  unfolding boundOf
-  bound-means q = record { most = λ s. most s (decLt s 17); reached = λ h. let r = max-reached 16 (λ s. countBelow 33 (λ c. T q s c)) in (r .at, r .value) }
+  pub marks-means : (q : ℕ) → IsMostMarks T q (marksOf T q)
+  unfolding marksOf
+  marks-means q = record { most = λ s. most s (decLt s 17); reached = λ h. let r = max-reached 16 (λ s. countBelow 33 (λ c. T q s c)) in (r .at, r .value) }
     where
       most : (s : ℕ) → Dec (s < 17) → countBelow 33 (λ c. T q s c) ≤ maxBelow 17 (λ s. countBelow 33 (λ c. T q s c))
       most s (yes h) = max-above 17 (λ s. countBelow 33 (λ c. T q s c)) s h

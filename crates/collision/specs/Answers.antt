@@ -8,7 +8,7 @@ use Rattle.unit.specs.Unit.{inside, marked, soundOf}
 use Rattle.unit.specs.Calls.{check, tagAnswer}
 use Rattle.collision.specs.declared.Number.{Number}
 use Rattle.collision.specs.declared.Number.the-variants as Number
-use Rattle.collision.specs.Vector.{vectorWord, rowWord, boundOf, upperOf, constantOf}
+use Rattle.collision.specs.Vector.{vectorWord, rowWord, marksOf, boundOf, upperOf, constantOf}
 
 -- the value, where nothing is refused
 abbrev pub answering : Answer → ℕ → Number
@@ -28,6 +28,9 @@ vectorAnswer u q = answering (tagAnswer u q) (vectorWord (marked u) q)
 -- row q of M_r
 unfoldable pub rowAnswer : FunctionUnit → ℕ → ℕ → Number
 rowAnswer u q r = answering (tagsAnswer u q r) (rowWord (marked u) q r)
+
+unfoldable pub marksAnswer : FunctionUnit → ℕ → Number
+marksAnswer u q = answering (tagAnswer u q) (marksOf (marked u) q)
 
 unfoldable pub boundAnswer : FunctionUnit → ℕ → Number
 boundAnswer u q = answering (tagAnswer u q) (boundOf (marked u) q)

@@ -25,7 +25,7 @@ pub record IsConstant (T : Table) (q m : ℕ) : Type 0 where
   pub allowed : (k : ℕ) → 1 ≤ k → Forbidden T q (k * m) → ⊥
   pub smaller : (j : ℕ) → 1 ≤ j → j < m → (k : ℕ) × (1 ≤ k) × Forbidden T q (k * j)
 
--- no segment has more than n marks of q, and one has n, if there are any (`bound-means`)
-pub record IsBound (T : Table) (q n : ℕ) : Type 0 where
+-- no segment has more than n marks of q, and one has n, if there are any (`marks-means`)
+pub record IsMostMarks (T : Table) (q n : ℕ) : Type 0 where
   pub most : (s : ℕ) → countBelow 33 (λ c. T q s c) ≤ n
   pub reached : 0 < n → (s : ℕ) × (countBelow 33 (λ c. T q s c) ≡ n)

@@ -6,6 +6,7 @@ use lib.Dec.{eqb}
 use lib.ListN.{getD}
 use Rattle.words.specs.Bits.{isSet}
 use Rattle.words.specs.Below.{someBelow, countBelow, spanBelow, maxBelow, leastFrom, wordBelow}
+use Rattle.clique_size.specs.Largest.{largestClique}
 use Rattle.unit.specs.Table.{Table}
 
 -- whether q, started t after r, would collide, as a test: segments are 1 to 16, columns 1 to 32
@@ -38,9 +39,14 @@ vectorWord T q = rowWord T q q
 unfoldable pub largestForbidden : Table → ℕ → ℕ
 largestForbidden T q = spanBelow 32 (λ k. collides T q q (k + 1))
 
--- Bound: the largest number of marks in one segment
+-- Marks: the largest number of marks in one segment
+unfoldable pub marksOf : Table → ℕ → ℕ
+marksOf T q = maxBelow 17 (λ s. countBelow 33 (λ c. T q s c))
+
+-- Bound: the size of the largest set of whole numbers in which every two differ by a forbidden latency; a set of one always counts (what it means, and
+-- the paper's reading: `IsLargestClique` and `IsRowMaximum`, crate clique)
 unfoldable pub boundOf : Table → ℕ → ℕ
-boundOf T q = maxBelow 17 (λ s. countBelow 33 (λ c. T q s c))
+boundOf T q = largestClique (vectorWord T q)
 
 -- Upper: the number of 1s in the collision vector, plus 1
 unfoldable pub upperOf : Table → ℕ → ℕ

@@ -1,4 +1,4 @@
--- How the loops find Bound and Constant, and that they are the numbers of the unit's table. Assumes nothing.
+-- How the loops find Marks and Constant, and that they are the numbers of the unit's table. Assumes nothing.
 use Prim.Native.Nat.{ℕ, _+_, _-_, _%_, _<_, _≤_, max}
 use mathlib.Core.Path.{_≡_, ap, _∙_, sym}
 use mathlib.Core.Bool.{Bool, true, false, cond, not, _&&_}
@@ -17,7 +17,7 @@ use Rattle.unit.specs.declared.FunctionUnit.{FunctionUnit}
 use Rattle.unit.specs.Table.{Table}
 use Rattle.unit.specs.Unit.{marked, columnsOf}
 use Rattle.unit.proofs.SoundLaws.{marked-place}
-use Rattle.collision.specs.Vector.{collides, rowWord, vectorWord, boundOf, suits, constantOf}
+use Rattle.collision.specs.Vector.{collides, rowWord, vectorWord, marksOf, suits, constantOf}
 use Rattle.collision.proofs.RowLaws.{column-mark}
 use Rattle.measures.specs.Inner.{marksAt, mostMarks, freeOf, leastFree}
 
@@ -37,7 +37,7 @@ module _ (columns : List ℕ) (bit c : ℕ) where
   pub marks-zero : isSet (getD columns c 0) bit ≡ false → marksBefore columns bit c ≡ marksBefore columns bit (c + 1)
   marks-zero e = omega (arith, one-more false e)
 
--- Bound: the most of the first b bits is kept, or the next is more
+-- Marks: the most of the first b bits is kept, or the next is more
 
 pub most-kept : (columns : List ℕ) (b : ℕ) → marksAt columns b ≤ maxBelow b (marksAt columns) → maxBelow b (marksAt columns) ≡ maxBelow (b + 1) (marksAt columns)
 most-kept columns b h = omega (arith, max-more b (marksAt columns))
@@ -53,9 +53,9 @@ marks-segment u q s h =
     count-same 32 (λ c. isSet (getD (columnsOf u q) c 0) s) (λ c. marked u q (s + 1) (c + 1)) (λ c l. column-mark u q s c h l)
     ∙ sym (count-start 32 (λ c. marked u q (s + 1) c) ∙ ap (λ b. cond b 1 0 + countBelow 32 (λ c. marked u q (s + 1) (c + 1))) first ∙ zero-add _)
 
-pub most-bound : (u : FunctionUnit) (q : ℕ) → mostMarks (columnsOf u q) ≡ boundOf (marked u) q
-unfolding mostMarks boundOf
-most-bound u q =
+pub most-marks-of : (u : FunctionUnit) (q : ℕ) → mostMarks (columnsOf u q) ≡ marksOf (marked u) q
+unfolding mostMarks marksOf
+most-marks-of u q =
     let none : countBelow 33 (λ c. marked u q 0 c) ≡ 0 =
     count-none 33 (λ c. marked u q 0 c) (λ c h. not-passed (marked u q 0 c) (λ e. omega (arith, marked-place u q 0 c e .segment1))) in
     max-same 16 (marksAt (columnsOf u q)) (λ s. countBelow 33 (λ c. marked u q (s + 1) c)) (λ s h. marks-segment u q s h)

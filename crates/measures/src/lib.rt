@@ -1,9 +1,9 @@
-// The measures of a function: bound, upper and constant. Every function here is proved, and every public one is total and without a
+// The measures of a function: marks, bound, upper and constant. Every function here is proved, and every public one is total and without a
 // `requires`; the crate assumes nothing of its own.
 ghost use mathlib.Core.Path.{_≡_};
 ghost use Prim.Native.Nat.{_≤_};
 ghost use Rattle.words.specs.Bits.{isSet};
-ghost use Rattle.collision.specs.Answers.{boundAnswer, upperAnswer, constantAnswer};
+ghost use Rattle.collision.specs.Answers.{marksAnswer, boundAnswer, upperAnswer, constantAnswer};
 ghost use Rattle.measures.specs.Inner.{marksAt, mostMarks, freeOf, leastFree};
 use collision::Number;
 use unit::Answer;
@@ -49,8 +49,8 @@ fn most_marks(columns: [u16; 32]) -> u32
 }
 
 // The largest number of marks that the function has in one segment.
-pub fn bound(u: FunctionUnit, tag: Tag) -> Number
-    ensures { λ r. ⌜ r ≡ boundAnswer u (tag .0) ⌝ }
+pub fn marks(u: FunctionUnit, tag: Tag) -> Number
+    ensures { λ r. ⌜ r ≡ marksAnswer u (tag .0) ⌝ }
 {
     let answer = unit::check_tag(u, tag);
     match answer {
@@ -59,6 +59,17 @@ pub fn bound(u: FunctionUnit, tag: Tag) -> Number
             let columns = columns::columns_of(u, tag);
             Number::Value(most_marks(columns))
         }
+    }
+}
+
+// The size of the largest set of whole numbers in which every two differ by a forbidden latency.
+pub fn bound(u: FunctionUnit, tag: Tag) -> Number
+    ensures { λ r. ⌜ r ≡ boundAnswer u (tag .0) ⌝ }
+{
+    let asked = collision::vector(u, tag);
+    match asked {
+        Number::Refused(why) => Number::Refused(why),
+        Number::Value(word) => Number::Value(clique_size::largest(word)),
     }
 }
 

@@ -1,15 +1,16 @@
 -- Every row of the papers' worked examples holds. Assumes nothing.
-use mathlib.Core.Path.{_≡_, refl, subst}
+use mathlib.Core.Path.{_≡_, refl, ap, subst}
 use mathlib.Core.List.{[], _∷_}
 use Prim.Native.Nat.{ℕ}
 use lib.ListN.{getD}
-use Rattle.words.specs.Below.{someBelow, countBelow, spanBelow, maxBelow, leastFrom, wordBelow}
+use Rattle.words.specs.Below.{someBelow, spanBelow, leastFrom, wordBelow}
+use Rattle.clique_size.specs.Largest.{mostOf, largestClique}
 use Rattle.collision.specs.Vector.{collides, rowWord, vectorWord, boundOf}
 use Rattle.measures.specs.Inner.{freeOf, leastFree}
-use Rattle.collision.specs.Meaning.{IsBound}
-use Rattle.collision.proofs.VectorLaws.{bound-means}
 use Rattle.diagram.specs.States.{expand, listFrom}
 use Rattle.diagram.proofs.Examples.{fig1-width, fig1-states}
+use Rattle.clique.specs.Sets.{IsLargestClique}
+use Rattle.clique.proofs.LargestLaws.{largest-means}
 use Rattle.cycles.proofs.Examples.{fig1-greedy}
 use Rattle.papers.specs.Rows.{figure1, figure2, oneSegment, threeSegments, states, Holds, rowOf, rows, EveryRow}
 use Rattle.papers.proofs.TestLaws.{columns-tested, Every, end, _then_, every-at}
@@ -129,9 +130,10 @@ three-segments-computed = record {
   few = refl;
 }
 
-three-segments-bound : boundOf threeSegments 1 ≡ 2
-unfolding boundOf maxBelow countBelow
-three-segments-bound = refl
+-- 2, 3 and 6 are forbidden: 0 3 6
+pub three-segments-bound : boundOf threeSegments 1 ≡ 3
+unfolding boundOf largestClique mostOf
+three-segments-bound = ap largestClique three-segments-vector
 
 -- from 100110 by 1 to 110111, by 4 to 100111, and by 4 back
 three-segments-row : Says 10
@@ -144,7 +146,7 @@ three-segments-row = (
     rotation = refl;
     sums = refl;
   }),
-  subst (IsBound threeSegments 1) three-segments-bound (bound-means threeSegments (three-segments-computed .bounded) 1),
+  subst (IsLargestClique threeSegments 1) three-segments-bound (largest-means threeSegments (three-segments-computed .bounded) 1),
 )
 
 -- All

@@ -10,9 +10,10 @@ use Rattle.unit.specs.Table.{Table}
 use Rattle.unit.specs.Unit.{inside}
 use Rattle.collision.specs.Pipeline.{Forbidden, total}
 use Rattle.collision.specs.Vector.{rowWord, vectorWord}
-use Rattle.collision.specs.Meaning.{IsLargest, IsConstant, IsBound}
+use Rattle.collision.specs.Meaning.{IsLargest, IsConstant}
 use Rattle.diagram.specs.Diagram.{width, Reachable}
 use Rattle.diagram.specs.States.{Listed, Each, Distinct, has}
+use Rattle.clique.specs.Sets.{IsLargestClique}
 use Rattle.cycles.specs.Greedy.{greedyOf}
 use Rattle.planner.specs.Plans.{Best}
 
@@ -97,7 +98,7 @@ Answers T q (best cycle sum) = BestIs T q cycle sum
 Answers T q (constant m) = IsConstant T q m
 Answers T q (row r columns) = Columns (rowWord T q r) columns
 Answers T q (forbidden latencies cycle sum) = ((t : ℕ) → 1 ≤ t → Forbidden T q t ↔ (has t latencies ≡ true)) × BestIs T q cycle sum
-Answers T q (bestAndBound cycle sum b) = BestIs T q cycle sum × IsBound T q b
+Answers T q (bestAndBound cycle sum b) = BestIs T q cycle sum × IsLargestClique T q b
 
 abbrev pub Holds : Row → Type 0
 Holds r = Answers (r .table) (r .tag) (r .question)
@@ -119,7 +120,7 @@ rows =
     ∷ rowOf figure2 1 (row 2 (1 ∷ 0 ∷ 1 ∷ 1 ∷ []))
     ∷ rowOf figure2 2 (row 2 (0 ∷ 1 ∷ 1 ∷ 0 ∷ []))
     ∷ rowOf oneSegment 1 (forbidden (2 ∷ 3 ∷ 5 ∷ []) (1 ∷ 6 ∷ []) 7)
-    ∷ rowOf threeSegments 1 (bestAndBound (1 ∷ 4 ∷ 4 ∷ []) 9 2)
+    ∷ rowOf threeSegments 1 (bestAndBound (1 ∷ 4 ∷ 4 ∷ []) 9 3)
     ∷ []
 
 -- there are eleven, and every one holds (`every-row`, proofs/EveryRow.antt)

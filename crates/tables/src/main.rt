@@ -196,6 +196,8 @@ fn show_vector(name: &[u8], u: FunctionUnit) {
 fn show_bound(name: &[u8], u: FunctionUnit) {
     begin(name, b" bound");
     print_asked(measures::bound(u, Tag(1)));
+    io::write_all(1, b" most marks");
+    print_asked(measures::marks(u, Tag(1)));
     end_line();
 }
 

@@ -1,0 +1,3 @@
+pub mod MostLaws
+mod CodeLaws
+mod Examples
