@@ -1,5 +1,5 @@
 -- Bound is the most marks in one row of any table with the same collision vector. Assumes nothing.
-use mathlib.Core.Path.{_≡_, _∙_}
+use mathlib.Core.Path.{_≡_, _∙_, subst}
 use mathlib.Core.Bool.{Bool, true, false, cond}
 use mathlib.Core.List.{List}
 use Prim.Native.Nat.{ℕ, zero, suc, _+_, _-_, _≤_}
@@ -11,14 +11,18 @@ use Rattle.words.specs.Below.{countBelow}
 use Rattle.words.proofs.Tests.{nowhere, not-passed}
 use Rattle.clique_size.proofs.MostLaws.{Widest, widest, behind, count-first}
 use Rattle.unit.specs.Table.{Table}
+use Rattle.unit.specs.Unit.{marked}
+use Rattle.unit.specs.Calls.{tagAnswer}
 use Rattle.collision.specs.Pipeline.{Forbidden}
 use Rattle.collision.specs.Vector.{vectorWord, boundOf}
+use Rattle.collision.specs.Answers.{boundAnswer}
 use Rattle.collision.specs.Meaning.{Bounded}
-use Rattle.collision.proofs.VectorLaws.{vector-bit}
-use Rattle.clique.specs.Sets.{Clique, SameVector, InColumns, IsRowMaximum}
+use Rattle.collision.proofs.AnswerLaws.{answer-given}
+use Rattle.collision.proofs.VectorLaws.{marked-bounded, vector-bit}
+use Rattle.clique.specs.Sets.{Clique, IsLargestClique, SameVector, InColumns, IsRowMaximum, EveryBound}
 use Rattle.clique.proofs.SetLaws.{passing, passing-length}
 use Rattle.clique.proofs.SegmentLaws.{segment-clique}
-use Rattle.clique.proofs.LargestLaws.{clique-most, set-forbidden}
+use Rattle.clique.proofs.LargestLaws.{clique-most, set-forbidden, largest-means}
 
 -- the table with a further row, in which the columns that pass the test are marked
 withRow : Table → (ℕ → Bool) → Table
@@ -99,4 +103,12 @@ module _ (T : Table) (b : Bounded T) (q : ℕ) where
   pub row-means : IsRowMaximum T q (boundOf T q)
   row-means =
       let w = widest (vectorWord T q) in
-      record { reached = (U w, columns w, same w, (17, size w)); most = row-most }
+      record { reached = (U w, columns w, same w, (17, omega arith, size w)); most = row-most }
+
+-- what the call answers
+pub every-bound : EveryBound
+unfolding boundAnswer
+every-bound u q n e =
+    let same = answer-given (tagAnswer u q) (boundOf (marked u) q) n e .value in
+    subst (λ m. IsLargestClique (marked u) q m × IsRowMaximum (marked u) q m) same
+    (largest-means (marked u) (marked-bounded u) q, row-means (marked u) (marked-bounded u) q)

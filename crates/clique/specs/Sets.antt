@@ -7,8 +7,12 @@ use mathlib.Core.List.{List}
 use Prim.Native.Nat.{ℕ, _-_, _≤_, _<_}
 use lib.ListN.{length, getD}
 use Rattle.words.specs.Below.{countBelow}
+use Rattle.unit.specs.declared.FunctionUnit.{FunctionUnit}
 use Rattle.unit.specs.Table.{Table}
+use Rattle.unit.specs.Unit.{marked}
+use Rattle.collision.specs.declared.Number.the-variants as Number
 use Rattle.collision.specs.Pipeline.{Forbidden}
+use Rattle.collision.specs.Answers.{marksAnswer, boundAnswer}
 use Rattle.diagram.specs.States.{Distinct}
 
 -- no number twice, and every two differ by a forbidden latency; a set of one number or none always counts
@@ -34,5 +38,15 @@ InColumns U = (q s c : ℕ) → U q s c ≡ true → (1 ≤ c) × (c ≤ 32)
 -- n is that number of marks (`row-means`, proofs/RowLaws.antt: Bound is): no row of such a table has more, however many columns it has, and one of 32
 -- columns has as many
 pub record IsRowMaximum (T : Table) (q n : ℕ) : Type 0 where
-  pub reached : (U : Table) × InColumns U × SameVector T U q × ((s : ℕ) × (countBelow 33 (λ c. U q s c) ≡ n))
+  pub reached : (U : Table) × InColumns U × SameVector T U q × ((s : ℕ) × (1 ≤ s) × (countBelow 33 (λ c. U q s c) ≡ n))
   pub most : (U : Table) → SameVector T U q → (s columns : ℕ) → countBelow columns (λ c. U q s c) ≤ n
+
+-- What the calls answer, for every unit and tag
+
+-- a bound is the size of the largest set, and the paper's row maximum (`every-bound`, proofs/RowLaws.antt)
+abbrev pub EveryBound : Type 0
+EveryBound = (u : FunctionUnit) (q n : ℕ) → boundAnswer u q ≡ Number.Value n → IsLargestClique (marked u) q n × IsRowMaximum (marked u) q n
+
+-- no segment has more marks than the bound (`every-marks`, proofs/SegmentLaws.antt)
+abbrev pub EveryMarks : Type 0
+EveryMarks = (u : FunctionUnit) (q l n : ℕ) → marksAnswer u q ≡ Number.Value l → boundAnswer u q ≡ Number.Value n → l ≤ n

@@ -55,7 +55,7 @@ pub record Given (a : Answer) (n w : ℕ) : Type 0 where
   pub done : a ≡ Done
   pub value : n ≡ w
 
-answer-given : (a : Answer) (n w : ℕ) → answering a n ≡ Number.Value w → Given a n w
+pub answer-given : (a : Answer) (n w : ℕ) → answering a n ≡ Number.Value w → Given a n w
 answer-given Done n w e = record { done = refl; value = cc }
 answer-given (Refused why) n w e = let z : _≡_ {A = ℕ} 0 1 = cc in absurd (omega arith)
 

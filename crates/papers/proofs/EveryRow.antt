@@ -7,6 +7,7 @@ use Rattle.words.specs.Below.{someBelow, spanBelow, leastFrom, wordBelow}
 use Rattle.clique_size.specs.Largest.{mostOf, largestClique}
 use Rattle.collision.specs.Vector.{collides, rowWord, vectorWord, boundOf}
 use Rattle.measures.specs.Inner.{freeOf, leastFree}
+use Rattle.collision.specs.Meaning.{Bounded}
 use Rattle.diagram.specs.States.{expand, listFrom}
 use Rattle.diagram.proofs.Examples.{fig1-width, fig1-states}
 use Rattle.clique.specs.Sets.{IsLargestClique}
@@ -25,13 +26,16 @@ Says i = Holds (getD rows i (rowOf figure1 1 (states 5)))
 
 -- Fig. 1
 
-figure1-vector : vectorWord figure1 1 ≡ 0b10110001
+pub figure1-vector : vectorWord figure1 1 ≡ 0b10110001
 unfolding rowWord wordBelow collides someBelow
 figure1-vector = refl
 
+pub figure1-bounded : Bounded figure1
+figure1-bounded = table-bounded (((1 ∷ 9 ∷ []) ∷ (2 ∷ 3 ∷ 8 ∷ []) ∷ (4 ∷ []) ∷ (5 ∷ 6 ∷ []) ∷ (7 ∷ 8 ∷ []) ∷ []) ∷ []) refl
+
 figure1-computed : Computed figure1 1 0b10110001 8 (0b10110001 ∷ 0b10111101 ∷ 0b10110111 ∷ 0b10111011 ∷ 0b10111111 ∷ [])
 figure1-computed = record {
-  bounded = table-bounded (((1 ∷ 9 ∷ []) ∷ (2 ∷ 3 ∷ 8 ∷ []) ∷ (4 ∷ []) ∷ (5 ∷ 6 ∷ []) ∷ (7 ∷ 8 ∷ []) ∷ []) ∷ []) refl;
+  bounded = figure1-bounded;
   vector = figure1-vector;
   wide = fig1-width;
   listed = fig1-states;
@@ -116,14 +120,17 @@ one-segment-row = (
 
 -- Three segments
 
-three-segments-vector : vectorWord threeSegments 1 ≡ 0b100110
+pub three-segments-vector : vectorWord threeSegments 1 ≡ 0b100110
 unfolding rowWord wordBelow collides someBelow
 three-segments-vector = refl
+
+pub three-segments-bounded : Bounded threeSegments
+three-segments-bounded = table-bounded (((1 ∷ 3 ∷ []) ∷ (1 ∷ 4 ∷ []) ∷ (1 ∷ 7 ∷ []) ∷ []) ∷ []) refl
 
 three-segments-computed : Computed threeSegments 1 0b100110 6 (0b100110 ∷ 0b110111 ∷ 0b100111 ∷ [])
 unfolding spanBelow expand listFrom
 three-segments-computed = record {
-  bounded = table-bounded (((1 ∷ 3 ∷ []) ∷ (1 ∷ 4 ∷ []) ∷ (1 ∷ 7 ∷ []) ∷ []) ∷ []) refl;
+  bounded = three-segments-bounded;
   vector = three-segments-vector;
   wide = refl;
   listed = refl;
@@ -146,7 +153,7 @@ three-segments-row = (
     rotation = refl;
     sums = refl;
   }),
-  subst (IsLargestClique threeSegments 1) three-segments-bound (largest-means threeSegments (three-segments-computed .bounded) 1),
+  subst (IsLargestClique threeSegments 1) three-segments-bound (largest-means threeSegments three-segments-bounded 1),
 )
 
 -- All
