@@ -3,6 +3,8 @@
 #![allow(dead_code)]
 
 mod facts;
+mod loops;
+mod loops_check;
 mod model;
 mod model_check;
 mod random;
@@ -11,7 +13,7 @@ mod tally;
 mod units;
 
 fn main() {
-    match model_check::run() {
+    match model_check::run().and_then(|units| loops_check::run().map(|_| units)) {
         Ok(units) => println!("model: agrees with the paper's tables and, on {units} random units, with itself"),
         Err(why) => {
             println!("model: {why}");

@@ -1,8 +1,8 @@
 //! A test of the program `designer` from outside.
 //!
 //! Scripts of 100,000 lines and more, good lines and bad ones, are made from fixed seeds; each line's answer is worked out by the tests'
-//! own implementation of the paper (`model.rs`, `console_model.rs`) before the program is run; then the program answers the scripts, and
-//! the first difference ends the run. Before them come runs of a few lines, each with special files or a special output
+//! own implementation of the paper (`model.rs`, `loops.rs`, `console_model.rs`) before the program is run; then the program answers the
+//! scripts, and the first difference ends the run. Before them come runs of a few lines, each with special files or a special output
 //! (`console_outside.rs`).
 //!
 //!     console PROGRAM            everything
@@ -19,6 +19,8 @@ mod console_outside;
 mod console_program;
 mod console_script;
 mod facts;
+mod loops;
+mod loops_check;
 mod model;
 mod model_check;
 mod random;

@@ -1,10 +1,11 @@
-//! The program's output held against the answers that were worked out before: byte by byte, but for the best cycles, of which the paper
-//! leaves free which one is handed out. A plan that was shown once is known from then on.
+//! The program's output held against the answers that were worked out before: byte by byte, but for the best cycles and loops, of which the
+//! paper leaves free which one is handed out. A plan that was shown once is known from then on.
 
 use crate::console_folder::Folder;
 use crate::console_model::*;
 use crate::console_program::Ending;
 use crate::console_script::Script;
+use crate::loops::Loops;
 use crate::model::*;
 use std::collections::{BTreeMap, HashMap, HashSet};
 use std::ops::Range;
@@ -38,7 +39,7 @@ pub struct Counts {
 }
 
 /// The refusals and the words that each command can answer with. Besides, each can be told what was expected.
-const ANSWERS: [(&str, &[u32], &[&str]); 21] = [
+const ANSWERS: [(&str, &[u32], &[&str]); 22] = [
     ("fresh", &[1], &["ok"]),
     ("mark", &[2, 3, 4], &["ok", "no unit"]),
     ("unmark", &[2, 3, 4], &["ok", "no unit"]),
@@ -60,6 +61,7 @@ const ANSWERS: [(&str, &[u32], &[&str]); 21] = [
     ("list", &[], &["ok", "no unit"]),
     ("table", &[2], &["ok", "no unit"]),
     ("diagram", &[2, 7], &["ok", "no unit"]),
+    ("loop", &[2, 7, 17], &["ok", "no unit"]),
 ];
 
 const OTHERS: [(Sort, &str); 4] = [
@@ -170,6 +172,7 @@ impl Reader<'_> {
                 self.plan(*search, drawn, cycle)
             }
             Part::Drawing(search, tag, drawn) => self.drawing(*search, *tag, drawn),
+            Part::Loop(loops) => self.cycle().and_then(|cycle| self.best_loop(loops, cycle)),
         }
     }
 
@@ -203,6 +206,21 @@ impl Reader<'_> {
         if *known != cycle.latencies {
             return Err(format!("the plan was {} before", cycle_text(known)));
         }
+        Ok(())
+    }
+
+    /// A loop is shown once, and any of the best will do.
+    fn best_loop(&mut self, loops: &Loops, cycle: Cycle) -> Result<(), String> {
+        loops.check_best(&cycle, &mut self.yard)?;
+        let (count, turns) = (cycle.latencies.len(), cycle.latencies.len() / loops.kernel.tags.len());
+        let cases = [
+            (turns > 1, "loop: more than one turn of the list"),
+            (turns >= 10, "loop: 10 turns of the list or more"),
+            (count >= 65, "loop: 65 latencies or more"),
+            (cycle.sum > 255, "loop: a sum above 255"),
+            (cycle.latencies.contains(&32), "loop: a latency 32"),
+        ];
+        cases.into_iter().filter(|(holds, _)| *holds).for_each(|(_, what)| self.counts.meet(what));
         Ok(())
     }
 
@@ -331,6 +349,7 @@ fn expected_text(answer: &Answer, plans: &HashMap<usize, Vec<u8>>) -> String {
         match part {
             Part::Text(part) => text += part,
             Part::Best(_) => text += "<a best cycle>",
+            Part::Loop(_) => text += "<a best loop>",
             Part::Plan(search, _) => text += &plans.get(search).map_or("<a best cycle>".to_string(), |latencies| cycle_text(latencies)),
             Part::Drawing(search, tag, drawn) => {
                 let course = plans.get(search).and_then(|latencies| drawn.graph.course(latencies)).unwrap_or_default();

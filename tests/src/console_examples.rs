@@ -5,10 +5,10 @@ use crate::console_folder::Folder;
 use crate::console_model::Console;
 use crate::console_program::Ending;
 use crate::console_script::{Feed, Line, Script};
-use crate::model_check;
+use crate::{loops_check, model_check};
 
-/// A session as it is to be seen: after `>` what is typed. The paper's Fig. 1 and Fig. 2, its tables "No marks" and "Marks 1 11", and the
-/// lines of the console's description.
+/// A session as it is to be seen: after `>` what is typed. The paper's Fig. 1 and Fig. 2, its tables "No marks" and "Marks 1 11", loops
+/// over them and over a table whose second function no loop names, and the lines of the console's description.
 const EXAMPLES: &str = "\
 >tick
 no unit
@@ -94,6 +94,12 @@ line 44: expected vector Q
 line 45: expected vector Q
 >vector\t \t1
 no unit
+>loop 1 2
+no unit
+>loop
+no unit
+>loop 1 x
+line 49: expected loop Q Q ..
 >\tfresh  1 5\t9 \r
 ok
 >mark 1 1 1
@@ -134,6 +140,8 @@ refused 8
 ok
 >read
 plan 1 cycle 3 4 sum 7
+>loop 1
+loop cycle 4 3 sum 7
 >judge 1 3 4
 yes
 >judge 1 3
@@ -221,7 +229,7 @@ refused 10
 >mark 1 1 10
 refused 4
 >mark 1 1
-line 96: expected mark Q R C
+line 100: expected mark Q R C
 >bank
 177 0 0 0
 >search 1
@@ -280,8 +288,68 @@ row 1011
 row 0110
 >row 1 3
 refused 2
+>loop 1 2
+loop cycle 1 3 sum 4
+>loop 2 1
+loop cycle 3 1 sum 4
+>loop\t01  2 1 2\r
+loop cycle 1 3 1 3 sum 8
+>loop 1
+loop cycle 1 4 sum 5
+>loop 2 2
+loop cycle 4 1 sum 5
+>loop
+refused 17
+>loop 1 2 1 2 1 2 1 2 1
+refused 17
+>loop 3 3 3 3 3 3 3 3 3
+refused 17
+>loop 1 3
+refused 2
+>loop 0
+refused 2
+>loop 1 257
+refused 2
+>loop 4294967295
+refused 2
+>loop 1 4294967296
+line 142: expected loop Q Q ..
+>loop 1 -1
+line 143: expected loop Q Q ..
+>read
+refused 8
+>start 2
+ok
+>search 2
+ok
+>loop 1 2
+loop cycle 1 3 sum 4
+>bank
+11 6 0 0
+>read
+plan 2 cycle 1 4 sum 5
+>fresh 2 1 11
+ok
+>mark 1 1 11
+ok
+>mark 2 1 1
+ok
+>states 1
+states 1: 0
+>loop 1
+refused 7
+>loop 2
+loop cycle 1 sum 1
+>unmark 1 1 11
+ok
+>mark 1 1 10
+ok
+>loop 1
+loop cycle 1 sum 1
 >fresh 1 1 1
 ok
+>loop 1 1 1 1 1 1 1 1
+loop cycle 1 1 1 1 1 1 1 1 sum 8
 >vector 1
 vector -
 >row 1 1
@@ -345,5 +413,6 @@ pub fn examples() -> Result<(), String> {
 /// The model against the paper's tables and its own definitions, and against the examples.
 pub fn check_model() -> Result<(), String> {
     model_check::run()?;
+    loops_check::run()?;
     examples()
 }

@@ -4,6 +4,8 @@
 use crate::console_folder::{File, Folder, PART};
 use crate::console_model::*;
 use crate::console_script::LINES;
+use crate::console_words::one_turn;
+use crate::loops::Loops;
 use crate::model::*;
 
 /// What a faulty console is made of.
@@ -124,6 +126,35 @@ impl Faulty {
             }
         }
         answer
+    }
+
+    /// With other tags, where the line says a loop: the numbers after its name.
+    fn with_tags(&mut self, line: &[u8], place: usize, change: impl Fn(&mut Vec<Vec<u8>>)) -> Answer {
+        self.with_words(line, place, |words| {
+            if words[0] == b"loop" && words[1..].iter().all(|word| number(word).is_some()) {
+                let mut tags = words.split_off(1);
+                change(&mut tags);
+                words.append(&mut tags);
+            }
+        })
+    }
+
+    /// With another loop, where there is one.
+    fn with_loop(&mut self, line: &[u8], place: usize, change: impl Fn(&Loops) -> Option<Vec<u8>>) -> Answer {
+        let mut answer = self.answer(line, place);
+        for part in &mut answer.parts {
+            if let Part::Loop(loops) = part {
+                if let Some(latencies) = change(loops) {
+                    *part = Part::Text(cycle_text(&latencies));
+                }
+            }
+        }
+        answer
+    }
+
+    /// With a loop in place of a refusal in this special case.
+    fn unrefused(&mut self, line: &[u8], place: usize, what: &'static str) -> Answer {
+        self.instead(line, place, |answer, _| answer.met.contains(&what).then(|| "loop cycle 1 sum 1\n".to_string()))
     }
 }
 
@@ -429,6 +460,97 @@ pub const FAULTS: &[(&str, Fault)] = &[
     ("judge: one turn alone is looked at", |it, line, place| {
         it.instead(line, place, |answer, _| answer.met.contains(&"judge: collides only across turns").then(|| "yes\n".to_string()))
     }),
+    // loop
+    ("loop: 2 comes before 17", |it, line, place| {
+        it.instead(line, place, |answer, _| answer.met.contains(&"loop: refused by 17 and not by 2").then(|| "refused 2\n".to_string()))
+    }),
+    ("loop: no tag is not what was expected", |it, line, place| {
+        it.with_tags(line, place, |tags| {
+            if tags.is_empty() {
+                tags.push(b"x".to_vec());
+            }
+        })
+    }),
+    ("loop: no tag is refused by 2", |it, line, place| {
+        it.instead(line, place, |answer, _| answer.met.contains(&"loop: no tag").then(|| "refused 2\n".to_string()))
+    }),
+    ("loop: 7 tags are the most", |it, line, place| {
+        it.with_tags(line, place, |tags| {
+            if tags.len() == 8 {
+                tags.push(b"1".to_vec());
+            }
+        })
+    }),
+    ("loop: 9 tags are the most", |it, line, place| it.unrefused(line, place, "loop: 9 tags")),
+    ("loop: tags after the eighth are passed over", |it, line, place| it.with_tags(line, place, |tags| tags.truncate(8))),
+    ("loop: the number of tags is taken modulo 256", |it, line, place| it.with_tags(line, place, |tags| tags.truncate(tags.len() % 256))),
+    ("loop: words after 256 tags are passed over", |it, line, place| {
+        it.with_words(line, place, |words| words.truncate(if words[0] == b"loop" { 257 } else { words.len() }))
+    }),
+    ("loop: tags that are not in the unit are passed over", |it, line, place| {
+        let functions = it.console.unit.as_ref().map_or(0, |unit| unit.functions);
+        it.with_tags(line, place, |tags| tags.retain(|word| number(word).is_some_and(|tag| (1..=functions).contains(&tag))))
+    }),
+    ("loop: the first tag alone is looked at", |it, line, place| it.unrefused(line, place, "loop: a bad tag after good ones")),
+    ("loop: the last tag alone is looked at", |it, line, place| it.unrefused(line, place, "loop: a bad tag before others")),
+    ("loop: a list is taken for a shorter one that it is again", |it, line, place| {
+        it.with_tags(line, place, |tags| {
+            let half = tags.len() / 2;
+            if (2..=8).contains(&tags.len()) && tags[..half] == tags[half..] {
+                tags.truncate(half);
+            }
+        })
+    }),
+    ("loop: the tags are taken backwards", |it, line, place| it.with_tags(line, place, |tags| tags.reverse())),
+    ("loop: the tags are taken in rising order", |it, line, place| it.with_tags(line, place, |tags| tags.sort())),
+    ("loop: a tag that comes twice in a row is taken once", |it, line, place| {
+        it.with_tags(line, place, |tags| {
+            if tags.len() <= 8 {
+                tags.dedup();
+            }
+        })
+    }),
+    ("loop: the first tag alone is issued", |it, line, place| {
+        it.with_tags(line, place, |tags| {
+            if (1..=8).contains(&tags.len()) {
+                let first = tags[0].clone();
+                tags.fill(first);
+            }
+        })
+    }),
+    ("loop: the list is begun at its second tag", |it, line, place| {
+        it.with_tags(line, place, |tags| {
+            if tags.len() > 1 {
+                tags.rotate_left(1);
+            }
+        })
+    }),
+    ("loop: the first latency leads to the first tag, where greedy is best", |it, line, place| {
+        it.with_loop(line, place, |loops| {
+            let mut latencies = loops.greedy();
+            latencies.rotate_right(1);
+            loops.is_least(&latencies).then_some(latencies)
+        })
+    }),
+    ("loop: each start comes as soon as it can", |it, line, place| it.with_loop(line, place, |loops| Some(loops.greedy()))),
+    ("loop: one turn of the list alone is looked at", |it, line, place| it.with_loop(line, place, one_turn)),
+    ("loop: n + 1 each time", |it, line, place| {
+        it.with_loop(line, place, |loops| Some(vec![loops.kernel.longest as u8; loops.kernel.tags.len()]))
+    }),
+    ("loop: 255 states are the most", |it, line, place| {
+        let mut answer = it.answer(line, place);
+        if answer.met.contains(&"loop: 256 states") {
+            answer.parts = vec![Part::Text("refused 7\n".to_string())];
+        }
+        answer
+    }),
+    ("loop: 257 states are the most", |it, line, place| it.unrefused(line, place, "loop: 257 states")),
+    ("loop: functions that the list does not name have no registers", |it, line, place| {
+        it.unrefused(line, place, "loop: refused by 7 for registers of a function not named")
+    }),
+    ("loop: latencies end where the functions of the list no longer collide", |it, line, place| {
+        it.unrefused(line, place, "loop: refused by 7 for latencies of a function not named")
+    }),
     // rows
     ("row: Q and R are exchanged", |it, line, place| {
         it.with_words(line, place, |words| {
@@ -520,6 +642,34 @@ pub const FAULTS: &[(&str, Fault)] = &[
     }),
     ("a search empties the bank", |it, line, place| it.after(line, place, &["search"], ok, empty)),
     ("a refused search empties the bank", |it, line, place| it.after(line, place, &["search"], refused, empty)),
+    ("a loop empties the bank", |it, line, place| it.after(line, place, &["loop"], ok, empty)),
+    ("a refused loop empties the bank", |it, line, place| it.after(line, place, &["loop"], refused, empty)),
+    ("a loop takes a time unit", |it, line, place| it.after(line, place, &["loop"], ok, |console| console.bank.tick())),
+    ("a loop starts its first tag", |it, line, place| {
+        let answer = it.answer(line, place);
+        if is(&answer, "loop", "ok") {
+            let start = [b"start ", words_of(line)[1]].concat();
+            it.answer(&start, place);
+        }
+        answer
+    }),
+    ("a loop takes a mark away", |it, line, place| {
+        it.after(line, place, &["loop"], ok, |console| {
+            if let Some(unit) = &mut console.unit {
+                unit.marks.pop_last();
+            }
+        })
+    }),
+    ("a loop drops the plan", |it, line, place| it.after(line, place, &["loop"], ok, drop_plan)),
+    ("a refused loop drops the plan", |it, line, place| it.after(line, place, &["loop"], refused, drop_plan)),
+    ("a loop makes a plan", |it, line, place| {
+        let answer = it.answer(line, place);
+        if is(&answer, "loop", "ok") {
+            let search = [b"search ", words_of(line)[1]].concat();
+            it.answer(&search, place);
+        }
+        answer
+    }),
     ("a mark that stood keeps the plan", |it, line, place| {
         it.keeping(line, place, &["mark"], true, |_, answer| answer.met.contains(&"a mark that stood"))
     }),

@@ -4,6 +4,7 @@
 //! the search that made it is known here: which best cycle it holds is free, and is seen when the program first shows it.
 
 use crate::console_folder::Shelf;
+use crate::loops::*;
 use crate::model::*;
 use std::cell::OnceCell;
 use std::collections::{HashMap, HashSet};
@@ -12,8 +13,9 @@ use std::rc::Rc;
 /// "over 4,096 bytes: `line N: too long`"
 pub const LONGEST_LINE: usize = 4_096;
 
-/// Each command with what it wants after its name: `FILE` is a file's name, `..` any number of numbers, all else a number.
-pub const COMMANDS: [(&str, &str); 21] = [
+/// Each command with what it wants after its name: `FILE` is a file's name, `L L ..` and `Q Q ..` are any number of numbers, none too, and
+/// all else is a number.
+pub const COMMANDS: [(&str, &str); 22] = [
     ("fresh", " P S C"),
     ("mark", " Q R C"),
     ("unmark", " Q R C"),
@@ -35,6 +37,7 @@ pub const COMMANDS: [(&str, &str); 21] = [
     ("list", ""),
     ("table", " Q"),
     ("diagram", " Q"),
+    ("loop", " Q Q .."),
 ];
 
 // ---------------------------------------------------------------------------------------------------------------------------------
@@ -140,10 +143,20 @@ struct Function {
     vector: Vec<bool>,
 }
 
-/// Functions that were met before: many tables have the same collision vector, and so the same diagram.
+/// A list of tags that are in the unit.
+struct List {
+    /// None where there are more than 256 states.
+    loops: Option<Rc<Loops>>,
+    /// Special cases that it is one of.
+    met: Vec<&'static str>,
+}
+
+/// Functions that were met before: many tables have the same collision vector, and so the same diagram. And lists of tags, each with the
+/// marks of all functions.
 struct Book {
     functions: HashMap<Vec<Spot>, Rc<Function>>,
     graphs: HashMap<Vec<bool>, Option<Rc<Graph>>>,
+    lists: HashMap<(Vec<Vec<Spot>>, Vec<u32>), Rc<List>>,
     yard: Yard,
 }
 
@@ -165,6 +178,42 @@ impl Book {
         let graph = self.graphs.entry(function.vector.clone()).or_insert_with_key(make).clone()?;
         Some(Drawn { spots: function.spots.clone(), graph })
     }
+
+    fn list(&mut self, unit: &Unit, tags: &[u32]) -> Rc<List> {
+        let key = ((1..=unit.functions).map(|tag| unit.spots(tag)).collect(), tags.to_vec());
+        let yard = &mut self.yard;
+        self.lists.entry(key).or_insert_with(|| Rc::new(List::new(Kernel::new(unit, tags, yard)))).clone()
+    }
+}
+
+impl List {
+    fn new(kernel: Kernel) -> List {
+        // one more than the limit, so that a list just above it is known
+        let reached = kernel.reached(MOST_STATES + 1);
+        let states = reached.as_ref().map(|reached| reached.arcs.len());
+        let (several, names_all) = (kernel.tags.len() > 1, kernel.names_all());
+        let within = |kernel: Kernel| kernel.reached(MOST_STATES).is_some();
+        let refused = states.is_none_or(|states| states > MOST_STATES);
+        let mut cases = vec![
+            (kernel.tags.len() == MOST_TAGS, "loop: 8 tags"),
+            (kernel.period() < kernel.tags.len(), "loop: a list that is a shorter one again"),
+            (!names_all, "loop: a function that the list does not name"),
+            (kernel.longest == 1, "loop: no latency collides"),
+            (!refused && states >= Some(250), "loop: 250 states or more"),
+            (states == Some(256), "loop: 256 states"),
+            (states == Some(256) && several, "loop: 256 states of two or more tags"),
+            (states == Some(256) && !names_all, "loop: 256 states, a function not named"),
+            (states == Some(257), "loop: 257 states"),
+            (states == Some(257) && several, "loop: 257 states of two or more tags"),
+        ];
+        if refused && !names_all {
+            cases.push((within(kernel.without_others()), "loop: refused by 7 for registers of a function not named"));
+            cases.push((within(kernel.with_own_latencies()), "loop: refused by 7 for latencies of a function not named"));
+        }
+        let loops = reached.filter(|_| !refused).map(|reached| Rc::new(Loops::new(kernel, reached)));
+        cases.push((loops.as_ref().is_some_and(|loops| !loops.is_least(&loops.greedy())), "loop: better than greedy"));
+        List { loops, met: cases.into_iter().filter(|(holds, _)| *holds).map(|(_, what)| what).collect() }
+    }
 }
 
 // ---------------------------------------------------------------------------------------------------------------------------------
@@ -179,6 +228,8 @@ pub enum Part {
     Best(Drawn),
     /// The whole drawing for this tag, with the arcs of the plan that this search made.
     Drawing(usize, u32, Drawn),
+    /// Latencies and sum of any best loop.
+    Loop(Rc<Loops>),
 }
 
 /// What sort of answer a line got: a command's, which begins with its name, or that of a line that is none.
@@ -204,7 +255,7 @@ impl Answer {
     pub fn height(&self) -> usize {
         let height = |part: &Part| match part {
             Part::Text(text) => text.matches('\n').count(),
-            Part::Plan(..) | Part::Best(_) => 0,
+            Part::Plan(..) | Part::Best(_) | Part::Loop(_) => 0,
             Part::Drawing(_, _, drawn) => drawn.graph.arc_lines().count() + 2,
         };
         self.parts.iter().map(height).sum()
@@ -271,7 +322,7 @@ fn arguments<'a>(wants: &str, words: &[&'a [u8]]) -> Option<Arguments<'a>> {
         };
     }
     let numbers: Vec<u32> = words.iter().map(|word| number(word)).collect::<Option<_>>()?;
-    let enough = match wants.strip_suffix(" L L ..") {
+    let enough = match wants.strip_suffix(" L L ..").or(wants.strip_suffix(" Q Q ..")) {
         Some(first) => numbers.len() >= first.split_whitespace().count(),
         None => numbers.len() == wants.split_whitespace().count(),
     };
@@ -312,6 +363,8 @@ enum Before {
     RefusedEdit,
     Searched,
     RefusedSearch,
+    Looped,
+    RefusedLoop,
     Bad,
     Other,
 }
@@ -322,12 +375,12 @@ fn empty_bank() -> Bank {
 
 impl<S: Shelf> Console<S> {
     pub fn new(shelf: S) -> Console<S> {
-        let book = Book { functions: HashMap::new(), graphs: HashMap::new(), yard: Yard::new() };
+        let book = Book { functions: HashMap::new(), graphs: HashMap::new(), lists: HashMap::new(), yard: Yard::new() };
         let (bank, found, before) = (empty_bank(), empty_bank(), Before::Other);
         Console { book, unit: None, plan: None, searches: 0, bank, shelf, met: Vec::new(), before, found, shown: 0 }
     }
 
-    /// A console as a new process has it, which knows of the same functions.
+    /// A console as a new process has it, which knows of the same functions and lists.
     pub fn again(self, shelf: S) -> Console<S> {
         Console { book: self.book, ..Console::new(shelf) }
     }
@@ -434,6 +487,7 @@ impl<S: Shelf> Console<S> {
                 Ok(said(words.join(" ")))
             }
             ("list", []) => Ok(self.list(unit)),
+            ("loop", tags) => self.loop_over(unit, tags),
             ("save", []) => {
                 let shorter = self.shelf.length(file).is_some_and(|length| length > file_length(unit.functions, unit.segments) as u64);
                 let known = self.shelf.length(file).is_some();
@@ -453,6 +507,7 @@ impl<S: Shelf> Console<S> {
     }
 
     fn read(&mut self, unit: &Unit) -> Reply<Vec<Part>> {
+        self.met_if(self.plan.is_none() && self.before == Before::Looped, "no plan after a loop");
         // "8 read without a plan"
         let Plan { tag, search } = self.plan.ok_or(8u32)?;
         let drawn = self.book.drawn(unit, tag).expect("a search that was accepted");
@@ -578,6 +633,16 @@ impl<S: Shelf> Console<S> {
             .collect()
     }
 
+    /// "more than 256 states reached by steps give 7"; "the unit's plans don't change", nor does the bank.
+    fn loop_over(&mut self, unit: &Unit, tags: &[u32]) -> Reply<Vec<Part>> {
+        self.meet_tags(unit, tags);
+        check_list(unit, tags)?;
+        let list = self.book.list(unit, tags);
+        self.met.extend(&list.met);
+        let loops = list.loops.clone().ok_or(7u32)?;
+        Ok(vec![Part::Text("loop cycle ".to_string()), Part::Loop(loops), Part::Text("\n".to_string())])
+    }
+
     // -----------------------------------------------------------------------------------------------------------------------------
     // Special cases
 
@@ -690,6 +755,8 @@ impl<S: Shelf> Console<S> {
         self.met_if(words[1..].iter().any(|word| number(word) == Some(u32::MAX)), "a number 4294967295");
         let and_return = |word: &&[u8]| word.strip_suffix(b"\r").is_some_and(|digits| number(digits).is_some());
         self.met_if(words[1..].iter().any(and_return), "a number with a carriage return in its word");
+        let later = words.get(257..).unwrap_or(&[]);
+        self.met_if(words[0] == b"loop" && later.iter().any(|word| number(word).is_none()), "loop: no number after 256 tags");
         if let [b"load" | b"save", file] = words {
             self.met_if(returned && !is_blank(last), "a file's name with a carriage return after it");
             self.met_if(file.contains(&b'\r'), "a file's name with a carriage return in it");
@@ -710,6 +777,25 @@ impl<S: Shelf> Console<S> {
         self.met_if(in_use, emptied);
     }
 
+    /// The tags of a loop, good ones and bad ones.
+    fn meet_tags(&mut self, unit: &Unit, tags: &[u32]) {
+        let good = |tag: &u32| unit.check_tag(*tag).is_ok();
+        let count = tags.len();
+        self.met_if(count == 0, "loop: no tag");
+        self.met_if(count == 9, "loop: 9 tags");
+        self.met_if((257..=264).contains(&count), "loop: 257 to 264 tags");
+        self.met_if(count >= 2_000, "loop: 2,000 tags or more");
+        self.met_if(count > MOST_TAGS && !tags.iter().all(good), "loop: refused by 17 and not by 2");
+        if (1..=MOST_TAGS).contains(&count) {
+            self.met_if(tags.contains(&0), "loop: a tag 0");
+            self.met_if(tags.contains(&(unit.functions + 1)), "loop: a tag after the last");
+            self.met_if(tags.iter().any(|tag| *tag > 255 && good(&(tag % 256))), "loop: a tag that would do without its higher bytes");
+            let first_bad = tags.iter().position(|tag| !good(tag));
+            self.met_if(first_bad == Some(count - 1) && count > 1, "loop: a bad tag after good ones");
+            self.met_if(first_bad == Some(0) && count > 1, "loop: a bad tag before others");
+        }
+    }
+
     fn what_was_done(&mut self, name: &str, said: &str, before: Before) -> Before {
         match (name, said) {
             ("fresh", "ok") => Before::Emptied,
@@ -722,6 +808,8 @@ impl<S: Shelf> Console<S> {
             ("mark" | "unmark", "refused 2" | "refused 3" | "refused 4") => Before::RefusedEdit,
             ("search", "ok") => Before::Searched,
             ("search", "refused 2" | "refused 7") => Before::RefusedSearch,
+            ("loop", "ok") => Before::Looped,
+            ("loop", "refused 2" | "refused 7" | "refused 17") => Before::RefusedLoop,
             // what only looks leaves what was done before in place
             ("read" | "bank" | "diagram" | "vector" | "bound" | "upper" | "constant" | "row" | "list" | "table", _) => before,
             (_, "expected") => Before::Bad,
@@ -736,6 +824,8 @@ impl<S: Shelf> Console<S> {
             Before::NoFile => "a plan kept by a load of no file",
             Before::RefusedEdit => "a plan kept by a refused edit",
             Before::RefusedSearch => "a plan kept by a refused search",
+            Before::Looped => "a plan kept by a loop",
+            Before::RefusedLoop => "a plan kept by a refused loop",
             Before::Bad => "a plan kept by a line that is no command",
             _ => "a plan",
         };
@@ -757,6 +847,8 @@ impl<S: Shelf> Console<S> {
             Before::RefusedEdit => "a bank kept by a refused edit",
             Before::Searched => "a bank kept by a search",
             Before::RefusedSearch => "a bank kept by a refused search",
+            Before::Looped => "a bank kept by a loop",
+            Before::RefusedLoop => "a bank kept by a refused loop",
             Before::Bad => "a bank kept by a line that is no command",
             _ => "a bank in use",
         };
@@ -841,6 +933,8 @@ pub const WANTED: &[&str] = &[
     "a plan kept by a load of no file",
     "a plan kept by a refused edit",
     "a plan kept by a refused search",
+    "a plan kept by a loop",
+    "a plan kept by a refused loop",
     "a plan kept by a line that is no command",
     "a plan with a sum above 255",
     "a plan of two or more latencies",
@@ -864,6 +958,36 @@ pub const WANTED: &[&str] = &[
     "judge: a latency above 256",
     "judge: yes to 256 latencies",
     "judge: collides only across turns",
+    "loop: no tag",
+    "loop: 8 tags",
+    "loop: 9 tags",
+    "loop: 257 to 264 tags",
+    "loop: 2,000 tags or more",
+    "loop: no number after 256 tags",
+    "loop: refused by 17 and not by 2",
+    "loop: a tag 0",
+    "loop: a tag after the last",
+    "loop: a tag that would do without its higher bytes",
+    "loop: a bad tag after good ones",
+    "loop: a bad tag before others",
+    "loop: a list that is a shorter one again",
+    "loop: a function that the list does not name",
+    "loop: no latency collides",
+    "loop: 250 states or more",
+    "loop: 256 states",
+    "loop: 256 states of two or more tags",
+    "loop: 256 states, a function not named",
+    "loop: 257 states",
+    "loop: 257 states of two or more tags",
+    "loop: refused by 7 for registers of a function not named",
+    "loop: refused by 7 for latencies of a function not named",
+    "loop: better than greedy",
+    "loop: more than one turn of the list",
+    "loop: 10 turns of the list or more",
+    "loop: 65 latencies or more",
+    "loop: a sum above 255",
+    "loop: a latency 32",
+    "no plan after a loop",
     "a bank in use",
     "a bank emptied",
     "a bank in use emptied by a new unit",
@@ -879,6 +1003,8 @@ pub const WANTED: &[&str] = &[
     "a bank kept by a refused edit",
     "a bank kept by a search",
     "a bank kept by a refused search",
+    "a bank kept by a loop",
+    "a bank kept by a refused loop",
     "a bank kept by a line that is no command",
     "an input of no bytes",
     "an input that comes byte by byte",

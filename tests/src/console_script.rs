@@ -2,6 +2,8 @@
 
 use crate::console_folder::{has_devices, File, Folder, FULL, INNER, NULL, PART};
 use crate::console_model::*;
+use crate::loops::MOST_TAGS;
+use crate::loops_check;
 use crate::model::*;
 use crate::random::{seed_of, Random};
 use crate::units;
@@ -76,6 +78,11 @@ fn long_name(place: usize) -> String {
     format!("long{place}")
 }
 
+/// A file with the unit of a hard list of tags.
+fn list_name(place: usize) -> String {
+    format!("list{place}")
+}
+
 /// Where symbolic links lead: to files that are saved now and then, to a file in order, to a file that is not there before one is saved along
 /// the link, to another link, to the inner folder, into a folder that is not there, to a device and around in a circle.
 const LINKS: [&str; 10] = ["again0", "inner/again0", "unit40", "linked", "link0", INNER, "missing/linked", FULL, NULL, "link9"];
@@ -143,6 +150,9 @@ fn files(random: &mut Random) -> Folder {
             }
         };
         put(damaged_name(place), File::Bytes(bytes));
+    }
+    for (place, row) in loops_check::HARD.into_iter().enumerate() {
+        put(list_name(place), File::Bytes(encode(&loops_check::hard_unit(row))));
     }
     // lengths that are right if one takes their last 32 bits alone, and zeros after a file in order
     let file = encode(&units::unit(random));
@@ -223,7 +233,7 @@ const NO_NUMBERS: [&[u8]; 23] = [
     b"Q",
     b"1/1",
 ];
-const NO_COMMANDS: [&[u8]; 23] = [
+const NO_COMMANDS: [&[u8]; 25] = [
     b"help",
     b"quit",
     b"exit",
@@ -245,6 +255,8 @@ const NO_COMMANDS: [&[u8]; 23] = [
     b"ticktick",
     b"bank,",
     b"judge1 1",
+    b"loops 1 2",
+    b"loo 1 2",
     b"\xef\xbb\xbftick",
     b"line 1: expected a command",
 ];
@@ -297,7 +309,7 @@ const BARE_LINES: [&[u8]; 22] = [
     b"\0",
 ];
 /// In how many forms long lines come.
-const LONG_FORMS: u64 = 31;
+const LONG_FORMS: u64 = 33;
 /// Lengths of lines: around the limit, around multiples of it, and far above it.
 const LENGTHS: [usize; 21] = [
     4_095, 4_095, 4_096, 4_096, 4_096, 4_097, 4_097, 4_098, 5_000, 8_190, 8_191, 8_192, 8_193, 8_194, 12_288, 12_289, 16_384, 65_535,
@@ -567,6 +579,58 @@ impl Writer {
         line.into_bytes()
     }
 
+    /// A list of tags, mostly of 1 to 8 good ones.
+    fn loop_over(&mut self) -> Vec<u8> {
+        let count = match self.random.below(64) {
+            0 | 1 => 0,
+            2 | 3 => self.random.pick(&[9, 10]),
+            4 => self.random.pick(&[255, 256, 257, 260, 264, 2_000]),
+            5..=20 => 1,
+            21..=48 => self.random.between(2, 4) as usize,
+            _ => self.random.between(5, 8) as usize,
+        };
+        // two functions, or any
+        let (two, any) = ([self.good_tag(), self.good_tag()], self.random.chance(1, 2));
+        let mut tags = Vec::new();
+        for _ in 0..count {
+            let tag = if any { self.good_tag() } else { self.random.pick(&two) };
+            // a long list has no room for zeros
+            tags.push(if count > 20 { tag.to_string() } else { self.digits(tag) });
+        }
+        // the same tags again
+        if count % 2 == 0 && self.random.chance(1, 5) {
+            let half = tags[..count / 2].to_vec();
+            tags = [&half[..], &half].concat();
+        }
+        let often = if count > MOST_TAGS { 2 } else { 8 };
+        if count > 0 && self.random.chance(1, often) {
+            let any = self.random.below(count as u64) as usize;
+            let place = if self.random.chance(1, 3) { count - 1 } else { any };
+            tags[place] = self.bad_tag();
+        }
+        let mut line = "loop".to_string();
+        for tag in tags {
+            line += " ";
+            line += &tag;
+        }
+        line.into_bytes()
+    }
+
+    /// What is no tag of the unit, or no number.
+    fn bad_tag(&mut self) -> String {
+        let (functions, _, _) = self.counts();
+        let inside = self.random.between(1, functions);
+        match self.random.below(16) {
+            0..=3 => "0".to_string(),
+            4..=7 => (functions + 1).to_string(),
+            8 => self.random.pick(&MANY).to_string(),
+            9..=11 => (self.random.pick(&[256, 65_536, 1 << 24, u32::MAX - 255]) + inside).to_string(),
+            12 => ((1u64 << 32) + inside as u64).to_string(),
+            13 => self.random.pick(&TOO_MANY).to_string(),
+            _ => self.random.pick(&["x", "-1", "1x", "1,", "+1", "0x1"]).to_string(),
+        }
+    }
+
     /// A command about a tag. Drawings and lists of many states are long, so most of those are left out.
     fn about(&mut self, name: &str) -> Vec<u8> {
         let mut name = name;
@@ -581,7 +645,7 @@ impl Writer {
     }
 
     fn command(&mut self) -> Vec<u8> {
-        match self.random.below(110) {
+        match self.random.below(116) {
             0..=22 => self.mark(),
             23..=29 => self.unmark(),
             30..=38 => self.about("search"),
@@ -603,11 +667,12 @@ impl Writer {
             100..=102 => self.about("table"),
             103..=107 => self.about("diagram"),
             108 => self.refused_fresh(),
-            _ => {
+            109 => {
                 let (functions, segments, columns) =
                     (self.argument(MOST_FUNCTIONS), self.argument(MOST_SEGMENTS), self.argument(MOST_COLUMNS));
                 format!("fresh {functions} {segments} {columns}").into_bytes()
             }
+            _ => self.loop_over(),
         }
     }
 
@@ -766,6 +831,11 @@ impl Writer {
                 line.resize(length, b' ');
                 line
             }
+            // tags, the last one with the zeros that are missing
+            31 => {
+                let count = self.random.pick(&[1, 2, 8, 9, 264]);
+                filled(format!("loop{} ", format!(" {tag}").repeat(count - 1)), tag.to_string())
+            }
             // blanks in place of what is missing: in front, between, at the end
             _ => {
                 let mut blank = || self.random.pick(&[b' ', b' ', b'\t']);
@@ -780,6 +850,7 @@ impl Writer {
                     27 => long("tick".to_string(), "\r".to_string()),
                     28 => long(String::new(), "# a comment".to_string()),
                     29 => long("save".to_string(), "again1".to_string()),
+                    32 => long(format!("loop {tag}"), tag.to_string()),
                     _ => long(format!("\tvector {tag}"), "x".to_string()),
                 }
             }
@@ -824,7 +895,7 @@ impl Writer {
     fn search_and_read(&mut self) {
         let tag = self.good_tag();
         self.put(format!("search {tag}"));
-        match self.random.below(18) {
+        match self.random.below(20) {
             0 => {
                 let line = self.refused_fresh();
                 self.put(line);
@@ -860,6 +931,10 @@ impl Writer {
             }
             14 => {
                 let line = [b"un", &self.mark()[..]].concat();
+                self.put(line);
+            }
+            15 | 16 => {
+                let line = self.loop_over();
                 self.put(line);
             }
             _ => {}
@@ -898,6 +973,30 @@ impl Writer {
         self.put("list");
     }
 
+    /// Loops, and what is to be as it was before them.
+    fn loops(&mut self) {
+        for _ in 0..self.random.between(1, 4) {
+            let line = self.loop_over();
+            self.put(line);
+            let line = self.random.pick(&["read", "bank", "list", "tick"]);
+            self.put(line);
+        }
+    }
+
+    /// The hard lists, and a list of one tag for each hard diagram.
+    fn hard_loops(&mut self) {
+        for (place, (_, _, _, tags, _)) in loops_check::HARD.into_iter().enumerate() {
+            let words: Vec<String> = tags.iter().map(|tag| tag.to_string()).collect();
+            self.put(format!("load {}", list_name(place)));
+            self.put(format!("loop {}", words.join(" ")));
+        }
+        for place in 0..units::HARD.len() {
+            self.put(format!("load {}", good_name(place)));
+            let tag = self.standing().map_or(1, |mark| mark.tag);
+            self.put(format!("loop {tag}"));
+        }
+    }
+
     /// The issue controller at work, and what leaves its bank as it is or empties it; then the bank is seen, and a start is tried.
     fn events(&mut self) {
         for _ in 0..self.random.between(1, 4) {
@@ -928,7 +1027,7 @@ impl Writer {
         let (functions, segments, columns) = self.counts();
         let tag = self.good_tag();
         let edit = self.random.pick(&["mark", "unmark"]);
-        match self.random.below(26) {
+        match self.random.below(29) {
             0 => self.refused_fresh(),
             1 => format!("load {}", damaged_name(self.random.below(DAMAGED_FILES as u64) as usize)).into_bytes(),
             2 => self.fresh(),
@@ -951,6 +1050,7 @@ impl Writer {
             22 => self.spoiled(),
             23 => format!("search {tag}").into_bytes(),
             24 => format!("search {}", functions + 1).into_bytes(),
+            25..=27 => self.loop_over(),
             _ => b"tick".to_vec(),
         }
     }
@@ -981,7 +1081,11 @@ impl Writer {
     /// A new unit.
     fn begin(&mut self) {
         if self.random.chance(1, 3) {
-            let name = good_name(self.random.below(GOOD_FILES as u64) as usize);
+            let name = if self.random.chance(1, 8) {
+                list_name(self.random.below(loops_check::HARD.len() as u64) as usize)
+            } else {
+                good_name(self.random.below(GOOD_FILES as u64) as usize)
+            };
             return self.put(format!("load {name}"));
         }
         let line = self.fresh();
@@ -1043,6 +1147,7 @@ impl Writer {
                 6 => self.questions(),
                 7 => self.events(),
                 8 => self.save_and_load(),
+                9 => self.loops(),
                 _ => self.some_line(),
             }
         }
@@ -1052,7 +1157,8 @@ impl Writer {
     fn no_unit(&mut self, count: usize) {
         let end = (self.lines.len() + count).min(self.most);
         for (name, wants) in COMMANDS {
-            let words = wants.replace("FILE", "missing").replace(" L L ..", " 1 1").replace(['P', 'S', 'Q', 'R', 'C'], "0");
+            let words = wants.replace("FILE", "missing").replace(" L L ..", " 1 1").replace(" Q Q ..", " 1 1");
+            let words = words.replace(['P', 'S', 'Q', 'R', 'C'], "0");
             self.put(format!("{name}{words}"));
             self.put(format!("{name}{words} 1 x"));
         }
@@ -1107,6 +1213,7 @@ fn sessions(lines: usize, before: &Folder, console: Console<Folder>) -> (Script,
             writer.put(line);
         }
     }
+    writer.hard_loops();
     while !writer.full() {
         writer.session();
     }

@@ -17,6 +17,8 @@ mod console_program;
 mod console_script;
 mod console_words;
 mod facts;
+mod loops;
+mod loops_check;
 mod model;
 mod model_check;
 mod random;
@@ -31,7 +33,8 @@ use console_model::*;
 use console_outside::{cases, Outcome, Program};
 use console_program::{Ending, Place};
 use console_script::{scripts, Feed, Line, Script, LINES};
-use console_words::{plan_drawing, Filler, Finder};
+use console_words::{one_turn, plan_drawing, Filler, Finder};
+use loops::Loops;
 use model::*;
 use random::{seed_of, Random};
 use std::collections::BTreeMap;
@@ -153,9 +156,32 @@ impl Spoiler<'_> {
     fn change_plan(&mut self, edit: impl Fn(&Drawn, Vec<u8>, &mut Finder, &mut Random) -> Option<String>) -> Placed {
         self.change(|line, text, finder, random| {
             let [Part::Text(begin), Part::Plan(_, drawn), _] = &line.answer.parts[..] else { return None };
-            let shown = text.strip_prefix(begin.as_str())?.split_once(" sum ")?.0;
-            let latencies = shown.split(' ').map(|word| word.parse().expect("a latency")).collect();
-            Some(format!("{begin}{}\n", edit(drawn, latencies, finder, random)?))
+            Some(format!("{begin}{}\n", edit(drawn, latencies_in(text, begin)?, finder, random)?))
+        })
+    }
+
+    /// The loop that is shown in place of the right one, from its list and what was shown.
+    fn change_loop(&mut self, edit: impl Fn(&Loops, Vec<u8>) -> Option<String>) -> Placed {
+        self.change(|line, text, _, _| {
+            let [Part::Text(begin), Part::Loop(loops), _] = &line.answer.parts[..] else { return None };
+            Some(format!("{begin}{}\n", edit(loops, latencies_in(text, begin)?)?))
+        })
+    }
+
+    /// The same where the other loop is one that is not the best, though it never collides.
+    fn change_best_loop(&mut self, other: impl Fn(&Loops, Vec<u8>) -> Option<Vec<u8>>) -> Placed {
+        self.change_loop(|loops, latencies| {
+            let latencies = other(loops, latencies)?;
+            let is_worse = !loops.is_least(&latencies) && loops.kernel.never_collides(&latencies, &mut Yard::new());
+            is_worse.then(|| cycle_text(&latencies))
+        })
+    }
+
+    /// The same where the other loop collides, though its average is no worse.
+    fn change_to_collide(&mut self, other: impl Fn(&Loops, Vec<u8>) -> Option<Vec<u8>>) -> Placed {
+        self.change_loop(|loops, latencies| {
+            let latencies = other(loops, latencies)?;
+            (!loops.kernel.never_collides(&latencies, &mut Yard::new())).then(|| cycle_text(&latencies))
         })
     }
 
@@ -194,6 +220,12 @@ impl Spoiler<'_> {
     }
 }
 
+/// The latencies of an answer, which stand after this text.
+fn latencies_in(text: &str, begin: &str) -> Option<Vec<u8>> {
+    let shown = text.strip_prefix(begin)?.split_once(" sum ")?.0;
+    Some(shown.split(' ').map(|word| word.parse().expect("a latency")).collect())
+}
+
 /// The last digit of a text changed to the next one.
 fn next_digit(text: &str) -> String {
     let mut bytes = text.as_bytes().to_vec();
@@ -219,7 +251,7 @@ fn worse(drawn: &Drawn, latencies: &[u8]) -> bool {
 
 type Wrong = (&'static str, fn(&mut Spoiler) -> Placed);
 
-const WRONG: [Wrong; 70] = [
+const WRONG: [Wrong; 95] = [
     ("mark: ok in place of refused 2", |it| it.change_of("mark", "refused 2", |_| "ok\n".to_string())),
     ("mark: refused 3 in place of refused 4", |it| it.change_of("mark", "refused 4", |_| "refused 3\n".to_string())),
     ("unmark: refused 2 in place of ok", |it| it.change_of("unmark", "ok", |_| "refused 2\n".to_string())),
@@ -346,6 +378,74 @@ const WRONG: [Wrong; 70] = [
         })
     }),
     ("diagram: two arcs exchanged", |it| it.change_of("diagram", "digraph", lines_exchanged)),
+    ("loop: the sum is another", |it| it.change_loop(|_, latencies| Some(next_digit(&cycle_text(&latencies))))),
+    ("loop: a latency too many for the list", |it| {
+        it.change_loop(|loops, mut latencies| {
+            latencies.push(loops.kernel.longest as u8);
+            (loops.kernel.tags.len() > 1).then(|| cycle_text(&latencies))
+        })
+    }),
+    ("loop: a latency too few for the list", |it| {
+        it.change_loop(|loops, mut latencies| {
+            latencies.pop();
+            (loops.kernel.tags.len() > 1).then(|| cycle_text(&latencies))
+        })
+    }),
+    ("loop: half a turn of a list that is a shorter one again", |it| {
+        it.change_loop(|loops, latencies| {
+            let (half, list) = (latencies.len() / 2, loops.kernel.tags.len());
+            let is_twice = latencies.len() == list && list % 2 == 0 && latencies[..half] == latencies[half..];
+            is_twice.then(|| cycle_text(&latencies[..half]))
+        })
+    }),
+    ("loop: begun at the second tag", |it| {
+        it.change_to_collide(|_, mut latencies| {
+            latencies.rotate_left(1);
+            Some(latencies)
+        })
+    }),
+    ("loop: a latency 1 each time, which collides", |it| it.change_to_collide(|_, latencies| Some(vec![1; latencies.len()]))),
+    ("loop: two latencies exchanged, which collides", |it| {
+        it.change_to_collide(|_, mut latencies| {
+            let place = (1..latencies.len()).find(|place| latencies[place - 1] != latencies[*place])?;
+            latencies.swap(place - 1, place);
+            Some(latencies)
+        })
+    }),
+    ("loop: the last latency is one more", |it| {
+        it.change_best_loop(|_, mut latencies| {
+            *latencies.last_mut()? += 1;
+            Some(latencies)
+        })
+    }),
+    ("loop: each start as soon as it can be, which is not the best", |it| it.change_best_loop(|loops, _| Some(loops.greedy()))),
+    ("loop: the best of one turn, which is not the best", |it| it.change_best_loop(|loops, _| one_turn(loops))),
+    ("loop: n + 1 each time, which is not the best", |it| {
+        it.change_best_loop(|loops, _| Some(vec![loops.kernel.longest as u8; loops.kernel.tags.len()]))
+    }),
+    ("loop: the best loop and then n + 1 for a turn", |it| {
+        it.change_best_loop(|loops, latencies| {
+            let more = vec![loops.kernel.longest as u8; loops.kernel.tags.len()];
+            Some([&latencies[..], &more].concat())
+        })
+    }),
+    ("loop: twice around", |it| it.change_loop(|_, latencies| Some(cycle_text(&latencies.repeat(2))))),
+    ("loop: no latency", |it| it.change_loop(|_, _| Some("sum 0".to_string()))),
+    ("loop: latencies 0", |it| it.change_loop(|_, latencies| Some(cycle_text(&vec![0; latencies.len()])))),
+    ("loop: a zero in front of a latency", |it| it.change_loop(|_, latencies| Some(format!("0{}", cycle_text(&latencies))))),
+    ("loop: a plan's line", |it| it.change_of("loop", "loop cycle", |text| text.replacen("loop", "plan 0", 1))),
+    ("loop: refused 2 in place of refused 17", |it| it.change_of("loop", "refused 17", |_| "refused 2\n".to_string())),
+    ("loop: refused 17 in place of refused 2", |it| it.change_of("loop", "refused 2", |_| "refused 17\n".to_string())),
+    ("loop: a loop in place of refused 7", |it| it.change_of("loop", "refused 7", |_| "loop cycle 1 sum 1\n".to_string())),
+    ("loop: refused 7 in place of a loop over 256 states", |it| {
+        it.change(|line, _, _, _| line.answer.met.contains(&"loop: 256 states").then(|| "refused 7\n".to_string()))
+    }),
+    ("loop: refused 7 in place of a loop", |it| it.change_of("loop", "loop", |_| "refused 7\n".to_string())),
+    ("loop: what was expected in place of refused 17", |it| {
+        it.change(|line, _, _, _| line.answer.met.contains(&"loop: no tag").then(|| "line 1: expected loop Q Q ..\n".to_string()))
+    }),
+    ("loop: refused 2 in place of what was expected", |it| it.change_of("loop", "line", |_| "refused 2\n".to_string())),
+    ("loop: one tag alone was expected", |it| it.change_of("loop", "line", |text| text.replace("loop Q Q ..", "loop Q"))),
     ("line N: one more", |it| {
         it.change(|_, text, _, _| {
             let (number, rest) = text.strip_prefix("line ")?.split_once(':')?;

@@ -1,22 +1,23 @@
-//! Answers put into words, with best cycles of the model's own.
+//! Answers put into words, with best cycles and loops of the model's own.
 
 use crate::console_model::*;
+use crate::loops::Loops;
 use crate::model::*;
 use crate::random::Random;
 use std::collections::HashMap;
 
-/// Best cycles of a diagram, any of them.
+/// Best cycles of a diagram and best loops of a list, any of them.
 #[derive(Default)]
 pub struct Finder {
     /// For each diagram the arcs that a best cycle may run along.
-    tight: HashMap<*const Graph, Vec<Vec<(u32, usize)>>>,
+    tight: HashMap<*const Graph, Arcs>,
+    /// The same for each list.
+    tight_loops: HashMap<*const Loops, Arcs>,
 }
 
 /// Heights such that no arc rises by more than what it costs above the least average; those that rise by just that are on the best cycles.
-fn tight_arcs(graph: &Graph) -> Vec<Vec<(u32, usize)>> {
-    let (sum, count) = graph.least();
+fn tight_arcs(arcs: &Arcs, (sum, count): (i64, i64)) -> Arcs {
     let cost = |latency: u32| count * latency as i64 - sum;
-    let arcs = &graph.diagram.arcs;
     let mut heights = vec![0i64; arcs.len()];
     let mut settled = false;
     while !settled {
@@ -32,7 +33,7 @@ fn tight_arcs(graph: &Graph) -> Vec<Vec<(u32, usize)>> {
     }
     let is_tight = |from: usize, (latency, to): (u32, usize)| heights[from] + cost(latency) == heights[to];
     let on_tight = |(from, leading): (usize, &Vec<(u32, usize)>)| leading.iter().copied().filter(|arc| is_tight(from, *arc)).collect();
-    let mut tight: Vec<Vec<(u32, usize)>> = arcs.iter().enumerate().map(on_tight).collect();
+    let mut tight: Arcs = arcs.iter().enumerate().map(on_tight).collect();
     // arcs to states that lead no further are left out, until every walk can go on
     loop {
         let ends: Vec<bool> = tight.iter().map(|leading| leading.is_empty()).collect();
@@ -46,30 +47,69 @@ fn tight_arcs(graph: &Graph) -> Vec<Vec<(u32, usize)>> {
 
 impl Finder {
     pub fn best(&mut self, graph: &Graph, random: &mut Random) -> Vec<u8> {
-        let tight = self.tight.entry(graph).or_insert_with(|| tight_arcs(graph));
-        let begins: Vec<usize> = (0..tight.len()).filter(|state| !tight[*state].is_empty()).collect();
-        let mut cycle = walk_around(tight, random.pick(&begins), random);
+        let tight = self.tight.entry(graph).or_insert_with(|| tight_arcs(&graph.diagram.arcs, graph.least()));
+        let (_, mut cycle) = walk_around(tight, random);
         while !is_first_rotation(&cycle) {
             cycle.rotate_left(1);
         }
         cycle
     }
+
+    /// In any of its rotations that begin at position 0.
+    pub fn best_loop(&mut self, loops: &Loops, random: &mut Random) -> Vec<u8> {
+        let tight = self.tight_loops.entry(loops).or_insert_with(|| tight_arcs(&loops.reached.arcs, loops.least()));
+        let (begin, latencies) = walk_around(tight, random);
+        let count = loops.kernel.tags.len();
+        let turns = random.below((latencies.len() / count) as u64) as usize;
+        let mut latencies = loops.turned(begin, latencies);
+        latencies.rotate_left(turns * count);
+        latencies
+    }
 }
 
-/// A walk from a state until one occurs again, and of it the part from there on.
-fn walk_around(arcs: &[Vec<(u32, usize)>], begin: usize, random: &mut Random) -> Vec<u8> {
+/// A walk from some state until one occurs again, and of it the part from there on, with that state.
+fn walk_around(arcs: &Arcs, random: &mut Random) -> (usize, Vec<u8>) {
+    let begins: Vec<usize> = (0..arcs.len()).filter(|state| !arcs[*state].is_empty()).collect();
     let mut states: Vec<usize> = Vec::new();
     let mut latencies: Vec<u8> = Vec::new();
-    let mut state = begin;
+    let mut state = random.pick(&begins);
     loop {
         if let Some(again) = states.iter().position(|earlier| *earlier == state) {
-            return latencies[again..].to_vec();
+            return (state, latencies[again..].to_vec());
         }
         states.push(state);
         let (latency, next) = random.pick(&arcs[state]);
         latencies.push(latency as u8);
         state = next;
     }
+}
+
+/// The loop of least sum that goes around the list once. None where there are many states.
+pub fn one_turn(loops: &Loops) -> Option<Vec<u8>> {
+    const MOST: usize = 60;
+    let (arcs, positions) = (&loops.reached.arcs, &loops.reached.positions);
+    if arcs.len() > MOST {
+        return None;
+    }
+    let from = |begin: usize| {
+        // for each state the latencies of least sum that lead to it
+        let mut ways: HashMap<usize, Vec<u8>> = HashMap::from([(begin, Vec::new())]);
+        for _ in &loops.kernel.tags {
+            let mut longer: HashMap<usize, Vec<u8>> = HashMap::new();
+            for (state, way) in &ways {
+                for &(latency, next) in &arcs[*state] {
+                    let new = [&way[..], &[latency as u8]].concat();
+                    if longer.get(&next).is_none_or(|old| sum_of(&new) < sum_of(old)) {
+                        longer.insert(next, new);
+                    }
+                }
+            }
+            ways = longer;
+        }
+        ways.remove(&begin)
+    };
+    let begins = (0..arcs.len()).filter(|state| positions[*state] == 0);
+    begins.filter_map(from).min_by_key(|way| (sum_of(way), way.clone()))
 }
 
 pub fn plan_drawing(tag: u32, drawn: &Drawn, latencies: &[u8]) -> String {
@@ -91,6 +131,7 @@ impl Filler {
         let in_words = |part: &Part| match part {
             Part::Text(text) => text.clone(),
             Part::Best(drawn) => cycle_text(&finder.best(&drawn.graph, random)),
+            Part::Loop(loops) => cycle_text(&finder.best_loop(loops, random)),
             Part::Plan(search, drawn) => cycle_text(plans.entry(*search).or_insert_with(|| finder.best(&drawn.graph, random))),
             Part::Drawing(search, tag, drawn) => {
                 plan_drawing(*tag, drawn, plans.entry(*search).or_insert_with(|| finder.best(&drawn.graph, random)))

@@ -188,8 +188,7 @@ pub fn bits_of(word: u32) -> Vec<bool> {
 pub struct Diagram {
     /// Each state is as long as the collision vector, entry t − 1 for column t.
     pub states: Vec<Vec<bool>>,
-    /// For each state its latencies, rising, with the place of the state they lead to.
-    pub arcs: Vec<Vec<(u32, usize)>>,
+    pub arcs: Arcs,
 }
 
 /// "A state permits latency t when t is from 1 to n and its column t is 0; and it permits n + 1."
@@ -214,7 +213,7 @@ fn after(state: &[bool], latency: usize, vector: &[bool]) -> Vec<bool> {
 pub fn diagram(vector: &[bool], limit: usize) -> Option<Diagram> {
     let mut states = vec![vector.to_vec()];
     let mut places: HashMap<Vec<bool>, usize> = HashMap::from([(vector.to_vec(), 0)]);
-    let mut arcs: Vec<Vec<(u32, usize)>> = Vec::new();
+    let mut arcs: Arcs = Vec::new();
     while arcs.len() < states.len() {
         let state = states[arcs.len()].clone();
         let mut leading = Vec::new();
@@ -284,76 +283,84 @@ impl Diagram {
         state == begin
     }
 
-    /// The least average of a cycle, as a sum and a count, by Karp's theorem: with d(k, v) the least sum of a walk of exactly k arcs from
-    /// the first state to v, and N states, it is the least over v of the greatest over k below N of (d(N, v) − d(k, v)) / (N − k). The
-    /// theorem asks that every state can be reached from the first one, as in this diagram each can.
     pub fn least_average(&self) -> (i64, i64) {
-        let count = self.states.len();
-        let flat: Vec<(usize, i32, usize)> = self
-            .arcs
-            .iter()
-            .enumerate()
-            .flat_map(|(from, leading)| leading.iter().map(move |&(latency, to)| (from, latency as i32, to)))
-            .collect();
-        const NONE: i32 = i32::MAX / 2;
-        let mut sums = vec![NONE; (count + 1) * count];
-        sums[0] = 0;
-        for arcs in 1..=count {
-            let (shorter, longer) = sums[(arcs - 1) * count..(arcs + 1) * count].split_at_mut(count);
-            for &(from, latency, to) in &flat {
-                longer[to] = longer[to].min(shorter[from] + latency);
-            }
-            longer.iter_mut().for_each(|sum| *sum = (*sum).min(NONE));
-        }
-        let mut least: Option<(i64, i64)> = None;
-        for state in 0..count {
-            let whole = sums[count * count + state];
-            if whole == NONE {
-                continue;
-            }
-            let mut greatest: Option<(i64, i64)> = None;
-            for arcs in 0..count {
-                let part = sums[arcs * count + state];
-                if part == NONE {
-                    continue;
-                }
-                let fraction = ((whole - part) as i64, (count - arcs) as i64);
-                if greatest.is_none_or(|old| fraction.0 * old.1 > old.0 * fraction.1) {
-                    greatest = Some(fraction);
-                }
-            }
-            let greatest = greatest.expect("a walk of N arcs meets a state twice");
-            if least.is_none_or(|old| greatest.0 * old.1 < old.0 * greatest.1) {
-                least = Some(greatest);
-            }
-        }
-        least.expect("every state permits n + 1")
+        least_average(&self.arcs)
     }
 
-    /// No cycle has an average below `sum / count`: heights exist for the states such that each arc of latency t rises by no more than
-    /// count × t − sum. Added up around a cycle of m latencies with sum T this says count × T at least sum × m. Without such heights a
-    /// cycle of a lower average exists, so the answer is exact both ways. It is believed only after the heights were tried on every arc.
     pub fn nothing_below(&self, sum: i64, count: i64) -> bool {
-        let mut heights = vec![0i64; self.states.len()];
-        for _ in 0..=self.states.len() {
-            let mut settled = true;
-            for (from, leading) in self.arcs.iter().enumerate() {
-                for &(latency, to) in leading {
-                    let reach = heights[from] + count * latency as i64 - sum;
-                    if reach < heights[to] {
-                        heights[to] = reach;
-                        settled = false;
-                    }
-                }
+        nothing_below(&self.arcs, sum, count)
+    }
+}
+
+/// For each state of a graph its latencies, rising, with the place of the state they lead to.
+pub type Arcs = Vec<Vec<(u32, usize)>>;
+
+/// The least average of a cycle, as a sum and a count, by Karp's theorem: with d(k, v) the least sum of a walk of exactly k arcs from
+/// the first state to v, and N states, it is the least over v of the greatest over k below N of (d(N, v) − d(k, v)) / (N − k). The
+/// theorem asks that every state can be reached from the first one, as in the graphs here each can.
+pub fn least_average(arcs: &Arcs) -> (i64, i64) {
+    let count = arcs.len();
+    let flat: Vec<(usize, i32, usize)> =
+        arcs.iter().enumerate().flat_map(|(from, leading)| leading.iter().map(move |&(latency, to)| (from, latency as i32, to))).collect();
+    const NONE: i32 = i32::MAX / 2;
+    let mut sums = vec![NONE; (count + 1) * count];
+    sums[0] = 0;
+    for arcs in 1..=count {
+        let (shorter, longer) = sums[(arcs - 1) * count..(arcs + 1) * count].split_at_mut(count);
+        for &(from, latency, to) in &flat {
+            longer[to] = longer[to].min(shorter[from] + latency);
+        }
+        longer.iter_mut().for_each(|sum| *sum = (*sum).min(NONE));
+    }
+    let mut least: Option<(i64, i64)> = None;
+    for state in 0..count {
+        let whole = sums[count * count + state];
+        if whole == NONE {
+            continue;
+        }
+        let mut greatest: Option<(i64, i64)> = None;
+        for arcs in 0..count {
+            let part = sums[arcs * count + state];
+            if part == NONE {
+                continue;
             }
-            if settled {
-                return self.arcs.iter().enumerate().all(|(from, leading)| {
-                    leading.iter().all(|&(latency, to)| heights[to] - heights[from] <= count * latency as i64 - sum)
-                });
+            let fraction = ((whole - part) as i64, (count - arcs) as i64);
+            if greatest.is_none_or(|old| fraction.0 * old.1 > old.0 * fraction.1) {
+                greatest = Some(fraction);
             }
         }
-        false
+        let greatest = greatest.expect("a walk of N arcs meets a state twice");
+        if least.is_none_or(|old| greatest.0 * old.1 < old.0 * greatest.1) {
+            least = Some(greatest);
+        }
     }
+    least.expect("every state permits n + 1")
+}
+
+/// No cycle has an average below `sum / count`: heights exist for the states such that each arc of latency t rises by no more than
+/// count × t − sum. Added up around a cycle of m latencies with sum T this says count × T at least sum × m. Without such heights a
+/// cycle of a lower average exists, so the answer is exact both ways. It is believed only after the heights were tried on every arc.
+pub fn nothing_below(arcs: &Arcs, sum: i64, count: i64) -> bool {
+    let mut heights = vec![0i64; arcs.len()];
+    for _ in 0..=arcs.len() {
+        let mut settled = true;
+        for (from, leading) in arcs.iter().enumerate() {
+            for &(latency, to) in leading {
+                let reach = heights[from] + count * latency as i64 - sum;
+                if reach < heights[to] {
+                    heights[to] = reach;
+                    settled = false;
+                }
+            }
+        }
+        if settled {
+            return arcs
+                .iter()
+                .enumerate()
+                .all(|(from, leading)| leading.iter().all(|&(latency, to)| heights[to] - heights[from] <= count * latency as i64 - sum));
+        }
+    }
+    false
 }
 
 /// "The cycle is given in the rotation that comes first when read as a list of numbers."
@@ -486,15 +493,15 @@ pub fn upper(vector: &[bool]) -> u32 {
 // The issue controller
 
 /// The registers as lists of bits, lowest first.
-#[derive(Clone, PartialEq, Eq, Debug)]
+#[derive(Clone, PartialEq, Eq, Hash, Debug)]
 pub struct Bank {
-    registers: Vec<Vec<bool>>,
+    registers: [[bool; REGISTER_BITS]; REGISTERS],
 }
 
 impl Bank {
     /// "The bank takes any register values". "Empty means all zero."
     pub fn of_words(words: &[u32]) -> Bank {
-        Bank { registers: words[..REGISTERS].iter().map(|&word| bits_of(word)).collect() }
+        Bank { registers: std::array::from_fn(|place| bits_of(words[place]).try_into().expect("32 bits")) }
     }
 
     pub fn words(&self) -> Vec<u32> {
@@ -504,15 +511,19 @@ impl Bank {
     /// "A tick shifts each register right by one."
     pub fn tick(&mut self) {
         for register in &mut self.registers {
-            register.remove(0);
-            register.push(false);
+            register.rotate_left(1);
+            register[REGISTER_BITS - 1] = false;
         }
+    }
+
+    pub fn holds_back(&self, tag: u32) -> bool {
+        self.registers[tag as usize - 1][0]
     }
 
     /// "A start of Q is granted when the lowest bit of register Q is 0; then all registers shift right by one, and row R of M_Q is ORed
     /// into register R for each tag R of the unit. A refused start takes no time." `rows[R − 1]` is row R of M_Q.
     pub fn start(&mut self, tag: u32, rows: &[Vec<bool>]) -> Reply<()> {
-        if self.registers[tag as usize - 1][0] {
+        if self.holds_back(tag) {
             return Err(10);
         }
         self.tick();

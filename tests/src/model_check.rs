@@ -231,7 +231,7 @@ fn bounds(most: usize) -> Checked {
 }
 
 /// Lists of up to `length` latencies of 1 to `most`.
-fn all_lists(length: usize, most: u8) -> Vec<Vec<u8>> {
+pub fn all_lists(length: usize, most: u8) -> Vec<Vec<u8>> {
     let mut lists: Vec<Vec<u8>> = vec![vec![]];
     let mut begin = 0;
     for _ in 0..length {

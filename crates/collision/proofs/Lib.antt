@@ -5,3 +5,4 @@ pub mod VectorLaws
 pub mod Examples
 pub mod ClashLaws
 pub mod StartLaws
+pub mod MatrixLaws

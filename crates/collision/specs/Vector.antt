@@ -1,7 +1,8 @@
 -- Collision vector and matrix rows held in words, and the numbers that go with them.
-use mathlib.Core.Bool.{Bool, not, _&&_}
+use mathlib.Core.Path.{_≡_}
+use mathlib.Core.Bool.{Bool, true, not, _&&_}
 use mathlib.Core.List.{List}
-use Prim.Native.Nat.{ℕ, _+_, _%_}
+use Prim.Native.Nat.{ℕ, _+_, _%_, _≤_}
 use lib.Dec.{eqb}
 use lib.ListN.{getD}
 use Rattle.words.specs.Bits.{isSet}
@@ -38,6 +39,14 @@ vectorWord T q = rowWord T q q
 -- n, the largest forbidden latency, or 0
 unfoldable pub largestForbidden : Table → ℕ → ℕ
 largestForbidden T q = spanBelow 32 (λ k. collides T q q (k + 1))
+
+-- the largest column with a 1 in any matrix of a unit, or 0 (`column-means`, proofs/MatrixLaws.antt)
+unfoldable pub largestColumn : Table → ℕ
+largestColumn T = maxBelow 5 (λ q. maxBelow 5 (λ r. spanBelow 32 (λ k. collides T q r (k + 1))))
+
+pub record IsLargestColumn (T : Table) (n : ℕ) : Type 0 where
+  pub most : (q r t : ℕ) → q ≤ 4 → r ≤ 4 → 1 ≤ t → t ≤ 32 → collides T q r t ≡ true → t ≤ n
+  pub reached : 1 ≤ n → (q r : ℕ) × (collides T q r n ≡ true)
 
 -- Marks: the largest number of marks in one segment
 unfoldable pub marksOf : Table → ℕ → ℕ

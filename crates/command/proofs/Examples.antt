@@ -6,6 +6,7 @@ use Prim.Native.Nat.{ℕ}
 use Rattle.text.specs.Text.{ascii, value}
 use Rattle.command_table.specs.declared.Act.the-variants as Act
 use Rattle.command_table.specs.declared.Ask.the-variants as Ask
+use Rattle.command_table.specs.declared.Show.the-variants as Show
 use Rattle.command_table.specs.declared.Verb.{Verb}
 use Rattle.command_table.specs.declared.Verb.the-variants as Verb
 use Rattle.command_table.specs.declared.Form.the-variants as Form
@@ -13,7 +14,7 @@ use Rattle.command_table.specs.Commands.{rowAt, nameAt, same, among, commandOf}
 use Rattle.command.specs.declared.Trouble.the-variants as Trouble
 use Rattle.command.specs.declared.Parsed.{Parsed}
 use Rattle.command.specs.declared.Parsed.the-variants as Parsed
-use Rattle.command.specs.Lines.{textOf, partsOf, wordsOf, digitsOnly, isNumber, numberSaid, allNumbers, fits, said, meaning, latenciesIn, fileIn}
+use Rattle.command.specs.Lines.{textOf, partsOf, wordsOf, digitsOnly, isNumber, numberSaid, allNumbers, fits, said, meaning, latenciesIn, tagsIn, fileIn}
 
 abbrev command : Verb → ℕ → ℕ → ℕ → ℕ → Parsed
 command v count first second third = Parsed.Command (record { verb = v; count = count; first = first; second = second; third = third })
@@ -98,9 +99,25 @@ pub no-digits : meaning (ascii "row 1 x") ≡ Parsed.Bad (Trouble.Usage 6)
 unfolding meaning textOf said wordsOf partsOf commandOf among same nameAt rowAt allNumbers isNumber digitsOnly numberSaid value
 no-digits = refl
 
+pub a-loop : meaning (ascii "loop 1 2 1 300") ≡ command (Verb.Show Show.Loop) 4 1 2 1
+unfolding meaning textOf said wordsOf partsOf commandOf among same nameAt rowAt allNumbers isNumber digitsOnly numberSaid value
+a-loop = refl
+
+pub no-tags : meaning (ascii "loop") ≡ command (Verb.Show Show.Loop) 0 0 0 0
+unfolding meaning textOf said wordsOf partsOf commandOf among same nameAt rowAt allNumbers isNumber digitsOnly numberSaid value
+no-tags = refl
+
+pub a-tag-in-letters : meaning (ascii "loop 1 b") ≡ Parsed.Bad (Trouble.Usage 21)
+unfolding meaning textOf said wordsOf partsOf commandOf among same nameAt rowAt allNumbers isNumber digitsOnly numberSaid value
+a-tag-in-letters = refl
+
 pub its-latencies : latenciesIn (ascii "judge 0  3 4 256 7\r") ≡ 3 ∷ 4 ∷ 0 ∷ 7 ∷ []
 unfolding latenciesIn textOf wordsOf partsOf numberSaid isNumber digitsOnly value
 its-latencies = refl
+
+pub its-tags : tagsIn (ascii "loop 1  2 256 1\r") ≡ 1 ∷ 2 ∷ 0 ∷ 1 ∷ []
+unfolding tagsIn textOf wordsOf partsOf numberSaid isNumber digitsOnly value
+its-tags = refl
 
 pub its-file : fileIn (ascii " load  units/a.unit \r") ≡ ascii "units/a.unit"
 unfolding fileIn textOf wordsOf partsOf

@@ -1,4 +1,4 @@
--- The latencies of a cycle, put in front of lent bytes one by one. Assumes nothing.
+-- The numbers of words as bytes, put in front of lent bytes one by one. Assumes nothing.
 use mathlib.Core.Path.{_≡_, refl, sym, ap, ap₂, _∙_}
 use mathlib.Core.Bool.{false}
 use mathlib.Core.List.{List, [], _∷_, _++_, map, append-assoc}
@@ -8,8 +8,8 @@ use native.Mathlib.Omega.{arith}
 use lib.ListN.{length, getD, set, take, drop, length-append, length-drop, drop-of-length-le, List·getD-map}
 use lib.Seq.{take-suc, take-all, drop-cons, set-at, length-take-le}
 use Rattle.words.specs.Bytes.{narrow}
-use Rattle.command.specs.Lines.{isBlank, numberSaid, inFront}
-use Rattle.command.specs.Inner.{wordFrom, wordsFrom, Begins, narrowed}
+use Rattle.command.specs.Lines.{isBlank, numberSaid, narrowed, inFront}
+use Rattle.command.specs.Inner.{wordFrom, wordsFrom, Begins}
 use Rattle.command.proofs.WordLaws.{part, word-part, word-some, words-end, words-here}
 use Rattle.command.proofs.ScanLaws.{number-none}
 
@@ -41,28 +41,28 @@ narrowed-at words n = ap (getD (narrowed words) n) (sym (ap narrow number-none))
 
 -- Along the text
 
--- the latencies of the words before an index, at which one begins or the text ends, are in front
-pub record Filled (text : List ℕ) (from : ℕ) (bytes cycle : List ℕ) (count at : ℕ) : Type 0 where
+-- the numbers of the words before an index, at which one begins or the text ends, are in front
+pub record Filled (text : List ℕ) (from : ℕ) (bytes list : List ℕ) (count at : ℕ) : Type 0 where
   pub room : count ≤ length bytes
   pub known : count ≤ length (wordsFrom text from)
   pub inside : at ≤ length text
   pub here : at < length text → isBlank (getD text at 0) ≡ false
   pub rest : wordsFrom text at ≡ drop count (wordsFrom text from)
-  pub front : cycle ≡ take count (narrowed (wordsFrom text from)) ++ drop count bytes
+  pub front : list ≡ take count (narrowed (wordsFrom text from)) ++ drop count bytes
 
 pub fill-start : {text : List ℕ} {from at : ℕ} (bytes : List ℕ) → Begins text from at → Filled text from bytes bytes 0 at
 fill-start bytes b = record { room = omega arith; known = omega arith; inside = b .inside; here = b .here; rest = b .same; front = refl }
 
-pub fill-length : {text : List ℕ} {from : ℕ} {bytes cycle : List ℕ} {count at : ℕ} → Filled text from bytes cycle count at → length cycle ≡ length bytes
-fill-length {text} {from} {bytes} {cycle} {count} f =
+pub fill-length : {text : List ℕ} {from : ℕ} {bytes list : List ℕ} {count at : ℕ} → Filled text from bytes list count at → length list ≡ length bytes
+fill-length {text} {from} {bytes} {list} {count} f =
     let l : List ℕ = narrowed (wordsFrom text from) in
     ap length (f .front) ∙ length-append (take count l) (drop count bytes)
     ∙ omega (arith, length-take-le count l (omega (arith, narrowed-length (wordsFrom text from), f .known)), length-drop count bytes, f .room)
 
-pub fill-more : {text : List ℕ} {from : ℕ} {bytes cycle : List ℕ} {count at start : ℕ} (end byte : ℕ) → Filled text from bytes cycle count at
+pub fill-more : {text : List ℕ} {from : ℕ} {bytes list : List ℕ} {count at start : ℕ} (end byte : ℕ) → Filled text from bytes list count at
     → at < length text → count < length bytes → end ≡ at + length (wordFrom text at) → byte ≡ narrow (numberSaid (part at end text)) → Begins text end start
-    → Filled text from bytes (set cycle count byte) (count + 1) start
-fill-more {text} {from} {bytes} {cycle} {count} {at} {start} end byte f h g e b s =
+    → Filled text from bytes (set list count byte) (count + 1) start
+fill-more {text} {from} {bytes} {list} {count} {at} {start} end byte f h g e b s =
     let words : List (List ℕ) = wordsFrom text from in
     let word : List ℕ = wordFrom text at in
     let read : part at end text ≡ word = word-part text at end e in
@@ -85,22 +85,22 @@ fill-more {text} {from} {bytes} {cycle} {count} {at} {start} end byte f h g e b 
     }
 
 -- each turn goes on
-pub fill-on : {text : List ℕ} {from : ℕ} {bytes cycle : List ℕ} {count at start : ℕ} (end : ℕ) → Filled text from bytes cycle count at → at < length text
+pub fill-on : {text : List ℕ} {from : ℕ} {bytes list : List ℕ} {count at start : ℕ} (end : ℕ) → Filled text from bytes list count at → at < length text
     → end ≡ at + length (wordFrom text at) → Begins text end start → at < start
 fill-on {text} {at = at} end f h e b = omega (arith, word-some text at end e h (f .here h), b .after)
 
 -- no word is left, or no room
-pub fill-end : {text : List ℕ} {from : ℕ} {bytes cycle : List ℕ} {count at : ℕ} → Filled text from bytes cycle count at → length text ≤ at
-    → (count ≡ min (length (narrowed (wordsFrom text from))) (length bytes)) × (cycle ≡ inFront (narrowed (wordsFrom text from)) bytes)
-fill-end {text} {from} {bytes} {cycle} {count} {at} f h =
+pub fill-end : {text : List ℕ} {from : ℕ} {bytes list : List ℕ} {count at : ℕ} → Filled text from bytes list count at → length text ≤ at
+    → (count ≡ min (length (narrowed (wordsFrom text from))) (length bytes)) × (list ≡ inFront (narrowed (wordsFrom text from)) bytes)
+fill-end {text} {from} {bytes} {list} {count} {at} f h =
     let words : List (List ℕ) = wordsFrom text from in
     let none : length (drop count words) ≡ 0 = ap length (sym (f .rest) ∙ words-end text at h) in
     let all : count ≡ length (narrowed words) = omega (arith, length-drop count words, narrowed-length words, f .known) in
     (omega (arith, f .room), f .front ∙ front-whole (narrowed words) bytes count all (f .room))
 
-pub fill-full : {text : List ℕ} {from : ℕ} {bytes cycle : List ℕ} {count at : ℕ} → Filled text from bytes cycle count at → count ≡ length bytes
-    → (count ≡ min (length (narrowed (wordsFrom text from))) (length bytes)) × (cycle ≡ inFront (narrowed (wordsFrom text from)) bytes)
-fill-full {text} {from} {bytes} {cycle} {count} f e =
+pub fill-full : {text : List ℕ} {from : ℕ} {bytes list : List ℕ} {count at : ℕ} → Filled text from bytes list count at → count ≡ length bytes
+    → (count ≡ min (length (narrowed (wordsFrom text from))) (length bytes)) × (list ≡ inFront (narrowed (wordsFrom text from)) bytes)
+fill-full {text} {from} {bytes} {list} {count} f e =
     let words : List (List ℕ) = wordsFrom text from in
     let some : count ≤ length (narrowed words) = omega (arith, narrowed-length words, f .known) in
     (omega arith, f .front ∙ front-full (narrowed words) bytes count e some)

@@ -4,3 +4,4 @@ pub mod NumberLaws
 pub mod ScanLaws
 mod FillLaws
 pub mod LineLaws
+pub mod FrontLaws

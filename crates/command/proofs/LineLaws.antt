@@ -20,8 +20,8 @@ use Rattle.command.specs.declared.Request.{Request}
 use Rattle.command.specs.declared.Parsed.{Parsed}
 use Rattle.command.specs.declared.Parsed.the-variants as Parsed
 use Rattle.command.specs.declared.scan.Scan.{Scan}
-use Rattle.command.specs.Lines.{textOf, isBlank, wordsOf, wordAt, fits, requested, named, isComment, said, meaning, latenciesIn, inFront, fileIn}
-use Rattle.command.specs.Inner.{wordFrom, wordsFrom, TextEnd, Begins, Passes, scanned, scanFits, narrowed}
+use Rattle.command.specs.Lines.{textOf, isBlank, wordsOf, wordAt, fits, requested, named, isComment, said, meaning, narrowed, latenciesIn, tagsIn, inFront, fileIn}
+use Rattle.command.specs.Inner.{wordFrom, wordsFrom, TextEnd, Begins, Passes, scanned, scanFits}
 use Rattle.command.proofs.WordLaws.{part, word-byte, word-part, words-end, words-here, begins-first}
 
 -- Where the text of a line ends
@@ -54,6 +54,7 @@ scan-fits (Form.Numbers k) words = refl
 scan-fits (Form.Optional k) words = refl
 scan-fits Form.Cycle words = refl
 scan-fits Form.File words = refl
+scan-fits Form.List words = refl
 
 -- what a scan tells, form by form
 module _ (s : Scan) where
@@ -145,7 +146,7 @@ meaning-text line end h t = ap (λ x. said (wordsOf x)) (t .text) ∙ sym (meani
 
 -- The rest of some lines
 
--- the same latencies
+-- the same bytes
 pub same-in-front : {l m after : List ℕ} {n : ℕ} (bytes : List ℕ) → l ≡ m → (n ≡ min (length l) (length bytes)) × (after ≡ inFront l bytes)
     → (n ≡ min (length m) (length bytes)) × (after ≡ inFront m bytes)
 same-in-front {after = after} {n} bytes e p = subst (λ l. (n ≡ min (length l) (length bytes)) × (after ≡ inFront l bytes)) e p
@@ -156,6 +157,12 @@ pub latencies-rest : (line : List ℕ) (end name tag : ℕ) → TextEnd line end
 unfolding latenciesIn
 latencies-rest line end name tag t p q =
     ap narrowed (q .rest ∙ ap (drop 1) (p .rest) ∙ drop-drop 1 1 (wordsOf (take end line)) ∙ ap (λ x. drop 2 (wordsOf x)) (t .text))
+
+-- the words after the name
+pub tags-rest : (line : List ℕ) (end name : ℕ) → TextEnd line end → Passes (take end line) 0 name
+    → narrowed (wordsFrom (take end line) name) ≡ tagsIn line
+unfolding tagsIn
+tags-rest line end name t p = ap narrowed (p .rest ∙ ap (λ x. drop 1 (wordsOf x)) (t .text))
 
 -- the word after the name
 pub file-word : (line : List ℕ) (end name from to : ℕ) → TextEnd line end → Passes (take end line) 0 name → Begins (take end line) name from

@@ -1,11 +1,10 @@
 -- What the private functions find. No public contract cites this file.
 use mathlib.Core.Path.{_≡_}
 use mathlib.Core.Bool.{Bool, false, cond, _&&_}
-use mathlib.Core.List.{List, map}
+use mathlib.Core.List.{List}
 use Prim.Native.Nat.{ℕ, _+_, _≤_, _<_}
 use lib.Dec.{leb, eqb}
 use lib.ListN.{length, getD, take, drop}
-use Rattle.words.specs.Bytes.{narrow}
 use Rattle.text.specs.Text.{value}
 use Rattle.command_table.specs.declared.Form.{Form}
 use Rattle.command_table.specs.declared.Form.the-variants as Form
@@ -73,7 +72,4 @@ scanFits (Form.Numbers k) s = eqb (s .count) k && s .good
 scanFits (Form.Optional k) s = leb k (s .count) && (leb (s .count) (k + 1) && s .good)
 scanFits Form.Cycle s = leb 1 (s .count) && s .good
 scanFits Form.File s = eqb (s .count) 1
-
--- the latencies of words, as bytes
-abbrev pub narrowed : List (List ℕ) → List ℕ
-narrowed words = map (λ word. narrow (numberSaid word)) words
+scanFits Form.List s = s .good

@@ -80,6 +80,7 @@ fits (Form.Numbers k) words = eqb (length words) k && allNumbers words
 fits (Form.Optional k) words = leb k (length words) && (leb (length words) (k + 1) && allNumbers words)
 fits Form.Cycle words = leb 1 (length words) && allNumbers words
 fits Form.File words = eqb (length words) 1
+fits Form.List words = allNumbers words
 
 -- the command with the number of words after its name, and the numbers that the first three say
 abbrev pub requested : Verb → List (List ℕ) → Request
@@ -111,9 +112,17 @@ meaning line = cond (leb (length line) 4096) (said (wordsOf (textOf line))) (Par
 
 -- The rest of some lines
 
--- the latencies of a cycle that is judged: the numbers after the name and the tag, 0 for one that no byte holds
+-- the numbers that words say, as bytes: 0 for one that no byte holds
+abbrev pub narrowed : List (List ℕ) → List ℕ
+narrowed words = map (λ word. narrow (numberSaid word)) words
+
+-- the latencies of a cycle that is judged: the numbers after the name and the tag
 unfoldable pub latenciesIn : List ℕ → List ℕ
-latenciesIn line = map (λ word. narrow (numberSaid word)) (drop 2 (wordsOf (textOf line)))
+latenciesIn line = narrowed (drop 2 (wordsOf (textOf line)))
+
+-- the tags of a loop: the numbers after the name
+unfoldable pub tagsIn : List ℕ → List ℕ
+tagsIn line = narrowed (drop 1 (wordsOf (textOf line)))
 
 -- as many as there is room for stand in front, the bytes after them are as before
 abbrev pub inFront : List ℕ → List ℕ → List ℕ

@@ -6,7 +6,7 @@ ghost use mathlib.Core.Path.{_≡_};
 ghost use Prim.Native.Nat.{min, _≤_};
 ghost use lib.ListN.{length};
 ghost use Rattle.command_table.specs.declared.Named.the-variants.{Known};
-ghost use Rattle.command.specs.Lines.{named, said, meaning, wordsOf, latenciesIn, inFront, fileIn};
+ghost use Rattle.command.specs.Lines.{named, said, meaning, wordsOf, latenciesIn, tagsIn, inFront, fileIn};
 ghost use Rattle.command.specs.Inner.{wordsFrom, scanFits, TextEnd, Passes};
 use command_table::Entry;
 use command_table::Form;
@@ -59,6 +59,7 @@ fn is_fit(form: Form, words: Scan) -> bool
         Form::Optional(count) => is_optional(count, words),
         Form::Cycle => 1 <= words.count && words.good,
         Form::File => words.count == 1,
+        Form::List => words.good,
     }
 }
 
@@ -145,7 +146,18 @@ pub fn latencies(line: &[u8], cycle: &mut [u8]) -> usize
     let text = &line[..end];
     let name_end = past_word(text, 0);
     let tag_end = past_word(text, name_end);
-    scan::latencies_after(text, tag_end, cycle)
+    scan::bytes_after(text, tag_end, cycle)
+}
+
+// The tags of a loop, as bytes: 0 for a number that is too large for one. As many as there is room for are kept, and their number is the answer.
+pub fn tags(line: &[u8], list: &mut [u8]) -> usize
+    ensures { λ r. ⌜ r ≡ min (length (tagsIn (now (line .entry)))) (length (now (list .entry))) ⌝ }
+    ensures { λ _. ⌜ now (list .exit) ≡ inFront (tagsIn (now (line .entry))) (now (list .entry)) ⌝ }
+{
+    let end = text_end(line);
+    let text = &line[..end];
+    let name_end = past_word(text, 0);
+    scan::bytes_after(text, name_end, list)
 }
 
 // The name of the file that is loaded or saved: the word after the command's name.

@@ -5,8 +5,8 @@ ghost use Prim.Native.Nat.{_+_, _≤_, _<_, min};
 ghost use lib.Dec.{eqb};
 ghost use lib.ListN.{length};
 ghost use Rattle.words.specs.Bytes.{narrow};
-ghost use Rattle.command.specs.Lines.{isBlank, numberSaid, inFront};
-ghost use Rattle.command.specs.Inner.{wordFrom, wordsFrom, Begins, numeral, noted, withWord, scanned, narrowed};
+ghost use Rattle.command.specs.Lines.{isBlank, numberSaid, narrowed, inFront};
+ghost use Rattle.command.specs.Inner.{wordFrom, wordsFrom, Begins, numeral, noted, withWord, scanned};
 
 // Whether all words are numbers, how many they are, and the first three numbers, 0 where there is none.
 pub struct Scan {
@@ -145,7 +145,7 @@ pub fn scan_words(text: &[u8], from: usize) -> Scan
 }
 
 // The number that a word says as a byte: 0 where it is too large for one, or where the word says none.
-fn latency_of(word: &[u8]) -> u8
+fn byte_of(word: &[u8]) -> u8
     ensures { λ r. ⌜ r ≡ narrow (numberSaid (now (word .entry))) ⌝ }
 {
     let Numeral::Number(number) = number_of(word) else {
@@ -154,20 +154,20 @@ fn latency_of(word: &[u8]) -> u8
     words::byte(number)
 }
 
-// The latencies in the words from an index on, as many as there is room for.
-pub fn latencies_after(text: &[u8], from: usize, cycle: &mut [u8]) -> usize
+// The numbers of the words from an index on as bytes, as many as there is room for.
+pub fn bytes_after(text: &[u8], from: usize, list: &mut [u8]) -> usize
     requires { ⌜ from ≤ length (now text) ⌝ }
-    ensures { λ r. ⌜ r ≡ min (length (narrowed (wordsFrom (now (text .entry)) from))) (length (now (cycle .entry))) ⌝ }
-    ensures { λ _. ⌜ now (cycle .exit) ≡ inFront (narrowed (wordsFrom (now (text .entry)) from)) (now (cycle .entry)) ⌝ }
+    ensures { λ r. ⌜ r ≡ min (length (narrowed (wordsFrom (now (text .entry)) from))) (length (now (list .entry))) ⌝ }
+    ensures { λ _. ⌜ now (list .exit) ≡ inFront (narrowed (wordsFrom (now (text .entry)) from)) (now (list .entry)) ⌝ }
 {
     let mut count = 0;
     let mut at = word_start(text, from);
     while at < text.len() {
-        if count == cycle.len() {
+        if count == list.len() {
             return count;
         }
         let end = word_end(text, at);
-        cycle[count] = latency_of(&text[at..end]);
+        list[count] = byte_of(&text[at..end]);
         count += 1;
         at = word_start(text, end);
     }

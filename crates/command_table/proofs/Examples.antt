@@ -12,6 +12,10 @@ pub usage-of-judge : usageAt 12 ≡ ascii "judge Q L L .."
 unfolding usageAt rowAt
 usage-of-judge = refl
 
+pub usage-of-loop : usageAt 21 ≡ ascii "loop Q Q .."
+unfolding usageAt rowAt
+usage-of-loop = refl
+
 pub mark-is-found : commandOf (ascii "mark") ≡ Named.Known (entryAt 1)
 unfolding commandOf among same nameAt rowAt
 mark-is-found = refl

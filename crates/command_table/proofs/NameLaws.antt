@@ -142,9 +142,13 @@ pub form-cycle : (n : ℕ) → n ≡ 32 → Form.Cycle ≡ formOf n
 unfolding formOf
 form-cycle n e = rw e
 
-pub form-file : (n : ℕ) → 32 ≤ n → (n ≡ 32 → ⊥) → Form.File ≡ formOf n
+pub form-file : (n : ℕ) → n ≡ 33 → Form.File ≡ formOf n
 unfolding formOf
-form-file n h d = rw (le-ltb n 16 (omega arith), le-ltb n 32 h, ne-eqb n 32 d)
+form-file n e = rw e
+
+pub form-list : (n : ℕ) → 32 ≤ n → (n ≡ 32 → ⊥) → (n ≡ 33 → ⊥) → Form.List ≡ formOf n
+unfolding formOf
+form-list n h c f = rw (le-ltb n 16 (omega arith), le-ltb n 32 h, ne-eqb n 32 c, ne-eqb n 33 f)
 
 -- A text put
 

@@ -51,6 +51,7 @@ rows =
     ∷ row "list" "" (Form.Numbers 0) (Verb.Show Show.List)
     ∷ row "table" " Q" (Form.Numbers 1) (Verb.Show Show.Table)
     ∷ row "diagram" " Q" (Form.Numbers 1) (Verb.Show Show.Diagram)
+    ∷ row "loop" " Q Q .." Form.List (Verb.Show Show.Loop)
     ∷ []
 
 -- beyond the last row: no name, and nothing to write

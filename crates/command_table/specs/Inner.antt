@@ -11,13 +11,15 @@ use Rattle.command_table.specs.Commands.{Row, rows}
 
 -- what comes after a name, by a number, and the number
 unfoldable pub formOf : ℕ → Form
-formOf n = cond (ltb n 16) (Form.Numbers n) (cond (ltb n 32) (Form.Optional (n - 16)) (cond (eqb n 32) Form.Cycle Form.File))
+formOf n =
+    cond (ltb n 16) (Form.Numbers n) (cond (ltb n 32) (Form.Optional (n - 16)) (cond (eqb n 32) Form.Cycle (cond (eqb n 33) Form.File Form.List)))
 
 abbrev pub formNumber : Form → ℕ
 formNumber (Form.Numbers k) = k
 formNumber (Form.Optional k) = 16 + k
 formNumber Form.Cycle = 32
 formNumber Form.File = 33
+formNumber Form.List = 34
 
 -- a row: the lengths of name and usage, the number of its form, the usage, and spaces up to 48 bytes
 abbrev pub rowBytes : Row → List ℕ

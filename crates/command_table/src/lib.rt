@@ -31,12 +31,13 @@ pub enum Ask {
     Judge,
 }
 
-// What is written to a file, listed or drawn.
+// What is written to a file, listed, drawn or looked for; the session stays as it is.
 pub enum Show {
     Save,
     List,
     Table,
     Diagram,
+    Loop,
 }
 
 // What a command does. Fresh and load make a unit.
@@ -48,13 +49,14 @@ pub enum Verb {
     Show(Show),
 }
 
-// What comes after the name of a command: so many numbers; so many, and one more that may be left out; a tag and the latencies of a cycle; or the name
-// of a file.
+// What comes after the name of a command: so many numbers; so many, and one more that may be left out; a tag and the latencies of a cycle; the name
+// of a file; or a list of numbers, which may be empty.
 pub enum Form {
     Numbers(usize),
     Optional(usize),
     Cycle,
     File,
+    List,
 }
 
 // A command that was found: the index of its row, what comes after its name, and what it does.
@@ -71,12 +73,12 @@ pub enum Named {
 }
 
 // How many commands there are, and how many bytes a row has.
-const COUNT: usize = 21;
+const COUNT: usize = 22;
 
 const WIDTH: usize = 48;
 
 // A row: how many bytes the name has, how many the usage, a number for what comes after the name (so many numbers; 16 more where one more may
-// follow; 32 for a cycle, 33 for a file), and the usage, with spaces after it.
+// follow; 32 for a cycle, 33 for a file, 34 for a list), and the usage, with spaces after it.
 const TABLE: [u8; COUNT * WIDTH] = *b"\
 \x05\x0b\x03fresh P S C                                  \
 \x04\x0a\x03mark Q R C                                   \
@@ -99,6 +101,7 @@ const TABLE: [u8; COUNT * WIDTH] = *b"\
 \x04\x04\x00list                                         \
 \x05\x07\x01table Q                                      \
 \x07\x09\x01diagram Q                                    \
+\x04\x0b\x22loop Q Q ..                                  \
 ";
 
 // What each command does, in the order of the rows.
@@ -124,6 +127,7 @@ const VERBS: [Verb; COUNT] = [
     Verb::Show(Show::List),
     Verb::Show(Show::Table),
     Verb::Show(Show::Diagram),
+    Verb::Show(Show::Loop),
 ];
 
 // The table as bytes.
@@ -170,7 +174,10 @@ fn form_of(number: u8) -> Form
     if number == 32 {
         return Form::Cycle;
     }
-    Form::File
+    if number == 33 {
+        return Form::File;
+    }
+    Form::List
 }
 
 // What a command does.

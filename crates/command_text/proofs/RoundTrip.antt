@@ -23,7 +23,7 @@ use Rattle.command.specs.declared.Trouble.the-variants as Trouble
 use Rattle.command.specs.declared.Request.{Request}
 use Rattle.command.specs.declared.Parsed.{Parsed}
 use Rattle.command.specs.declared.Parsed.the-variants as Parsed
-use Rattle.command.specs.Lines.{textOf, isBlank, partsOf, wordsOf, wordAt, isNumber, numberSaid, allNumbers, fits, requested, named, isComment, said, meaning, latenciesIn, fileIn}
+use Rattle.command.specs.Lines.{textOf, isBlank, partsOf, wordsOf, wordAt, isNumber, numberSaid, allNumbers, fits, requested, named, isComment, said, meaning, narrowed, latenciesIn, tagsIn, fileIn}
 use Rattle.command.proofs.WordLaws.{first-byte, first-blank, first-none, words-none, words-blank, words-first}
 use Rattle.command.proofs.NumberLaws.{digits-each, number-is}
 use Rattle.command.proofs.ScanLaws.{all-cons, all-none, number-none}
@@ -149,10 +149,10 @@ count-decimal : (numbers : List ℕ) → length (map decimal numbers) ≡ length
 count-decimal [] = refl
 count-decimal (n ∷ numbers) = ap suc (count-decimal numbers)
 
-narrow-decimal : (numbers : List ℕ) → Small numbers → map (λ word. narrow (numberSaid word)) (map decimal numbers) ≡ map narrow numbers
+narrow-decimal : (numbers : List ℕ) → Small numbers → narrowed (map decimal numbers) ≡ map narrow numbers
 narrow-decimal [] s = refl
 narrow-decimal (n ∷ numbers) s =
-    ap (λ x. x ∷ map (λ word. narrow (numberSaid word)) (map decimal numbers)) (ap narrow (decimal-number n (s 0 (omega arith)) .1))
+    ap (λ x. x ∷ narrowed (map decimal numbers)) (ap narrow (decimal-number n (s 0 (omega arith)) .1))
     ∙ ap (λ x. narrow n ∷ x) (narrow-decimal numbers (small-rest n numbers s))
 
 -- Names
@@ -208,6 +208,10 @@ module _ (row : ℕ) (listed : row < length rows) where
       whole-text (numberLine row numbers)
       (returnless-join (nameAt row) (spaced numbers) (letters-returnless (nameAt row) letters) (spaced-returnless numbers))
 
+  -- the words of the line from word k on, the name being word 0
+  bytes-from : (k : ℕ) (numbers : List ℕ) → narrowed (drop k (wordsOf (textOf (numberLine row numbers)))) ≡ narrowed (drop k (nameAt row ∷ map decimal numbers))
+  bytes-from k numbers = ap (λ x. narrowed (drop k (wordsOf x))) (number-text numbers) ∙ ap (λ w. narrowed (drop k w)) (number-words numbers)
+
 suits-fits : (form : Form) (numbers : List ℕ) → Small numbers → suits form numbers ≡ true → fits form (map decimal numbers) ≡ true
 suits-fits (Form.Numbers k) numbers s e = and-true (ap (λ n. eqb n k) (count-decimal numbers) ∙ e) (all-decimal numbers s)
 suits-fits (Form.Optional k) numbers s e =
@@ -215,6 +219,7 @@ suits-fits (Form.Optional k) numbers s e =
     (and-true (ap (λ n. leb n (k + 1)) (count-decimal numbers) ∙ and-right (leb k (length numbers)) (leb (length numbers) (k + 1)) e) (all-decimal numbers s))
 suits-fits Form.Cycle numbers s e = and-true (ap (leb 1) (count-decimal numbers) ∙ e) (all-decimal numbers s)
 suits-fits Form.File numbers s e = nowhere e
+suits-fits Form.List numbers s e = all-decimal numbers s
 
 -- a command by its parts
 abbrev request : Verb → ℕ → ℕ → ℕ → ℕ → Request
@@ -237,9 +242,13 @@ numbers-parsed row numbers h s e l =
 pub latencies-parsed : (row q : ℕ) (latencies : List ℕ) → row < length rows → ((i : ℕ) → i < length latencies → getD latencies i 0 < 2 ^ 32)
     → latenciesIn (numberLine row (q ∷ latencies)) ≡ map narrow latencies
 unfolding latenciesIn
-latencies-parsed row q latencies h s =
-    ap (λ x. map (λ word. narrow (numberSaid word)) (drop 2 (wordsOf x))) (number-text row h (q ∷ latencies))
-    ∙ ap (λ w. map (λ word. narrow (numberSaid word)) (drop 2 w)) (number-words row h (q ∷ latencies)) ∙ narrow-decimal latencies s
+latencies-parsed row q latencies h s = bytes-from row h 2 (q ∷ latencies) ∙ narrow-decimal latencies s
+
+-- and the tags of a loop
+pub tags-parsed : (row : ℕ) (tags : List ℕ) → row < length rows → ((i : ℕ) → i < length tags → getD tags i 0 < 2 ^ 32)
+    → tagsIn (numberLine row tags) ≡ map narrow tags
+unfolding tagsIn
+tags-parsed row tags h s = bytes-from row h 1 tags ∙ narrow-decimal tags s
 
 -- a command with a file is parsed again, and its file is the same
 pub file-parsed : (row : ℕ) (file : List ℕ) → row < length rows → rowAt row .form ≡ Form.File → 1 ≤ length file

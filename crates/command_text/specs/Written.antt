@@ -1,5 +1,5 @@
 -- The line that says a command, and the line that says what was expected.
-use mathlib.Core.Bool.{Bool, false, _&&_}
+use mathlib.Core.Bool.{Bool, true, false, _&&_}
 use mathlib.Core.List.{List, [], _∷_, _++_}
 use Prim.Native.Nat.{ℕ, _+_}
 use lib.Dec.{leb, eqb}
@@ -27,6 +27,7 @@ suits (Form.Numbers k) numbers = eqb (length numbers) k
 suits (Form.Optional k) numbers = leb k (length numbers) && leb (length numbers) (k + 1)
 suits Form.Cycle numbers = leb 1 (length numbers)
 suits Form.File numbers = false
+suits Form.List numbers = true
 
 -- What was expected
 

@@ -6,8 +6,8 @@ use Prim.Native.Nat.{ℕ, min, _<_}
 use native.Mathlib.Omega.{arith}
 use borrow.Author.Tests.{leb-true, leb-false, le-leb, lt-leb}
 use lib.Dec.{leb}
-use lib.ListN.{length, take, drop, length-take}
-use lib.Seq.{take-all, take-at, length-take-le}
+use lib.ListN.{length, take}
+use lib.Seq.{take-all, length-take-le}
 use Rattle.text.specs.Text.{putIn, putEnd}
 use Rattle.unit.specs.declared.FunctionUnit.{FunctionUnit}
 use Rattle.unit.specs.declared.Answer.{Answer}
@@ -19,6 +19,7 @@ use Rattle.questions.specs.declared.Question.{Question}
 use Rattle.questions.specs.declared.Question.the-variants as Question
 use Rattle.questions.specs.Replies.{verdictLine, replyTo}
 use Rattle.command.specs.Lines.{latenciesIn, inFront}
+use Rattle.command.proofs.FrontLaws.{front-taken}
 use Rattle.session.specs.declared.Session.{Session}
 use Rattle.console.specs.Turns.{question}
 use Rattle.session.specs.Sessions.{Line}
@@ -66,21 +67,12 @@ reply-cut u (Question.Judge q) l = ap verdictLine (judge-cut u (q .0) l)
 -- What was read of the line
 
 module _ (l zeros : List ℕ) {count : ℕ} {cycle : List ℕ} (n : count ≡ min (length l) (length zeros)) (e : cycle ≡ inFront l zeros) where
-  taken-length : length (take (length zeros) l) ≡ count
-  taken-length = length-take (length zeros) l ∙ omega arith
-
-  front-taken : take count cycle ≡ take (length zeros) l
-  front-taken = ap (take count) e ∙ take-at (take (length zeros) l) (drop (length l) zeros) count taken-length
-
-  pub front-length : count ≡ length (take count cycle)
-  front-length = sym (ap length front-taken ∙ taken-length)
-
   -- the answer to the question
   pub gives-told : {s : Session} (told asked : Question) (line before : List ℕ) {after : List ℕ} {end : ℕ} → told ≡ asked → length zeros ≡ 257 → latenciesIn line ≡ l
       → (end ≡ putEnd before 0 (replyTo (s .unit) told (take count cycle))) × (after ≡ putIn before 0 (replyTo (s .unit) told (take count cycle)))
       → Gives (question s asked line) (λ x. x ≡ s) before after record { session = s; end = end }
   gives-told {s} told asked line before q z h p =
-      let t = front-taken ∙ ap (λ k. take k l) z in
+      let t = front-taken l zeros n e ∙ ap (λ k. take k l) z in
       let same : replyTo (s .unit) told (take count cycle) ≡ question s asked line =
       ap (λ x. replyTo (s .unit) x (take count cycle)) q ∙ ap (replyTo (s .unit) asked) t ∙ reply-cut (s .unit) asked l ∙ ap (replyTo (s .unit) asked) (sym h)
       in

@@ -31,7 +31,7 @@ pub struct Stepped {
 }
 
 // The register of a tag; 0 for a number that is no tag.
-fn register_of(bank: Bank, tag: u8) -> u32
+pub fn register_of(bank: Bank, tag: u8) -> u32
     ensures { λ r. ⌜ r ≡ register bank tag ⌝ }
 {
     match tag {
@@ -56,7 +56,7 @@ fn shifted_bank(bank: Bank) -> Bank
 }
 
 // Row r of the matrix M_q: where r would collide with a task of q that starts now. A tag that the unit does not have has none.
-fn row_for(u: FunctionUnit, q: Tag, r: Tag) -> u32
+pub fn row_for(u: FunctionUnit, q: Tag, r: Tag) -> u32
     ensures { λ row. ⌜ row ≡ rowFor u (q .0) (r .0) ⌝ }
 {
     if u.functions < r.0 {

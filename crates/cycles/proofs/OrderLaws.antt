@@ -16,7 +16,8 @@ use borrow.Author.Tests.{lt-ltb, le-ltb, eq-eqb, ne-eqb, ltb-true, eqb-true}
 use Rattle.words.specs.Below.{leastFrom}
 use Rattle.words.proofs.Tests.{nowhere, and-left, and-right, or-cases, not-passed, by-test}
 use Rattle.words.proofs.BelowLaws.{some-intro, some-none, least-is}
-use Rattle.cycles.specs.Rotation.{rotate, comesFirst, LeastRotated, leads, firstRotation}
+use Rattle.graphs.specs.Rotation.{rotate}
+use Rattle.cycles.specs.Rotation.{comesFirst, LeastRotated, leads, firstRotation}
 use Rattle.cycles.proofs.RotationLaws.{rotate-length, rotate-at, rotate-rotate}
 
 -- The first number of each list decides, or their tails do

@@ -13,7 +13,7 @@ use Rattle.diagram.specs.Diagram.{Walk, Reachable}
 use Rattle.diagram.specs.States.{Distinct}
 use Rattle.diagram.proofs.Walks.{run, walk-run}
 use Rattle.diagram.specs.Cycles.{statesAlong, CycleFrom}
-use Rattle.cycles.specs.Rotation.{rotate}
+use Rattle.graphs.specs.Rotation.{rotate}
 use Rattle.cycles.proofs.AlongLaws.{along-length, along-append, along-take, along-drop, walk-join, walk-take, walk-drop, reach-on}
 
 -- Length, sum, place

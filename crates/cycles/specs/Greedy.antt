@@ -70,8 +70,12 @@ greedyAnswer u q room out = counting (greedyRefusal u q room out) (greedyOf 1 (m
 unfoldable pub greedyOut : FunctionUnit → ℕ → ℕ → List ℕ → List ℕ
 greedyOut u q room bytes = written (greedyRefusal u q room (length bytes)) (greedyOf 1 (marked u) q) bytes
 
--- the working words: free are the first 2,048, unless the call is refused by 1, 2, 5 or 6
-pub record WorkAfter (answer : Answer) (before after : List ℕ) : Type 0 where
+-- the working words of a call that may use the first so many: these are free, unless the call is refused by another number than 7
+pub record WordsAfter (free : ℕ) (answer : Answer) (before after : List ℕ) : Type 0 where
   pub size : length after ≡ length before
-  pub beyond : (i : ℕ) → 2048 ≤ i → getD after i 0 ≡ getD before i 0
+  pub beyond : (i : ℕ) → free ≤ i → getD after i 0 ≡ getD before i 0
   pub kept : (why : Refusal) → answer ≡ Refused why → (why ≡ TooManyStates → ⊥) → after ≡ before
+
+-- greedy and search use the first 2,048
+abbrev pub WorkAfter : Answer → List ℕ → List ℕ → Type 0
+WorkAfter = WordsAfter 2048

@@ -84,7 +84,13 @@ fn draw_diagram(u: FunctionUnit, tag: Tag) -> bool {
     say_drawn(drawn, &area)
 }
 
-// What leaves the session as it is: to save, to list and to draw.
+fn tell_loop(u: FunctionUnit, line: &[u8]) -> bool {
+    let mut area = io::buffer();
+    let end = loop_text::answer(u, line, &mut area);
+    say_front(&area, end)
+}
+
+// What leaves the session as it is: to save, to list, to draw, and to look for a loop.
 fn show_unit(u: FunctionUnit, what: Show, request: Request, line: &[u8]) -> bool {
     let tag = Tag(words::byte(request.first));
     match what {
@@ -92,6 +98,7 @@ fn show_unit(u: FunctionUnit, what: Show, request: Request, line: &[u8]) -> bool
         Show::List => list(u),
         Show::Table => draw_table(u, tag),
         Show::Diagram => draw_diagram(u, tag),
+        Show::Loop => tell_loop(u, line),
     }
 }
 

@@ -14,16 +14,18 @@ use Rattle.words.proofs.BitLaws.{bit-above}
 use Rattle.diagram.specs.Diagram.{width, next, Permits, Reachable}
 use Rattle.diagram.specs.States.{states}
 use Rattle.diagram.specs.Work.{stateIn, enlistAnswer, Enlisted}
-use Rattle.diagram.proofs.WidthLaws.{width-lt, width-top}
+use Rattle.diagram.proofs.WidthLaws.{width-top}
 use Rattle.diagram.proofs.StateLaws.{states-width}
 use Rattle.diagram.proofs.Listing.{list-extends, states-distinct, states-reached, states-closed}
 use Rattle.mean_cycle.specs.declared.Cycle.{Cycle}
 use Rattle.mean_cycle.specs.declared.Answer.the-variants.{No, Found}
 use Rattle.collision.specs.Pipeline.{total}
 use Rattle.mean_cycle.specs.Mean.{found, LeastMean, searchable, isFound, Searched}
-use Rattle.mean_cycle.specs.Inner.{Listing, Least, cyc}
+use Rattle.mean_cycle.specs.Nodes.{Least, cyc}
+use Rattle.mean_cycle.specs.Inner.{Listing}
 use Rattle.mean_cycle.proofs.Links.{decide}
-use Rattle.mean_cycle.proofs.Cycles.{spell, cycle-spell, total-spell, cycle-from}
+use Rattle.mean_cycle.proofs.Bounds.{walk-nodes}
+use Rattle.mean_cycle.proofs.Cycles.{ruled, spell, cycle-spell, total-spell, cycle-from}
 
 -- a vector without a column 32 has a width of at most 31
 width-31 : (cv : ℕ) → cv < 2 ^ 31 → width cv ≤ 31
@@ -134,24 +136,24 @@ module _ (cv : ℕ) (before w : List ℕ) (r : ℕ) (room : 2048 ≤ length befo
         let above : (j < i → ⊥) = distinct j i m l (sym e) in
         omega arith
 
-    listing : Listing w (record { nodes = r; width = width cv; vector = cv })
+    listing : Listing w (ruled r (width cv) cv)
     listing =
         record {
-          index = h .index (omega arith);
+          few = omega (arith, count, few);
           room = omega (arith, h .size);
           some = omega arith;
           narrow = width-31 cv low;
-          vector = width-lt cv (omega arith);
-          first = state-at 0 (omega arith) ∙ list-extends 1 (width cv) cv 257 0 (cv ∷ []) .same 0 (omega arith);
           below = λ i l. subst (λ (s : ℕ). s < 2 ^ width cv) (sym (state-at i l)) (states-width 256 1 cv (omega arith) i (omega (arith, count)));
-          apart = apart;
-          closed = closed;
+          source = record { index = h .index (omega arith); apart = apart; closed = closed };
         }
+
+    first : stateIn w 0 ≡ cv
+    first = state-at 0 (omega arith) ∙ list-extends 1 (width cv) cv 257 0 (cv ∷ []) .same 0 (omega arith)
 
     reached : (i : ℕ) → i < r → Reachable 1 (width cv) cv (stateIn w i)
     reached i l = subst (Reachable 1 (width cv) cv) (sym (state-at i l)) (states-reached 1 (width cv) cv 256 i (omega (arith, count)))
 
-    module _ (after : List ℕ) (best : Cycle) (l : Least w after (record { nodes = r; width = width cv; vector = cv }) best) where
+    module _ (after : List ℕ) (best : Cycle) (l : Least w after (ruled r (width cv) cv) best) where
       short : best .count ≤ 256
       short = omega (arith, l .cycle .few, count, few)
 
@@ -165,7 +167,7 @@ module _ (cv : ℕ) (before w : List ℕ) (r : ℕ) (room : 2048 ≤ length befo
             few = short;
             adds = l .cycle .total ∙ sym (ap total spelled ∙ total-spell (cyc after) (best .count));
             cycle = rw spelled (cycle-from listing reached (l .cycle));
-            floor = l .floor;
+            floor = record { bound = l .floor .bound; every = λ k e walk. let m = walk-nodes listing walk 0 (listing .some) first in l .floor .every k (m .0) (m .1) };
           }
 
       same-cycle : (c : Cycle) → Found best ≡ Found c → best ≡ c
@@ -185,8 +187,8 @@ module _ (cv : ℕ) (before w : List ℕ) (r : ℕ) (room : 2048 ≤ length befo
 
     -- the same, with the width as it was counted
     module _ (n : ℕ) (counted : n ≡ width cv) where
-      pub listing-counted : Listing w (record { nodes = r; width = n; vector = cv })
-      listing-counted = subst (λ (k : ℕ). Listing w (record { nodes = r; width = k; vector = cv })) (sym counted) listing
+      pub listing-counted : Listing w (ruled r n cv)
+      listing-counted = subst (λ (k : ℕ). Listing w (ruled r k cv)) (sym counted) listing
 
-      pub searched-found : (after : List ℕ) (best : Cycle) → Least w after (record { nodes = r; width = n; vector = cv }) best → Searched 1 cv before after (Found best)
-      searched-found after best l = searched-least after best (subst (λ (k : ℕ). Least w after (record { nodes = r; width = k; vector = cv }) best) counted l)
+      pub searched-found : (after : List ℕ) (best : Cycle) → Least w after (ruled r n cv) best → Searched 1 cv before after (Found best)
+      searched-found after best l = searched-least after best (subst (λ (k : ℕ). Least w after (ruled r k cv) best) counted l)

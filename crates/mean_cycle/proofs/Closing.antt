@@ -6,7 +6,8 @@ use native.Mathlib.Nat.{le-of-suc-le-suc, suc-sub-suc, sub-self, sub-zero, mul-a
 use native.Mathlib.Omega.{arith}
 use Rattle.mean_cycle.specs.declared.Cycle.{Cycle}
 use Rattle.mean_cycle.specs.declared.search.Graph.{Graph}
-use Rattle.mean_cycle.specs.Inner.{Arc, CycleOf, Frame, Tree, Ends, Path, Traced, Better, gain, parent, label, cyc, sumTo, up, upSum}
+use Rattle.mean_cycle.specs.Nodes.{Arc, CycleOf, Frame, cyc, sumTo}
+use Rattle.mean_cycle.specs.Inner.{Tree, Ends, Path, Traced, Better, gain, parent, label, up, upSum}
 use Rattle.mean_cycle.proofs.Links.{up-below, up-apart, path-depth, path-up, path-part, up-suc, path-less, spelled-at}
 use Rattle.mean_cycle.proofs.Sums.{spelled-sum}
 use Rattle.mean_cycle.proofs.Frames.{within-frame, arc-kept}
@@ -38,10 +39,11 @@ module _ (w w′ : List ℕ) (G : Graph) (best : Cycle) (v t x k r : ℕ) (few :
   node-at : (i : ℕ) → i ≤ k → back (parent w) v x (suc k - i) ≡ up (parent w) (k - i) v
   node-at i l = let e : suc k - i ≡ suc (k - i) = omega arith in ap (back (parent w) v x) e
 
-  closing : CycleOf w′ G (cyc w′) (record { count = suc k; sum = r })
+  closing : CycleOf w′ G (cyc w′) (record { count = suc k; sum = r; start = x })
   closing =
       record {
         node = λ i. back (parent w) v x (suc k - i);
+        begins = ap (back (parent w) v x) (sub-zero (suc k)) ∙ path-up (parent w) (G .nodes) k v x path;
         some = omega arith;
         few = omega (arith, k-depth, d .within);
         arcs = λ i l.
@@ -85,5 +87,5 @@ module _ (w w′ : List ℕ) (G : Graph) (best : Cycle) (v t x k r : ℕ) (few :
       in
       omega (arith, suc-mul k (best .sum))
 
-  pub closing-better : gain w x + best .count * t < gain w v + best .sum → Better w′ G best (record { count = suc k; sum = r })
+  pub closing-better : gain w x + best .count * t < gain w v + best .sum → Better w′ G best (record { count = suc k; sum = r; start = x })
   closing-better lt = record { cycle = closing; lower = closing-lower lt }

@@ -1,5 +1,6 @@
 -- The latencies in the words as a list: a cycle of the listed diagram is a cycle of the diagram. Assumes nothing.
 use mathlib.Core.Path.{_≡_, refl, sym, ap, subst, _∙_}
+use mathlib.Core.Bool.{false}
 use mathlib.Core.List.{List, [], _∷_}
 use Prim.Native.Nat.{ℕ, zero, suc, _+_, _≤_, _<_}
 use native.Mathlib.Nat.{add-zero, le-of-suc-le-suc, not-suc-le-zero}
@@ -12,7 +13,8 @@ use Rattle.mean_cycle.specs.declared.Cycle.{Cycle}
 use Rattle.mean_cycle.specs.declared.search.Graph.{Graph}
 use Rattle.collision.specs.Pipeline.{total}
 use Rattle.diagram.specs.Cycles.{statesAlong, CycleFrom}
-use Rattle.mean_cycle.specs.Inner.{Listing, Arc, CycleOf, cyc, sumTo}
+use Rattle.mean_cycle.specs.Nodes.{Arc, CycleOf, cyc, sumTo}
+use Rattle.mean_cycle.specs.Inner.{Listing}
 
 -- c i, c (i + 1), .., m of them
 abbrev pub spell : (ℕ → ℕ) → ℕ → ℕ → List ℕ
@@ -41,24 +43,28 @@ total-from c (suc m) i =
 pub total-spell : (c : ℕ → ℕ) (m : ℕ) → total (spell c 0 m) ≡ sumTo c m
 total-spell c m = let e : 0 + m ≡ m = omega arith in omega (arith, total-from c m 0 ∙ ap (sumTo c) e)
 
-module _ (w : List ℕ) (G : Graph) (c node : ℕ → ℕ) (count : ℕ) (arcs : (i : ℕ) → i < count → Arc w G (node i) (c i) (node (suc i))) where
-  along : ℕ → ℕ → List ℕ
-  along i m = statesAlong (G .vector) (stateIn w (node i)) (spell c i m)
+-- a graph whose arcs go by the collision vector
+abbrev pub ruled : ℕ → ℕ → ℕ → Graph
+ruled r n cv = record { nodes = r; width = n; vector = cv; table = false }
 
-  walk-spell : (m i k : ℕ) → i + m ≡ k → k ≤ count → Walk 1 (G .width) (G .vector) (stateIn w (node i)) (spell c i m) (stateIn w (node k))
+module _ (w : List ℕ) (r n cv : ℕ) (c node : ℕ → ℕ) (count : ℕ) (arcs : (i : ℕ) → i < count → Arc w (ruled r n cv) (node i) (c i) (node (suc i))) where
+  along : ℕ → ℕ → List ℕ
+  along i m = statesAlong cv (stateIn w (node i)) (spell c i m)
+
+  walk-spell : (m i k : ℕ) → i + m ≡ k → k ≤ count → Walk 1 n cv (stateIn w (node i)) (spell c i m) (stateIn w (node k))
   walk-spell zero i k e l =
       let f : i ≡ k = omega arith in
-      subst (λ (z : ℕ). Walk 1 (G .width) (G .vector) (stateIn w (node i)) [] (stateIn w (node z))) f stay
+      subst (λ (z : ℕ). Walk 1 n cv (stateIn w (node i)) [] (stateIn w (node z))) f stay
   walk-spell (suc m) i k e l =
       let a = arcs i (omega arith) in
       step
       (a .permits)
-      (subst (λ (s : ℕ). Walk 1 (G .width) (G .vector) s (spell c (suc i) m) (stateIn w (node k))) (a .state) (walk-spell m (suc i) k (omega arith) l))
+      (subst (λ (s : ℕ). Walk 1 n cv s (spell c (suc i) m) (stateIn w (node k))) (a .leads) (walk-spell m (suc i) k (omega arith) l))
 
   along-more : (m i : ℕ) → i < count → along i (suc m) ≡ stateIn w (node i) ∷ along (suc i) m
   unfolding along
   along-more m i l =
-      ap (λ (s : ℕ). stateIn w (node i) ∷ statesAlong (G .vector) s (spell c (suc i) m)) (sym (arcs i l .state))
+      ap (λ (s : ℕ). stateIn w (node i) ∷ statesAlong cv s (spell c (suc i) m)) (sym (arcs i l .leads))
 
   along-length : (m i : ℕ) → i + m ≤ count → length (along i m) ≡ m
   unfolding along
@@ -78,29 +84,29 @@ module _ (w : List ℕ) (G : Graph) (c node : ℕ → ℕ) (count : ℕ) (arcs :
       ∙ ap (λ (z : ℕ). stateIn w (node z)) e
 
 pub cycle-from :
-    {w : List ℕ} {G : Graph} {c : ℕ → ℕ} {best : Cycle} → Listing w G
-    → ((i : ℕ) → i < G .nodes → Reachable 1 (G .width) (G .vector) (stateIn w i)) → CycleOf w G c best
-    → CycleFrom 1 (G .width) (G .vector) (spell c 0 (best .count))
+    {w : List ℕ} {r n cv : ℕ} {c : ℕ → ℕ} {best : Cycle} → Listing w (ruled r n cv)
+    → ((i : ℕ) → i < r → Reachable 1 n cv (stateIn w i)) → CycleOf w (ruled r n cv) c best
+    → CycleFrom 1 n cv (spell c 0 (best .count))
 unfolding along
-cycle-from {w} {G} {c} {best} h reached z =
+cycle-from {w} {r} {n} {cv} {c} {best} h reached z =
     let k : ℕ = best .count in
     let state : ℕ = stateIn w (z .node 0) in
-    let at : (i : ℕ) → i < k → getD (along w G c (z .node) k (z .arcs) 0 k) i 0 ≡ stateIn w (z .node i) =
-    λ i l. let e : 0 + i ≡ i = omega arith in along-at w G c (z .node) k (z .arcs) k 0 i (omega arith) l ∙ ap (λ (x : ℕ). stateIn w (z .node x)) e
+    let at : (i : ℕ) → i < k → getD (along w r n cv c (z .node) k (z .arcs) 0 k) i 0 ≡ stateIn w (z .node i) =
+    λ i l. let e : 0 + i ≡ i = omega arith in along-at w r n cv c (z .node) k (z .arcs) k 0 i (omega arith) l ∙ ap (λ (x : ℕ). stateIn w (z .node x)) e
     in
-    let size = along-length w G c (z .node) k (z .arcs) k 0 (omega arith) in
+    let size = along-length w r n cv c (z .node) k (z .arcs) k 0 (omega arith) in
     record {
       state = state;
       reached = reached (z .node 0) (z .arcs 0 (z .some) .leaves);
       closed =
-          subst (λ (n : ℕ). Walk 1 (G .width) (G .vector) state (spell c 0 k) (stateIn w n)) (z .closed)
-          (walk-spell w G c (z .node) k (z .arcs) k 0 k (omega arith) (omega arith));
+          subst (λ (m : ℕ). Walk 1 n cv state (spell c 0 k) (stateIn w m)) (z .closed)
+          (walk-spell w r n cv c (z .node) k (z .arcs) k 0 k (omega arith) (omega arith));
       apart = λ i j l m e.
-          let n : j < k = omega (arith, size) in
+          let low : j < k = omega (arith, size) in
           let same : z .node i ≡ z .node j =
-          h .apart (z .node i) (z .node j) (z .arcs i (omega arith) .leaves) (z .arcs j n .leaves)
-          (sym (at i (omega arith)) ∙ e ∙ at j n)
+          h .source .apart (z .node i) (z .node j) (z .arcs i (omega arith) .leaves) (z .arcs j low .leaves)
+          (sym (at i (omega arith)) ∙ e ∙ at j low)
           in
-          let q : i ≡ j = z .apart i j (omega arith) n same in
+          let q : i ≡ j = z .apart i j (omega arith) low same in
           omega arith;
     }

@@ -11,7 +11,8 @@ use lib.ListN.{length, getD, set, length-set}
 use lib.Seq.{getD-set-same, getD-set-other}
 use Rattle.mean_cycle.specs.declared.Cycle.{Cycle}
 use Rattle.mean_cycle.specs.declared.search.Graph.{Graph}
-use Rattle.mean_cycle.specs.Inner.{Listing, Arc, CycleOf, Frame, Within, Cleared, Copyable, Copied, Begun, gain, label, cyc, sumTo}
+use Rattle.mean_cycle.specs.Nodes.{Arc, CycleOf, Frame, cyc, sumTo}
+use Rattle.mean_cycle.specs.Inner.{Listing, Within, Cleared, Copyable, Copied, Begun, gain, label}
 use Rattle.mean_cycle.proofs.Links.{decide, pick, pigeon}
 use Rattle.mean_cycle.proofs.Sums.{sum-same}
 use Rattle.mean_cycle.proofs.Frames.{frame-refl, frame-trans, within-frame, listing-few, listing-kept, arc-kept, cycle-kept}
@@ -84,10 +85,12 @@ copy-more {w₀} {w} {from} {to} {sum} {j} h c l =
       small = omega (arith, c .small, copy-small h c l);
     }
 
-pub copy-end : {w₀ w : List ℕ} {from to sum j : ℕ} → Copying w₀ w from to sum j → to - from ≤ j → Copied w₀ w from to (record { count = to - from; sum = sum })
-copy-end {w₀} {w} {from} {to} {sum} {j} c l =
+pub copy-end : {w₀ w : List ℕ} {from to sum j : ℕ} (start : ℕ) → Copying w₀ w from to sum j → to - from ≤ j
+    → Copied w₀ w from to start (record { count = to - from; sum = sum; start = start })
+copy-end {w₀} {w} {from} {to} {sum} {j} start c l =
     let e : j ≡ to - from = omega (arith, c .upto) in
     record {
+      begins = refl;
       within = c .within;
       spelled = λ i m. c .spelled i (omega arith);
       count = refl;
@@ -302,7 +305,7 @@ module _ (w₀ w : List ℕ) (G : Graph) (v i : ℕ) (h : Walking w₀ w G v i) 
         labels = λ j l. h .arcs j l .high;
       }
 
-  module _ (w′ : List ℕ) (r : Cycle) (c : Copied w w′ (gain w v - 1) i r) where
+  module _ (w′ : List ℕ) (r : Cycle) (c : Copied w w′ (gain w v - 1) i v r) where
     copy-frame : Frame w w′
     copy-frame = within-frame 1536 1792 (omega arith) (omega arith) (c .within)
 
@@ -315,6 +318,7 @@ module _ (w₀ w : List ℕ) (G : Graph) (v i : ℕ) (h : Walking w₀ w G v i) 
         let end : m + r .count ≡ i = omega arith in
         record {
           node = λ j. h .node (m + j);
+          begins = let z : m + 0 ≡ m = omega arith in ap (h .node) z ∙ o .1 ∙ sym (c .begins);
           some = omega arith;
           few = omega (arith, walk-few h);
           arcs = λ j l.

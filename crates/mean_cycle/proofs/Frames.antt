@@ -1,5 +1,6 @@
 -- What the search keeps: the listing, its arcs and the best cycle, over words that changed elsewhere. Assumes nothing.
 use mathlib.Core.Path.{_≡_, refl, sym, ap, subst, _∙_}
+use mathlib.Core.Bool.{Bool, true, false}
 use mathlib.Core.List.{List}
 use Prim.Native.Nat.{ℕ, suc, _+_, _*_, _-_, _^_, _≤_, _<_}
 use native.Mathlib.Nat.{mul-le-mul, mul-le-mul-right}
@@ -7,10 +8,11 @@ use native.Mathlib.Omega.{arith}
 use lib.ListN.{length}
 use Rattle.diagram.specs.Diagram.{next, Permits}
 use Rattle.diagram.proofs.IndexLaws.{index-kept}
-use Rattle.diagram.specs.Work.{stateIn, headIn, linkIn, bucket, Indexed}
+use Rattle.diagram.specs.Work.{stateIn}
 use Rattle.mean_cycle.specs.declared.Cycle.{Cycle}
 use Rattle.mean_cycle.specs.declared.search.Graph.{Graph}
-use Rattle.mean_cycle.specs.Inner.{Listing, Arc, CycleOf, Frame, Within, Tree, Ready, Ends, Rooted, gain, parent, label, cyc, sumTo}
+use Rattle.mean_cycle.specs.Nodes.{Leads, arcWord, Arc, CycleOf, Frame, cyc, sumTo}
+use Rattle.mean_cycle.specs.Inner.{Source, Listing, Within, Tree, Ready, Ends, Rooted, gain, parent, label}
 use Rattle.mean_cycle.proofs.Links.{depth-below, gain-below}
 use Rattle.mean_cycle.proofs.Sums.{sum-same, sum-below}
 
@@ -37,25 +39,46 @@ within-frame lo hi a b h =
 -- The listing
 
 pub listing-few : {w : List ℕ} {G : Graph} → Listing w G → G .nodes ≤ 256
-listing-few h = h .index .few
+listing-few h = h .few
 
-pub listing-kept : {w w′ : List ℕ} {G : Graph} → Frame w w′ → Listing w G → Listing w′ G
-listing-kept {w} {w′} {G} f h =
-    let few : G .nodes ≤ 256 = h .index .few in
+-- the table of arcs stands where nothing changes
+table-kept : {w w′ : List ℕ} → Frame w w′ → (v t : ℕ) → 1 ≤ t → arcWord w′ v t ≡ arcWord w v t
+table-kept f v t h = f .high (1791 + v * 32 + t) (omega arith)
+
+source-kept : (b : Bool) (G : Graph) {w w′ : List ℕ} → Frame w w′ → G .nodes ≤ 256 → Source b w G → Source b w′ G
+source-kept true G {w} {w′} f few h =
+    record {
+      room = omega (arith, f .size, h .room);
+      closed = λ i t l p.
+          subst (λ (x : ℕ). x < G .nodes) (sym (table-kept f i t (p .positive)))
+          (h .closed i t l (subst (λ (s : ℕ). Permits 1 (G .width) s t) (f .low i (omega arith)) p));
+    }
+source-kept false G {w} {w′} f few h =
     let same : (i : ℕ) → i < G .nodes → stateIn w′ i ≡ stateIn w i = λ i l. f .low i (omega arith) in
     record {
       index = index-kept (G .nodes) (f .size) (f .low) (h .index);
-      room = omega (arith, f .size, h .room);
-      some = h .some;
-      narrow = h .narrow;
-      vector = h .vector;
-      first = same 0 (h .some) ∙ h .first;
-      below = λ i l. subst (λ (s : ℕ). s < 2 ^ G .width) (sym (same i l)) (h .below i l);
       apart = λ i j l m e. h .apart i j l m (sym (same i l) ∙ e ∙ same j m);
       closed = λ i t l p.
           let r = h .closed i t l (subst (λ (s : ℕ). Permits 1 (G .width) s t) (same i l) p) in
           (r .0, (r .1 .0, same (r .0) (r .1 .0) ∙ r .1 .1 ∙ ap (λ (s : ℕ). next (G .vector) s t) (sym (same i l))));
     }
+
+pub listing-kept : {w w′ : List ℕ} {G : Graph} → Frame w w′ → Listing w G → Listing w′ G
+listing-kept {w} {w′} {G} f h =
+    let few = h .few in
+    record {
+      few = few;
+      room = omega (arith, f .size, h .room);
+      some = h .some;
+      narrow = h .narrow;
+      below = λ i l. subst (λ (s : ℕ). s < 2 ^ G .width) (sym (f .low i (omega arith))) (h .below i l);
+      source = source-kept (G .table) G f few (h .source);
+    }
+
+leads-kept : (b : Bool) (G : Graph) (v t x : ℕ) {w w′ : List ℕ} → Frame w w′ → v < 256 → x < 256 → 1 ≤ t → Leads b w G v t x → Leads b w′ G v t x
+leads-kept true G v t x f hv hx p a = table-kept f v t p ∙ a
+leads-kept false G v t x f hv hx p a =
+    f .low x (omega arith) ∙ a ∙ ap (λ (s : ℕ). next (G .vector) s t) (sym (f .low v (omega arith)))
 
 pub arc-kept : {w w′ : List ℕ} {G : Graph} {v t x : ℕ} → Frame w w′ → G .nodes ≤ 256 → Arc w G v t x → Arc w′ G v t x
 arc-kept {G = G} {v} {t} {x} f few a =
@@ -65,7 +88,7 @@ arc-kept {G = G} {v} {t} {x} f few a =
       enters = a .enters;
       permits = subst (λ (s : ℕ). Permits 1 (G .width) s t) (sym from) (a .permits);
       high = a .high;
-      state = f .low x (omega (arith, a .enters)) ∙ a .state ∙ ap (λ (s : ℕ). next (G .vector) s t) (sym from);
+      leads = leads-kept (G .table) G v t x f (omega (arith, a .leaves)) (omega (arith, a .enters)) (a .permits .positive) (a .leads);
     }
 
 -- Cycles
@@ -76,6 +99,7 @@ pub cycle-kept :
 cycle-kept {w} {w′} {G} {c} {c′} {best} f few same z =
     record {
       node = z .node;
+      begins = z .begins;
       some = z .some;
       few = z .few;
       arcs = λ i l. subst (λ (t : ℕ). Arc w′ G (z .node i) t (z .node (suc i))) (sym (same i l)) (arc-kept f few (z .arcs i l));
@@ -93,7 +117,7 @@ pub ready-kept : {w w′ : List ℕ} {G : Graph} {best : Cycle} → Frame w w′
 ready-kept f same h = record { listing = listing-kept f (h .listing); cycle = cycle-kept f (listing-few (h .listing)) same (h .cycle) }
 
 pub ready-few : {w : List ℕ} {G : Graph} {best : Cycle} → Ready w G best → G .nodes ≤ 256
-ready-few h = h .listing .index .few
+ready-few h = h .listing .few
 
 pub ready-count : {w : List ℕ} {G : Graph} {best : Cycle} → Ready w G best → best .count ≤ 256
 ready-count h = omega (arith, h .cycle .few, ready-few h)

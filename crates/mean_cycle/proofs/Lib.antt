@@ -11,4 +11,5 @@ pub mod Rounds
 pub mod FirstCycle
 pub mod Bounds
 pub mod Cycles
+pub mod Tables
 pub mod Answers

@@ -8,7 +8,8 @@ use lib.ListN.{length, getD, set, length-set}
 use lib.Seq.{getD-set-same, getD-set-other}
 use Rattle.mean_cycle.specs.declared.Cycle.{Cycle}
 use Rattle.mean_cycle.specs.declared.search.Graph.{Graph}
-use Rattle.mean_cycle.specs.Inner.{Arc, Frame, Tree, Rooted, Off, gain, parent, label, cyc, sumTo}
+use Rattle.mean_cycle.specs.Nodes.{Arc, Frame, cyc, sumTo}
+use Rattle.mean_cycle.specs.Inner.{Tree, Rooted, Off, gain, parent, label}
 use Rattle.mean_cycle.proofs.Links.{decide, off-rooted, rerooted}
 use Rattle.mean_cycle.proofs.Sums.{sum-grown}
 use Rattle.mean_cycle.proofs.Frames.{arc-kept}

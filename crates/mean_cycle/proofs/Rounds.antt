@@ -15,11 +15,12 @@ use Rattle.diagram.specs.Diagram.{Permits}
 use Rattle.diagram.specs.Work.{stateIn}
 use Rattle.mean_cycle.specs.declared.Cycle.{Cycle}
 use Rattle.mean_cycle.specs.declared.search.Graph.{Graph}
-use Rattle.mean_cycle.specs.Inner.{Listing, Frame, Tree, Calm, Ready, Cleared, Stepped, Visited, Swept, Rounded, Begun, Least, gain, sumTo}
+use Rattle.mean_cycle.specs.Nodes.{Frame, Least, sumTo}
+use Rattle.mean_cycle.specs.Inner.{Listing, Tree, Calm, Ready, Cleared, Stepped, Visited, Swept, Rounded, Begun, gain}
 use Rattle.mean_cycle.proofs.Links.{decide}
 use Rattle.mean_cycle.proofs.Sums.{sum-below, mean-falls}
 use Rattle.mean_cycle.proofs.Frames.{frame-refl, frame-trans, frame-back, within-frame, listing-kept, cycle-kept, ready-kept, ready-few, ready-count, tree-gain}
-use Rattle.mean_cycle.proofs.Bounds.{calm-floor}
+use Rattle.mean_cycle.proofs.Bounds.{calm-floor, floor-kept}
 
 -- visit
 
@@ -330,5 +331,5 @@ search-end {v} {w₀} {w} {w′} {G} {first} {best} f h s e =
     record {
       frame = g;
       cycle = cycle-kept (frame-back g) (ready-few r) (λ i l. refl) (r .cycle);
-      floor = calm-floor w′ G best (r .listing) (s .calm e);
+      floor = floor-kept g (ready-few r) (calm-floor w′ G best (s .calm e) (r .listing .some));
     }

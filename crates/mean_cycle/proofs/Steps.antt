@@ -8,7 +8,8 @@ use native.Mathlib.Omega.{arith}
 use Rattle.words.proofs.Tests.{nowhere}
 use Rattle.mean_cycle.specs.declared.Cycle.{Cycle}
 use Rattle.mean_cycle.specs.declared.search.Graph.{Graph}
-use Rattle.mean_cycle.specs.Inner.{Listing, Arc, Path, Off, Tree, Calm, Ready, Ends, Better, Traced, Stepped, gain, parent}
+use Rattle.mean_cycle.specs.Nodes.{Arc}
+use Rattle.mean_cycle.specs.Inner.{Listing, Path, Off, Tree, Calm, Ready, Ends, Better, Traced, Stepped, gain, parent}
 use Rattle.mean_cycle.proofs.Frames.{frame-refl, within-frame, ready-kept, ready-few, ready-sum, tree-gain}
 use Rattle.mean_cycle.proofs.Targets.{arc-same}
 use Rattle.mean_cycle.proofs.Closing.{closing-better}
@@ -40,13 +41,13 @@ stepped-still {w} r tr calm f m =
 pub stepped-found :
     (w w′ : List ℕ) (G : Graph) (best : Cycle) (v t x k r : ℕ) → G .nodes ≤ 256 → Tree w G best → Arc w G v t x → Path (parent w) (G .nodes) k v x
     → Ends w (G .nodes) v → Traced w w′ v t k r → gain w x + best .count * t < gain w v + best .sum
-    → Stepped w w′ G best v t true 1 (record { count = k + 1; sum = r })
+    → Stepped w w′ G best v t true 1 (record { count = k + 1; sum = r; start = x })
 stepped-found w w′ G best v t x k r few tr a path d traced lt =
     record {
       frame = within-frame 1536 1792 (omega arith) (omega arith) (traced .within);
       better = λ e.
           subst
-          (λ (z : ℕ). Better w′ G best (record { count = z; sum = r }))
+          (λ (z : ℕ). Better w′ G best (record { count = z; sum = r; start = x }))
           (sym (add-one k))
           (closing-better w w′ G best v t x k r few tr a path d traced lt);
       tree = λ e. nowhere (sym e);

@@ -4,7 +4,8 @@ use mathlib.Core.Logic.{⊎-elim}
 use Prim.Native.Nat.{ℕ, zero, suc, _+_, _*_, _/_, _≤_, _<_, zero-le}
 use native.Mathlib.Nat.{not-suc-le-zero, eq-or-lt-of-le, le-of-suc-le-suc, suc-mul, mul-add, mul-comm, mul-left-comm, le-div-iff-mul-le, div-mul-le-self, mul-le-mul-left, mul-le-mul, le-of-mul-le-mul-left}
 use native.Mathlib.Omega.{arith}
-use Rattle.mean_cycle.specs.Inner.{sumTo, upSum, Spelled}
+use Rattle.mean_cycle.specs.Nodes.{sumTo}
+use Rattle.mean_cycle.specs.Inner.{upSum, Spelled}
 
 pub sum-same : (f g : ℕ → ℕ) (n : ℕ) → ((y : ℕ) → y < n → g y ≡ f y) → sumTo g n ≡ sumTo f n
 sum-same f g zero h = refl

@@ -7,7 +7,8 @@ use native.Mathlib.Decide.{ℕ-discrete}
 use native.Mathlib.Omega.{arith}
 use lib.ListN.{length, getD, set, length-set}
 use lib.Seq.{getD-set-same, getD-set-other}
-use Rattle.mean_cycle.specs.Inner.{gain, parent, label, cyc, Rooted, Path, Off, upSum, Spelled, Ends, Climbed, Within, Cleared, Traceable, Traced}
+use Rattle.mean_cycle.specs.Nodes.{cyc}
+use Rattle.mean_cycle.specs.Inner.{gain, parent, label, Rooted, Path, Off, upSum, Spelled, Ends, Climbed, Within, Cleared, Traceable, Traced}
 use Rattle.mean_cycle.proofs.Links.{decide}
 
 -- reset

@@ -8,7 +8,7 @@ use Rattle.diagram.specs.Diagram.{next, Permits}
 use Rattle.diagram.specs.Work.{stateIn, Indexed}
 use Rattle.mean_cycle.specs.declared.Cycle.{Cycle}
 use Rattle.mean_cycle.specs.declared.search.Graph.{Graph}
-use Rattle.mean_cycle.specs.Mean.{Floor}
+use Rattle.mean_cycle.specs.Nodes.{arcWord, Arc, sumTo, CycleOf, cyc, Frame}
 
 -- The words
 
@@ -21,47 +21,38 @@ parent w v = getD w (1024 + v) 0
 abbrev pub label : List ℕ → ℕ → ℕ
 label w v = getD w (1280 + v) 0
 
--- the i-th latency of the best cycle
-abbrev pub cyc : List ℕ → ℕ → ℕ
-cyc w i = getD w (1536 + i) 0
-
--- The diagram that the words list
+-- The graph that the words hold
 
 -- the diagram of the collision vector is listed whole, each state once, with a right index
-pub record Listing (w : List ℕ) (G : Graph) : Type 0 where
+pub record Ruled (w : List ℕ) (G : Graph) : Type 0 where
   pub index : Indexed w (G .nodes)
-  pub room : 2048 ≤ length w
-  pub some : 1 ≤ G .nodes
-  pub narrow : G .width ≤ 31
-  pub vector : G .vector < 2 ^ G .width
-  pub first : stateIn w 0 ≡ G .vector
-  pub below : (i : ℕ) → i < G .nodes → stateIn w i < 2 ^ G .width
   pub apart : (i j : ℕ) → i < G .nodes → j < G .nodes → stateIn w i ≡ stateIn w j → i ≡ j
   pub closed : (i t : ℕ) → i < G .nodes → Permits 1 (G .width) (stateIn w i) t
       → (x : ℕ) × ((x < G .nodes) × (stateIn w x ≡ next (G .vector) (stateIn w i) t))
 
--- the latency t leads from node v to node x
-pub record Arc (w : List ℕ) (G : Graph) (v t x : ℕ) : Type 0 where
-  pub leaves : v < G .nodes
-  pub enters : x < G .nodes
-  pub permits : Permits 1 (G .width) (stateIn w v) t
-  pub high : t ≤ 32
-  pub state : stateIn w x ≡ next (G .vector) (stateIn w v) t
+-- the table of arcs is there, and every latency that a node permits leads to a node
+pub record Tabled (w : List ℕ) (G : Graph) : Type 0 where
+  pub room : 9984 ≤ length w
+  pub closed : (i t : ℕ) → i < G .nodes → Permits 1 (G .width) (stateIn w i) t → arcWord w i t < G .nodes
 
--- c 0 + .. + c (k - 1)
-abbrev pub sumTo : (ℕ → ℕ) → ℕ → ℕ
-sumTo c zero = 0
-sumTo c (suc i) = c i + sumTo c i
+-- what tells where a latency leads: the table of arcs, or the collision vector
+abbrev pub Source : Bool → List ℕ → Graph → Type 0
+Source true w G = Tabled w G
+Source false w G = Ruled w G
 
--- the latencies c 0 .. c (count - 1) are those of a closed walk that meets no node twice, and sum is their sum
-pub record CycleOf (w : List ℕ) (G : Graph) (c : ℕ → ℕ) (best : Cycle) : Type 0 where
-  pub node : ℕ → ℕ
-  pub some : 1 ≤ best .count
-  pub few : best .count ≤ G .nodes
-  pub arcs : (i : ℕ) → i < best .count → Arc w G (node i) (c i) (node (suc i))
-  pub closed : node (best .count) ≡ node 0
-  pub apart : (i j : ℕ) → i < best .count → j < best .count → node i ≡ node j → i ≡ j
-  pub total : best .sum ≡ sumTo c (best .count)
+-- a graph of 1 to 256 nodes, of which no word has a column beyond the width
+pub record Listing (w : List ℕ) (G : Graph) : Type 0 where
+  pub few : G .nodes ≤ 256
+  pub room : 2048 ≤ length w
+  pub some : 1 ≤ G .nodes
+  pub narrow : G .width ≤ 31
+  pub below : (i : ℕ) → i < G .nodes → stateIn w i < 2 ^ G .width
+  pub source : Source (G .table) w G
+
+-- a test that tells whether P
+pub record Says (r : Bool) (P : Type 0) : Type 0 where
+  pub right : r ≡ true → P
+  pub wrong : r ≡ false → P → ⊥
 
 -- Links
 
@@ -102,12 +93,6 @@ pub record Ends (w : List ℕ) (n v : ℕ) : Type 0 where
   pub rooted : Rooted (parent w) n depth v
 
 -- What holds between the steps
-
--- the words but those from 768 to 1791 are as before
-pub record Frame (w w′ : List ℕ) : Type 0 where
-  pub size : length w′ ≡ length w
-  pub low : (i : ℕ) → i < 768 → getD w′ i 0 ≡ getD w i 0
-  pub high : (i : ℕ) → 1792 ≤ i → getD w′ i 0 ≡ getD w i 0
 
 -- only the words from lo up to hi differ
 pub record Within (lo hi : ℕ) (w w′ : List ℕ) : Type 0 where
@@ -204,7 +189,8 @@ pub record Copyable (w : List ℕ) (from to : ℕ) : Type 0 where
   pub few : to ≤ 256
   pub labels : (i : ℕ) → i < to → label w i ≤ 32
 
-pub record Copied (w w′ : List ℕ) (from to : ℕ) (r : Cycle) : Type 0 where
+pub record Copied (w w′ : List ℕ) (from to start : ℕ) (r : Cycle) : Type 0 where
+  pub begins : r .start ≡ start
   pub within : Within 1536 1792 w w′
   pub spelled : (i : ℕ) → i < to - from → cyc w′ i ≡ label w (from + i)
   pub count : r .count ≡ to - from
@@ -214,9 +200,3 @@ pub record Copied (w w′ : List ℕ) (from to : ℕ) (r : Cycle) : Type 0 where
 pub record Begun (w w′ : List ℕ) (G : Graph) (best : Cycle) : Type 0 where
   pub frame : Frame w w′
   pub ready : Ready w′ G best
-
--- what the search leaves
-pub record Least (w w′ : List ℕ) (G : Graph) (best : Cycle) : Type 0 where
-  pub frame : Frame w w′
-  pub cycle : CycleOf w G (cyc w′) best
-  pub floor : Floor 1 (G .width) (G .vector) (best .count) (best .sum)

@@ -1,6 +1,7 @@
 // The search on a listed diagram, in words of which the first 768 hold the listing (crate diagram) and stay as they are.
 // Of node v the gain stands at 768 + v, the parent at 1024 + v (256: none), the label of the arc from the parent at 1280 + v;
-// the latencies of the best cycle stand from 1536 on. The words from 1792 on are never touched.
+// the latencies of the best cycle stand from 1536 on. The words from 1792 on are never changed. Where the graph has a table of arcs, it stands
+// there: the node to which the latency t leads from v at 1792 + v * 32 + (t - 1). Then word v has no other sense than which latencies v permits.
 
 use crate::Cycle;
 use crate::greedy::first_cycle;
@@ -11,13 +12,16 @@ ghost use lib.ListN.{length, set};
 ghost use Rattle.words.specs.Bits.{zeroFrom};
 ghost use Rattle.diagram.specs.Diagram.{Permits};
 ghost use Rattle.diagram.specs.Work.{stateIn};
-ghost use Rattle.mean_cycle.specs.Inner.{Listing, Arc, Tree, Ready, Ends, Climbed, Cleared, Traceable, Traced, Stepped, Visited, Swept, Rounded, Least};
+ghost use Rattle.mean_cycle.specs.Nodes.{Arc, Least};
+ghost use Rattle.mean_cycle.specs.Inner.{Listing, Tree, Ready, Ends, Climbed, Cleared, Traceable, Traced, Stepped, Visited, Swept, Rounded};
 
-// What is searched: the listed states, numbered from 0, of a collision vector and its n.
+// What is searched: nodes, numbered from 0, of which word v says in its columns which latencies v permits, up to one more than the width. Where
+// they lead is told by a table of arcs, or else the words are the listed states of a collision vector.
 pub struct Graph {
     pub nodes: usize,
     pub width: u32,
     pub vector: u32,
+    pub table: bool,
 }
 
 // What a part of a round left: whether a better cycle stands in the words (then best is that cycle), and how often a gain grew.
@@ -41,6 +45,10 @@ pub fn target(work: &[u32], graph: Graph, v: usize, t: usize) -> usize
     requires { ⌜ (v < graph .nodes) × Permits 1 (graph .width) (stateIn (now work) v) t ⌝ }
     ensures { λ r. ⌜ Arc (now (work .entry)) graph v t r ⌝ }
 {
+    if graph.table {
+        let at = 1791 + v * 32 + t;
+        return work[at] as usize;
+    }
     let next = words::shift(work[v], t as u32) | graph.vector;
     diagram::place(work, graph.nodes, next)
 }
@@ -148,6 +156,7 @@ fn step(work: &mut [u32], graph: Graph, best: Cycle, v: usize, t: usize) -> Outc
             best: Cycle {
                 count: k + 1,
                 sum: s,
+                start: x,
             },
         };
     }

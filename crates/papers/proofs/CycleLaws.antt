@@ -14,7 +14,8 @@ use Rattle.diagram.specs.Diagram.{next, longest, Walk, stay, step, Reachable}
 use Rattle.diagram.specs.States.{Each, arc}
 use Rattle.diagram.specs.Cycles.{statesAlong, CycleFrom}
 use Rattle.diagram.proofs.Listing.{arc-permits}
-use Rattle.cycles.specs.Rotation.{rotate, leads, firstRotation}
+use Rattle.graphs.specs.Rotation.{rotate}
+use Rattle.cycles.specs.Rotation.{leads, firstRotation}
 use Rattle.papers.proofs.TestLaws.{apart, apart-distinct}
 
 -- no rotation comes before the cycle as it stands

@@ -14,7 +14,8 @@ use Rattle.diagram.specs.Cycles.{CycleFrom}
 use Rattle.diagram.proofs.Vectors.{IsVector, vector-is}
 use Rattle.diagram.proofs.Sound.{sound, walk-cycle}
 use Rattle.diagram.proofs.Rival.{rival}
-use Rattle.cycles.specs.Rotation.{rotate, LeastRotated, firstRotation}
+use Rattle.graphs.specs.Rotation.{rotate}
+use Rattle.cycles.specs.Rotation.{LeastRotated, firstRotation}
 use Rattle.cycles.proofs.RotationLaws.{rotate-length, rotate-total, rotate-cycle}
 use Rattle.cycles.proofs.OrderLaws.{rotate-least, first-inside}
 use Rattle.mean_cycle.specs.Mean.{Floor}

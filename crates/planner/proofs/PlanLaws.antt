@@ -9,7 +9,8 @@ use lib.Seq.{getD-take, getD-drop, length-take-le, take-length, take-at}
 use Rattle.diagram.proofs.CopyLaws.{front}
 use Rattle.unit.specs.declared.Plan.{Plan}
 use Rattle.collision.specs.Pipeline.{total}
-use Rattle.cycles.specs.Rotation.{rotate, firstRotation}
+use Rattle.graphs.specs.Rotation.{rotate}
+use Rattle.cycles.specs.Rotation.{firstRotation}
 use Rattle.cycles.proofs.RotationLaws.{rotate-length, rotate-total}
 use Rattle.cycles.proofs.OrderLaws.{first-inside}
 use Rattle.mean_cycle.specs.declared.Cycle.{Cycle}

@@ -30,7 +30,8 @@ use Rattle.diagram.proofs.StatesLaws.{Vector}
 use Rattle.diagram.proofs.Walks.{walk-permits}
 use Rattle.diagram.proofs.WidthLaws.{width-le}
 use Rattle.cycles.specs.Greedy.{WorkAfter}
-use Rattle.cycles.specs.Rotation.{rotate, firstRotation}
+use Rattle.graphs.specs.Rotation.{rotate}
+use Rattle.cycles.specs.Rotation.{firstRotation}
 use Rattle.cycles.proofs.RotationLaws.{rotate-length}
 use Rattle.mean_cycle.specs.declared.Cycle.{Cycle}
 use Rattle.mean_cycle.specs.declared.Answer.the-variants.{No, Found}

@@ -10,7 +10,8 @@ use Rattle.unit.specs.declared.Answer.the-variants.{Done}
 use Rattle.unit.specs.Unit.{marked}
 use Rattle.collision.specs.Pipeline.{total}
 use Rattle.cycles.specs.Greedy.{WorkAfter}
-use Rattle.cycles.specs.Rotation.{rotate, firstRotation}
+use Rattle.graphs.specs.Rotation.{rotate}
+use Rattle.cycles.specs.Rotation.{firstRotation}
 use Rattle.mean_cycle.specs.declared.Cycle.{Cycle}
 use Rattle.planner.specs.Plans.{Best, planOf, searchAnswer}
 

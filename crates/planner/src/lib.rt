@@ -4,7 +4,7 @@ ghost use mathlib.Core.Path.{_≡_};
 ghost use mathlib.Core.List.{_++_};
 ghost use Prim.Native.Nat.{_-_, _≤_, _<_};
 ghost use lib.ListN.{length, take, replicate};
-ghost use Rattle.cycles.specs.Rotation.{rotate};
+ghost use Rattle.graphs.specs.Rotation.{rotate};
 ghost use Rattle.planner.specs.Plans.{planOf, SearchPromise, readAnswer, readOf};
 ghost use Rattle.planner.specs.Inner.{found, inFirstRotation, Small, Standing, Sought};
 use collision::Number;

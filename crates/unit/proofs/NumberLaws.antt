@@ -1,40 +1,45 @@
 -- The numbers of the refusals. Assumes nothing.
 use mathlib.Core.Path.{_≡_, refl, sym, ap, _∙_}
-use mathlib.Core.Bool.{false}
-use mathlib.Core.List.{[], _∷_, map}
-use Prim.Native.Nat.{_-_, _≤_}
+use mathlib.Core.Bool.{false, cond}
+use mathlib.Core.List.{List, [], _∷_, map}
+use Prim.Native.Nat.{ℕ, _≤_}
 use native.Mathlib.Omega.{arith}
 use borrow.Author.Tests.{ne-eqb}
 use lib.Dec.{eqb}
-use lib.ListN.{getD}
 use Rattle.unit.specs.declared.Refusal.{Refusal}
-use Rattle.unit.specs.declared.Refusal.the-variants.{NotSound, NoSuchTag, NoSuchSegment, NoSuchColumn, ShortWork, ShortOutput, TooManyStates, NoPlan, BadCycle, NotGranted, BadLength, BadHeader, MarkBeyondColumns}
+use Rattle.unit.specs.declared.Refusal.the-variants.{NotSound, NoSuchTag, NoSuchSegment, NoSuchColumn, ShortWork, ShortOutput, TooManyStates, NoPlan, BadCycle, NotGranted, BadLength, BadHeader, MarkBeyondColumns, BadLoop}
 use Rattle.unit.specs.Numbers.{numberOf, refusals}
 
 -- the papers' list of numbers
-pub numbers : map numberOf refusals ≡ 1 ∷ 2 ∷ 3 ∷ 4 ∷ 5 ∷ 6 ∷ 7 ∷ 8 ∷ 9 ∷ 10 ∷ 11 ∷ 12 ∷ 13 ∷ []
+pub numbers : map numberOf refusals ≡ 1 ∷ 2 ∷ 3 ∷ 4 ∷ 5 ∷ 6 ∷ 7 ∷ 8 ∷ 9 ∷ 10 ∷ 11 ∷ 12 ∷ 13 ∷ 17 ∷ []
 numbers = refl
+
+-- the first of some refusals that is told by a number
+abbrev pub toldBy : ℕ → List Refusal → Refusal
+toldBy n [] = NotSound
+toldBy n (why ∷ more) = cond (eqb (numberOf why) n) why (toldBy n more)
 
 -- what a number can be, and that it tells the refusal
 pub record Numbered (why : Refusal) : Type 0 where
   pub from : 1 ≤ numberOf why
-  pub to : numberOf why ≤ 13
-  pub place : getD refusals (numberOf why - 1) NotSound ≡ why
+  pub to : numberOf why ≤ 17
+  pub tells : toldBy (numberOf why) refusals ≡ why
 
 pub numbered : (why : Refusal) → Numbered why
-numbered NotSound = record { from = omega arith; to = omega arith; place = refl }
-numbered NoSuchTag = record { from = omega arith; to = omega arith; place = refl }
-numbered NoSuchSegment = record { from = omega arith; to = omega arith; place = refl }
-numbered NoSuchColumn = record { from = omega arith; to = omega arith; place = refl }
-numbered ShortWork = record { from = omega arith; to = omega arith; place = refl }
-numbered ShortOutput = record { from = omega arith; to = omega arith; place = refl }
-numbered TooManyStates = record { from = omega arith; to = omega arith; place = refl }
-numbered NoPlan = record { from = omega arith; to = omega arith; place = refl }
-numbered BadCycle = record { from = omega arith; to = omega arith; place = refl }
-numbered NotGranted = record { from = omega arith; to = omega arith; place = refl }
-numbered BadLength = record { from = omega arith; to = omega arith; place = refl }
-numbered BadHeader = record { from = omega arith; to = omega arith; place = refl }
-numbered MarkBeyondColumns = record { from = omega arith; to = omega arith; place = refl }
+numbered NotSound = record { from = omega arith; to = omega arith; tells = refl }
+numbered NoSuchTag = record { from = omega arith; to = omega arith; tells = refl }
+numbered NoSuchSegment = record { from = omega arith; to = omega arith; tells = refl }
+numbered NoSuchColumn = record { from = omega arith; to = omega arith; tells = refl }
+numbered ShortWork = record { from = omega arith; to = omega arith; tells = refl }
+numbered ShortOutput = record { from = omega arith; to = omega arith; tells = refl }
+numbered TooManyStates = record { from = omega arith; to = omega arith; tells = refl }
+numbered NoPlan = record { from = omega arith; to = omega arith; tells = refl }
+numbered BadCycle = record { from = omega arith; to = omega arith; tells = refl }
+numbered NotGranted = record { from = omega arith; to = omega arith; tells = refl }
+numbered BadLength = record { from = omega arith; to = omega arith; tells = refl }
+numbered BadHeader = record { from = omega arith; to = omega arith; tells = refl }
+numbered MarkBeyondColumns = record { from = omega arith; to = omega arith; tells = refl }
+numbered BadLoop = record { from = omega arith; to = omega arith; tells = refl }
 
 -- no refusal is told by 0
 pub number-some : (why : Refusal) → eqb (numberOf why) 0 ≡ false
@@ -42,4 +47,4 @@ number-some why = ne-eqb (numberOf why) 0 (λ e. omega (arith, numbered why .fro
 
 -- no two are told by one number
 pub number-one : (a b : Refusal) → numberOf a ≡ numberOf b → a ≡ b
-number-one a b e = sym (numbered a .place) ∙ ap (λ n. getD refusals (n - 1) NotSound) e ∙ numbered b .place
+number-one a b e = sym (numbered a .tells) ∙ ap (λ n. toldBy n refusals) e ∙ numbered b .tells

@@ -2,7 +2,7 @@
 use mathlib.Core.List.{List, [], _∷_}
 use Prim.Native.Nat.{ℕ}
 use Rattle.unit.specs.declared.Refusal.{Refusal}
-use Rattle.unit.specs.declared.Refusal.the-variants.{NotSound, NoSuchTag, NoSuchSegment, NoSuchColumn, ShortWork, ShortOutput, TooManyStates, NoPlan, BadCycle, NotGranted, BadLength, BadHeader, MarkBeyondColumns}
+use Rattle.unit.specs.declared.Refusal.the-variants.{NotSound, NoSuchTag, NoSuchSegment, NoSuchColumn, ShortWork, ShortOutput, TooManyStates, NoPlan, BadCycle, NotGranted, BadLength, BadHeader, MarkBeyondColumns, BadLoop}
 use Rattle.unit.specs.declared.Answer.{Answer}
 use Rattle.unit.specs.declared.Answer.the-variants.{Done, Refused}
 
@@ -31,12 +31,14 @@ numberOf BadLength = 11
 numberOf BadHeader = 12
 -- a mark of a file beyond the columns
 numberOf MarkBeyondColumns = 13
+-- a loop of no tags, or of more than 8
+numberOf BadLoop = 17
 
--- the refusals, the one of number 1 first
+-- the refusals, by rising number
 abbrev pub refusals : List Refusal
 refusals =
     NotSound ∷ NoSuchTag ∷ NoSuchSegment ∷ NoSuchColumn ∷ ShortWork ∷ ShortOutput ∷ TooManyStates ∷ NoPlan ∷ BadCycle ∷ NotGranted ∷ BadLength
-    ∷ BadHeader ∷ MarkBeyondColumns ∷ []
+    ∷ BadHeader ∷ MarkBeyondColumns ∷ BadLoop ∷ []
 
 -- the number that an answer tells: 0 where the call was accepted
 abbrev pub numberIn : Answer → ℕ

@@ -47,6 +47,7 @@ pub enum Refusal {
     BadLength,
     BadHeader,
     MarkBeyondColumns,
+    BadLoop,
 }
 
 pub enum Answer {
@@ -78,6 +79,7 @@ fn number(why: Refusal) -> u8
         Refusal::BadLength => 11,
         Refusal::BadHeader => 12,
         Refusal::MarkBeyondColumns => 13,
+        Refusal::BadLoop => 17,
     }
 }
 

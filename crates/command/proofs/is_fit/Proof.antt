@@ -19,6 +19,9 @@ enum-told c = search needs
 enum-told-2 : tie.Need-enum-told-2
 enum-told-2 c = search needs
 
+enum-told-3 : tie.Need-enum-told-3
+enum-told-3 c = search needs
+
 returns : tie.Need-returns
 returns c = let f = c .before .before .before in rw (f .form .given .1) (fit-numbers (f .before .before .args .words) _ (c .if1 .taken))
 
@@ -37,6 +40,9 @@ returns-5 c = let e = c .before .before in rw (e .enum-told .given .1) (fit-cycl
 returns-6 : tie.Need-returns-6
 returns-6 c = rw (c .before .enum-told2 .given .1)
 
+returns-7 : tie.Need-returns-7
+returns-7 c = rw (c .enum-told3 .given .1)
+
 pub is-fit-spec : {M : Type 1} → statement M
 is-fit-spec =
     tie.close
@@ -46,9 +52,11 @@ is-fit-spec =
     is-optional-requires
     enum-told
     enum-told-2
+    enum-told-3
     returns
     returns-2
     returns-3
     returns-4
     returns-5
-    returns-6)
+    returns-6
+    returns-7)

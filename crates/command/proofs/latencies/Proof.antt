@@ -18,8 +18,8 @@ past-word-requires c κs = search needs
 past-word-requires-2 : tie.Need-past-word-requires-2
 past-word-requires-2 c κs = search needs
 
-latencies-after-requires : tie.Need-latencies-after-requires
-latencies-after-requires c κs = search needs
+bytes-after-requires : tie.Need-bytes-after-requires
+bytes-after-requires c κs = search needs
 
 same-length : tie.Need-same-length
 same-length c = search needs
@@ -29,7 +29,7 @@ returns c =
     let l = c .before .before in
     let q = l .before .before in
     let p = q .before in
-    same-in-front (p .before .before .before .before .before .args .cycle .now) (latencies-rest _ _ _ _ (p .before .before .text-end .ensures) (p .past-word .ensures) (q .past-word2 .ensures)) (l .latencies-after .ensures)
+    same-in-front (p .before .before .before .before .before .args .cycle .now) (latencies-rest _ _ _ _ (p .before .before .text-end .ensures) (p .past-word .ensures) (q .past-word2 .ensures)) (l .bytes-after .ensures)
 
 pub latencies-spec : {M : Type 1} → statement M
 latencies-spec =
@@ -39,6 +39,6 @@ latencies-spec =
     slice-aggregate-text
     past-word-requires
     past-word-requires-2
-    latencies-after-requires
+    bytes-after-requires
     same-length
     returns)

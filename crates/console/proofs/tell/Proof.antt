@@ -3,7 +3,8 @@ use mathlib.Core.Path.{refl}
 use lib.ListN.{replicate}
 use Rattle.command.specs.Lines.{latenciesIn}
 use Rattle.console.specs.Turns.{questionOf}
-use Rattle.console.proofs.JudgeLaws.{front-length, gives-told}
+use Rattle.command.proofs.FrontLaws.{front-length}
+use Rattle.console.proofs.JudgeLaws.{gives-told}
 use borrow.Author.Needs.{needs}
 use Rattle.console.proofs.tell.Statement.{statement}
 use Rattle.console.proofs.tell.Tie as tie

@@ -8,7 +8,7 @@ use borrow.Author.Needs.{needs}
 use lib.ListN.{length, getD, set, take, replicate}
 use lib.Seq.{length-take-le, getD-take}
 use Rattle.diagram.proofs.CopyLaws.{front, front-more}
-use Rattle.cycles.specs.Rotation.{rotate}
+use Rattle.graphs.specs.Rotation.{rotate}
 use Rattle.cycles.proofs.RotationLaws.{rotate-length, rotate-at}
 use Rattle.planner.proofs.PlanLaws.{zeros, zeros-length, front-zeros}
 use Rattle.planner.proofs.rotated.Statement.{statement}

@@ -6,10 +6,10 @@ use Rattle.mean_cycle.proofs.greedy.copy.Statement.{statement}
 use Rattle.mean_cycle.proofs.greedy.copy.Tie as tie
 
 abbrev Inv-loop : tie.InvT-loop
-Inv-loop work₀ from to count sum₀ j₀ work sum j = Copying work₀ work from to sum j
+Inv-loop work₀ from to start count sum₀ j₀ work sum j = Copying work₀ work from to sum j
 
 abbrev μ-loop : tie.MeasureT-loop
-μ-loop work₀ from to count sum₀ j₀ work sum j = count - j
+μ-loop work₀ from to start count sum₀ j₀ work sum j = count - j
 
 sub-count : tie.Need-sub-count Inv-loop μ-loop
 sub-count c = omega (arith, c .pre .some)
@@ -82,7 +82,7 @@ same-length : tie.Need-same-length Inv-loop μ-loop
 same-length c = c .before .loop .inv .within .size
 
 returns : tie.Need-returns Inv-loop μ-loop
-returns c = copy-end (c .before .loop .inv) (c .loop-test .left)
+returns c = copy-end _ (c .before .loop .inv) (c .loop-test .left)
 
 pub copy-spec : {M : Type 1} → statement M
 copy-spec =

@@ -1,6 +1,7 @@
 -- `mean_cycle::search::round` meets its contract: every sweep but the last raises the sum of the gains, which has a bound. Assumes nothing.
 use Prim.Native.Nat.{_-_}
-use Rattle.mean_cycle.specs.Inner.{gain, sumTo}
+use Rattle.mean_cycle.specs.Nodes.{sumTo}
+use Rattle.mean_cycle.specs.Inner.{gain}
 use Rattle.mean_cycle.proofs.Frames.{ready-few}
 use Rattle.mean_cycle.proofs.Rounds.{Going, most, round-frame, round-start, round-more, round-less, round-found, round-end}
 use Rattle.mean_cycle.proofs.search.round.Statement.{statement}

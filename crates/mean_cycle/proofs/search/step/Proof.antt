@@ -61,7 +61,7 @@ returns : tie.Need-returns
 returns c =
     let called = c .before .before .before .before in
     let pre = called .before .before .before .pre in
-    stepped-still (pre .0) (pre .1 .0) (calm-arc _ (pre .0 .listing) (called .target .ensures) (c .before .if1 .taken)) (c .still .ensures .0) (c .still .ensures .1)
+    stepped-still (pre .0) (pre .1 .0) (calm-arc (called .before .before .before .args .best) (pre .0 .listing) (called .target .ensures) (c .before .if1 .taken)) (c .still .ensures .0) (c .still .ensures .1)
 
 climb-requires : tie.Need-climb-requires
 climb-requires c κs =

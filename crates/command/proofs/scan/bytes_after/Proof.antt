@@ -1,4 +1,4 @@
--- `command::scan::latencies_after` meets its contract. Assumes nothing.
+-- `command::scan::bytes_after` meets its contract. Assumes nothing.
 use mathlib.Core.Path.{_∙_}
 use Prim.Native.Nat.{_-_}
 use native.Mathlib.Omega.{arith}
@@ -6,14 +6,14 @@ use borrow.Author.Needs.{needs}
 use lib.ListN.{length}
 use Rattle.command.proofs.WordLaws.{word-inside}
 use Rattle.command.proofs.FillLaws.{Filled, fill-start, fill-length, fill-more, fill-on, fill-end, fill-full}
-use Rattle.command.proofs.scan.latencies_after.Statement.{statement}
-use Rattle.command.proofs.scan.latencies_after.Tie as tie
+use Rattle.command.proofs.scan.bytes_after.Statement.{statement}
+use Rattle.command.proofs.scan.bytes_after.Tie as tie
 
 abbrev Inv-loop : tie.InvT-loop
-Inv-loop text from cycle₀ count₀ at₀ cycle count at = Filled text from cycle₀ cycle count at
+Inv-loop text from list₀ count₀ at₀ list count at = Filled text from list₀ list count at
 
 abbrev μ-loop : tie.MeasureT-loop
-μ-loop text from cycle₀ count₀ at₀ cycle count at = length text - at
+μ-loop text from list₀ count₀ at₀ list count at = length text - at
 
 word-start-requires : tie.Need-word-start-requires Inv-loop μ-loop
 word-start-requires c κs = search needs
@@ -30,20 +30,20 @@ returns c = let l = c .before .before in fill-full (l .loop .inv) (c .if1 .taken
 word-end-requires : tie.Need-word-end-requires Inv-loop μ-loop
 word-end-requires c κs = search needs
 
-sub-latency-of : tie.Need-sub-latency-of Inv-loop μ-loop
-sub-latency-of c = search needs
+sub-byte-of : tie.Need-sub-byte-of Inv-loop μ-loop
+sub-byte-of c = search needs
 
-part-latency-of-start : tie.Need-part-latency-of-start Inv-loop μ-loop
-part-latency-of-start c = search needs
+part-byte-of-start : tie.Need-part-byte-of-start Inv-loop μ-loop
+part-byte-of-start c = search needs
 
-part-latency-of-end : tie.Need-part-latency-of-end Inv-loop μ-loop
-part-latency-of-end c = word-inside _ _ _ (c .word-end .ensures) (omega arith)
+part-byte-of-end : tie.Need-part-byte-of-end Inv-loop μ-loop
+part-byte-of-end c = word-inside _ _ _ (c .word-end .ensures) (omega arith)
 
-latency-of-requires : tie.Need-latency-of-requires Inv-loop μ-loop
-latency-of-requires c κs = search needs
+byte-of-requires : tie.Need-byte-of-requires Inv-loop μ-loop
+byte-of-requires c κs = search needs
 
-slice-write-cycle : tie.Need-slice-write-cycle Inv-loop μ-loop
-slice-write-cycle c = let f = c .before .before .before .before .before .loop .inv in omega (arith, fill-length f, f .room, c .before .before .before .if1 .left)
+slice-write-list : tie.Need-slice-write-list Inv-loop μ-loop
+slice-write-list c = let f = c .before .before .before .before .before .loop .inv in omega (arith, fill-length f, f .room, c .before .before .before .if1 .left)
 
 add-count : tie.Need-add-count Inv-loop μ-loop
 add-count c = search needs
@@ -55,7 +55,7 @@ loop-less : tie.Need-loop-less Inv-loop μ-loop
 loop-less c = let w = c .before in let e = w .before .before in let l = e .before .before in omega (arith, fill-on _ (l .before .loop .inv) (l .loop-test .taken) (e .word-end .ensures) (c .word-start2 .ensures))
 
 loop-again : tie.Need-loop-again Inv-loop μ-loop
-loop-again c = let w = c .before in let e = w .before .before in let i = e .before in let l = i .before in let f = l .before .loop .inv in fill-more _ _ f (l .loop-test .taken) (omega (arith, fill-length f, f .room, i .if1 .left)) (e .word-end .ensures) (w .latency-of .ensures) (c .word-start2 .ensures)
+loop-again c = let w = c .before in let e = w .before .before in let i = e .before in let l = i .before in let f = l .before .loop .inv in fill-more _ _ f (l .loop-test .taken) (omega (arith, fill-length f, f .room, i .if1 .left)) (e .word-end .ensures) (w .byte-of .ensures) (c .word-start2 .ensures)
 
 same-length-2 : tie.Need-same-length-2 Inv-loop μ-loop
 same-length-2 c = fill-length (c .before .loop .inv)
@@ -63,8 +63,8 @@ same-length-2 c = fill-length (c .before .loop .inv)
 returns-2 : tie.Need-returns-2 Inv-loop μ-loop
 returns-2 c = fill-end (c .before .loop .inv) (c .loop-test .left)
 
-pub latencies-after-spec : {M : Type 1} → statement M
-latencies-after-spec =
+pub bytes-after-spec : {M : Type 1} → statement M
+bytes-after-spec =
     tie.close
     (tie.spec
     Inv-loop
@@ -74,11 +74,11 @@ latencies-after-spec =
     same-length
     returns
     word-end-requires
-    sub-latency-of
-    part-latency-of-start
-    part-latency-of-end
-    latency-of-requires
-    slice-write-cycle
+    sub-byte-of
+    part-byte-of-start
+    part-byte-of-end
+    byte-of-requires
+    slice-write-list
     add-count
     word-start-requires-2
     loop-less

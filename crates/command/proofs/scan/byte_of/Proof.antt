@@ -1,10 +1,10 @@
--- `command::scan::latency_of` meets its contract. Assumes nothing.
+-- `command::scan::byte_of` meets its contract. Assumes nothing.
 use mathlib.Core.Path.{_∙_, sym, ap}
 use Rattle.words.specs.Bytes.{narrow}
 use Rattle.command.proofs.NumberLaws.{number-told, other-told}
 use borrow.Author.Needs.{needs}
-use Rattle.command.proofs.scan.latency_of.Statement.{statement}
-use Rattle.command.proofs.scan.latency_of.Tie as tie
+use Rattle.command.proofs.scan.byte_of.Statement.{statement}
+use Rattle.command.proofs.scan.byte_of.Tie as tie
 
 number-of-requires : tie.Need-number-of-requires
 number-of-requires c κs = search needs
@@ -24,7 +24,7 @@ byte-requires c κs = search needs
 returns-2 : tie.Need-returns-2
 returns-2 c = let n = c .before .before in c .byte .ensures ∙ ap narrow (number-told _ _ (sym (n .number .given .1) ∙ n .before .before .number-of .ensures) .1)
 
-pub latency-of-spec : {M : Type 1} → statement M
-latency-of-spec =
+pub byte-of-spec : {M : Type 1} → statement M
+byte-of-spec =
     tie.close
     (tie.spec number-of-requires enum-known-number enum-told returns byte-requires returns-2)

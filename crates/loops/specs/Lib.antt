@@ -1,0 +1,6 @@
+pub mod Loop
+pub mod Steps
+pub mod Best
+pub mod Answers
+pub mod Claims
+pub mod Inner
