@@ -1,5 +1,5 @@
 // Times the search for a loop's latencies in the designer's console: on the largest graphs among random units and lists of tags, found by a listing
-// of its own. A graph's time is that of a script with many loops, less that of the same script with one, for each loop more.
+// of its own, and on 300 graphs of 100 to 256 states. A graph's time is that of a script with many loops, less that of the same script with one, for each loop more.
 //
 //   loops PROGRAM FILE    the console, and a file for its scripts
 #include <algorithm>
@@ -18,8 +18,9 @@ namespace {
 
 constexpr int candidates = 1000000;
 constexpr size_t kept = 4;  // for each number of tags
-constexpr int repeats = 300;
+constexpr int repeats = 100;
 constexpr int rounds = 3;
+constexpr size_t ordinary = 300;
 constexpr size_t most_states = 256;
 
 struct Mark {
@@ -120,7 +121,7 @@ void write_script(const char *file, const Case &c, int loops) {
     }
 }
 
-// Microseconds, the best of all rounds.
+// Microseconds for a run of the console, the best of all rounds.
 double time_of(const std::string &command) {
     using Clock = std::chrono::steady_clock;
     double best = 1e12;
@@ -132,19 +133,43 @@ double time_of(const std::string &command) {
     return best;
 }
 
+// Microseconds for one loop.
+double time_of(const Case &c, const char *program, const char *file) {
+    const std::string command = std::string(program) + " < " + file + " > /dev/null";
+    write_script(file, c, 1);
+    const double one = time_of(command);
+    write_script(file, c, 1 + repeats);
+    return (time_of(command) - one) / repeats;
+}
+
+std::vector<Case> ordinary_graphs() {
+    std::mt19937 random(18);
+    std::vector<Case> graphs;
+    while (graphs.size() < ordinary) {
+        Case c = random_case(random);
+        count(c);
+        if (c.arcs > 0 && c.states >= 100) graphs.push_back(c);
+    }
+    return graphs;
+}
+
+void report(const char *word, const std::vector<Case> &graphs, const char *program, const char *file) {
+    double sum = 0;
+    double most = 0;
+    for (const Case &c : graphs) {
+        const double taken = time_of(c, program, file);
+        sum += taken;
+        most = std::max(most, taken);
+    }
+    std::printf("%s: %zu graphs, loop mean %.1f most %.1f microseconds\n", word, graphs.size(), sum / double(graphs.size()), most);
+}
+
 }  // namespace
 
 int main(int count, char **words) {
     if (count != 3) return 2;
-    const std::string command = std::string(words[1]) + " < " + words[2] + " > /dev/null";
-    double most = 0;
-    for (const Case &c : largest()) {
-        write_script(words[2], c, 1);
-        const double one = time_of(command);
-        write_script(words[2], c, 1 + repeats);
-        const double each = (time_of(command) - one) / repeats;
-        most = std::max(most, each);
-        std::printf("functions %d tags %zu states %zu arcs %zu microseconds %.1f\n", c.functions, c.tags.size(), c.states, c.arcs, each);
-    }
-    std::printf("loop most %.1f microseconds\n", most);
+    const std::vector<Case> large = largest();
+    for (const Case &c : large) std::printf("tags %zu states %zu arcs %zu\n", c.tags.size(), c.states, c.arcs);
+    report("100 to 256 states", ordinary_graphs(), words[1], words[2]);
+    report("largest", large, words[1], words[2]);
 }

@@ -1,47 +1,21 @@
 -- Rotations of a cycle: what they keep, and that the first rotation comes before all others. Assumes nothing.
 use mathlib.Core.Path.{_≡_, sym, ap, ap₂, _∙_, subst}
-use mathlib.Core.List.{List, [], _∷_, _++_}
+use mathlib.Core.List.{List, _++_}
 use Prim.Native.Nat.{ℕ, zero, suc, _+_, _-_, _%_, _≤_, _<_}
 use native.Mathlib.Nat.{add-zero, add-suc, add-mod-left, add-mod-mod, mod-add-mod, mod-eq-of-lt, mod-lt}
 use native.Mathlib.Decide.{decLt}
 use native.Mathlib.Omega.{arith}
-use lib.ListN.{length, getD, take, drop, length-append, length-take, length-drop, take-append-drop, List·getD-append}
-use lib.Seq.{getD-take, getD-drop, getD-append-add, ext-getD}
+use lib.ListN.{length, getD, take, drop}
+use lib.Seq.{ext-getD}
 use Rattle.unit.specs.Table.{Table}
-use Rattle.collision.specs.Pipeline.{Serves, NeverCollides, total, latency, startAt, taskAt}
+use Rattle.collision.specs.Pipeline.{Serves, NeverCollides, latency, startAt, taskAt}
 use Rattle.diagram.specs.Diagram.{Walk, Reachable}
 use Rattle.diagram.specs.States.{Distinct}
 use Rattle.diagram.proofs.Walks.{run, walk-run}
 use Rattle.diagram.specs.Cycles.{statesAlong, CycleFrom}
 use Rattle.graphs.specs.Rotation.{rotate}
+use Rattle.graphs.proofs.Rotations.{rotate-length, rotate-at}
 use Rattle.cycles.proofs.AlongLaws.{along-length, along-append, along-take, along-drop, walk-join, walk-take, walk-drop, reach-on}
-
--- Length, sum, place
-
-pub rotate-length : (l : List ℕ) (r : ℕ) → length (rotate l r) ≡ length l
-rotate-length l r = rw (length-append (drop r l) (take r l), length-drop r l, length-take r l) (omega arith)
-
-total-append : (a b : List ℕ) → total (a ++ b) ≡ total a + total b
-total-append [] b = omega arith
-total-append (t ∷ a) b = omega (arith, total-append a b)
-
-pub rotate-total : (l : List ℕ) (r : ℕ) → total (rotate l r) ≡ total l
-rotate-total l r = omega (arith, total-append (drop r l) (take r l), total-append (take r l) (drop r l), ap total (take-append-drop r l))
-
-pub rotate-at : (l : List ℕ) (r i : ℕ) → r ≤ length l → i < length l → getD (rotate l r) i 0 ≡ getD l ((r + i) % length l) 0
-rotate-at l r i h b = go (decLt (r + i) (length l))
-  where
-    go : Dec (r + i < length l) → getD (rotate l r) i 0 ≡ getD l ((r + i) % length l) 0
-    go (yes k) =
-        List·getD-append (drop r l) (take r l) 0 i (omega (arith, length-drop r l))
-        ∙ getD-drop r l i 0 ∙ ap (λ m. getD l m 0) (sym (mod-eq-of-lt k))
-    go (no k) =
-        let m : ℕ = r + i - length l in
-        let e : i ≡ length (drop r l) + m = omega (arith, length-drop r l) in
-        let f : r + i ≡ length l + m = omega arith in
-        let w : (r + i) % length l ≡ m = ap (λ x. x % length l) f ∙ add-mod-left (length l) m ∙ mod-eq-of-lt (omega arith) in
-        ap (λ x. getD (rotate l r) x 0) e ∙ getD-append-add (drop r l) (take r l) m 0
-        ∙ getD-take r l m 0 (omega arith) ∙ ap (λ x. getD l x 0) (sym w)
 
 -- the i-th latency of a rotation, repeated without end
 pub rotate-latency : (l : List ℕ) (r i : ℕ) → r ≤ length l → 0 < length l → latency (rotate l r) i ≡ latency l (r + i)

@@ -1,7 +1,8 @@
 -- Rotations of a list, and a cycle from another of its states on. Assumes nothing.
 use mathlib.Core.Path.{_≡_, refl, sym, ap, ap₂, _∙_, subst}
 use mathlib.Core.List.{List, [], _∷_, _++_}
-use Prim.Native.Nat.{ℕ, zero, suc, _+_, _-_, _≤_, _<_}
+use Prim.Native.Nat.{ℕ, zero, suc, _+_, _-_, _%_, _≤_, _<_}
+use native.Mathlib.Nat.{add-mod-left, mod-eq-of-lt}
 use native.Mathlib.Decide.{decLt}
 use native.Mathlib.Omega.{arith}
 use lib.ListN.{length, getD, take, drop, length-append, length-take, length-drop, take-append-drop, List·getD-append}
@@ -31,6 +32,17 @@ module _ {A : Type 0} (l : List A) (r : ℕ) (d : A) where
       let m : ℕ = r + i - length l in
       let e : i ≡ length (drop r l) + m = omega (arith, length-drop r l) in
       ap (λ x. getD (rotate l r) x d) e ∙ getD-append-add (drop r l) (take r l) m d ∙ getD-take r l m d (omega arith)
+
+pub rotate-at : (l : List ℕ) (r i : ℕ) → r ≤ length l → i < length l → getD (rotate l r) i 0 ≡ getD l ((r + i) % length l) 0
+rotate-at l r i h b = go (decLt (r + i) (length l))
+  where
+    go : Dec (r + i < length l) → getD (rotate l r) i 0 ≡ getD l ((r + i) % length l) 0
+    go (yes k) = rotate-low l r 0 i k ∙ ap (λ m. getD l m 0) (sym (mod-eq-of-lt k))
+    go (no k) =
+        let m : ℕ = r + i - length l in
+        let f : r + i ≡ length l + m = omega arith in
+        let w : (r + i) % length l ≡ m = ap (λ x. x % length l) f ∙ add-mod-left (length l) m ∙ mod-eq-of-lt (omega arith) in
+        rotate-high l r 0 i h b (omega arith) ∙ ap (λ x. getD l x 0) (sym w)
 
 module _ (G : Graph) where
   pub rotate-distinct : (l : List (G .State)) (r : ℕ) → r ≤ length l → Distinct G l → Distinct G (rotate l r)

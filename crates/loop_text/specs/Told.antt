@@ -11,7 +11,7 @@ use Rattle.loops.specs.Best.{BestLoop}
 use Rattle.loops.specs.Answers.{loopAnswer}
 
 -- the latencies and their sum. Free is which of several loops of least average is told.
-pub record Loop (u : FunctionUnit) (tags text : List ℕ) : Type 0 where
+pub record ToldLoop (u : FunctionUnit) (tags text : List ℕ) : Type 0 where
   pub latencies : List ℕ
   pub best : BestLoop u tags latencies
   pub spelled : text ≡ cycleLine "loop cycle" latencies
@@ -19,6 +19,6 @@ pub record Loop (u : FunctionUnit) (tags text : List ℕ) : Type 0 where
 -- a line stands in front of the lent bytes, if there is room for it: a loop, or `refused` and the number
 pub record LoopTold (u : FunctionUnit) (tags before after : List ℕ) (end : ℕ) : Type 0 where
   pub text : List ℕ
-  pub found : loopAnswer u tags 16000 ≡ Done → Loop u tags text
+  pub found : loopAnswer u tags 16000 ≡ Done → ToldLoop u tags text
   pub refused : (why : Refusal) → loopAnswer u tags 16000 ≡ Refused why → text ≡ refusedLine why
   pub line : Line text before after end

@@ -1,4 +1,4 @@
--- Figure 2 of the paper with A B: its states, its best loop, and loops that are not, as theorems. Assumes nothing.
+-- Figure 2 of the paper with A B: its states, its one best loop, and loops that are not, as theorems. Assumes nothing.
 use mathlib.Core.Path.{_≡_, refl, sym, ap, _∙_, subst}
 use mathlib.Core.Bool.{true}
 use mathlib.Core.List.{List, [], _∷_}
@@ -6,8 +6,11 @@ use Prim.Native.Nat.{ℕ, zero, suc, _+_, _-_, _*_, _%_, _≤_, _<_}
 use native.Mathlib.Nat.{mod-eq-of-lt}
 use native.Mathlib.Decide.{decLe}
 use native.Mathlib.Omega.{arith}
+use borrow.Author.Tests.{le-leb}
+use lib.Dec.{leb}
 use lib.ListN.{length, getD}
 use Rattle.words.specs.Below.{someBelow, wordBelow, spanBelow, maxBelow}
+use Rattle.unit.specs.declared.Answer.the-variants.{Done}
 use Rattle.unit.specs.Unit.{marked, marksInside, inside, soundOf}
 use Rattle.unit.specs.Calls.{noPlan}
 use Rattle.collision.specs.Pipeline.{Collides, total, startAt}
@@ -16,12 +19,15 @@ use Rattle.collision.proofs.VectorLaws.{collides→}
 use Rattle.collision.proofs.ClashLaws.{clash-collides}
 use Rattle.controller.specs.Bank.{register, rowFor}
 use Rattle.controller.proofs.Examples.{figure2}
+use Rattle.planner.specs.declared.Handed.{Handed}
+use Rattle.planner.specs.Plans.{planOf}
 use Rattle.graphs.specs.Graph.{Walk, stay, step, Reachable, Distinct, statesAlong}
 use Rattle.graphs.specs.States.{expand, listFrom}
 use Rattle.loops.specs.declared.State.{State}
 use Rattle.loops.specs.Loop.{Loop, Schedule, tagAt, loopTask, LoopNeverCollides}
 use Rattle.loops.specs.Steps.{firstState, loopGraph, loopStates}
 use Rattle.loops.specs.Best.{BestLoop}
+use Rattle.loops.specs.Answers.{allTags, loopAnswer, LoopPromise}
 use Rattle.loops.proofs.StateLaws.{listed-all}
 use Rattle.loops.proofs.Sound.{sound-loop}
 
@@ -113,6 +119,12 @@ module _ (l : List ℕ) (p : Schedule ab l) (never : LoopNeverCollides (marked f
           absurd (never (i * 2 + 1) (suc (i * 2 + 1)) (omega arith)
           (clash-collides (marked figure2) (loopTask ab l (i * 2 + 1)) (loopTask ab l (suc (i * 2 + 1))) (getD l (i * 2 + 1) 0) e .1 c))
 
+tail-late : (x y : ℕ) (l : List ℕ) → ((i : ℕ) → i * 2 + 1 < length (x ∷ y ∷ l) → 3 ≤ getD (x ∷ y ∷ l) (i * 2 + 1) 0)
+    → (i : ℕ) → i * 2 + 1 < length l → 3 ≤ getD l (i * 2 + 1) 0
+tail-late x y l late i h =
+    let e : suc i * 2 + 1 ≡ suc (suc (i * 2 + 1)) = omega arith in
+    subst (λ (m : ℕ). 3 ≤ getD (x ∷ y ∷ l) m 0) e (late (suc i) (omega arith))
+
 -- a list of pairs, each with a sum of at least 4
 four-each : (turns : ℕ) (l : List ℕ) → length l ≡ turns * 2 → ((i : ℕ) → i < length l → 1 ≤ getD l i 0)
     → ((i : ℕ) → i * 2 + 1 < length l → 3 ≤ getD l (i * 2 + 1) 0) → 4 * turns ≤ total l
@@ -124,13 +136,8 @@ four-each (suc k) (x ∷ y ∷ l) n some late =
       arith,
       some 0 (omega arith),
       late 0 (omega arith),
-      four-each k l (omega arith) (λ i h. some (suc (suc i)) (omega arith)) later,
+      four-each k l (omega arith) (λ i h. some (suc (suc i)) (omega arith)) (tail-late x y l late),
     )
-  where
-    later : (i : ℕ) → i * 2 + 1 < length l → 3 ≤ getD l (i * 2 + 1) 0
-    later i h =
-        let e : suc i * 2 + 1 ≡ suc (suc (i * 2 + 1)) = omega arith in
-        subst (λ (m : ℕ). 3 ≤ getD (x ∷ y ∷ l) m 0) e (late (suc i) (omega arith))
 
 -- The best loop: 1 3, sum 4
 
@@ -179,32 +186,114 @@ three-one-collides never =
 pub four-no-schedule : Schedule (1 ∷ 2 ∷ []) (4 ∷ []) → ⊥
 four-no-schedule p = omega (arith, p .whole)
 
--- the same loop twice: from either state of position 0 a state occurs twice
-abbrev twice : List ℕ
-twice = 1 ∷ 3 ∷ 1 ∷ 3 ∷ []
+-- once around and on: from either state of position 0 a state occurs twice
+abbrev Apart : List ℕ → State → Type 0
+Apart l s = Distinct (loopGraph figure2 ab) (statesAlong (loopGraph figure2 ab) s (1 ∷ 3 ∷ 1 ∷ 3 ∷ l))
 
-abbrev Apart : State → Type 0
-Apart s = Distinct (loopGraph figure2 ab) (statesAlong (loopGraph figure2 ab) s twice)
-
-apart-first : Apart (record { position = 0; bank = record { r1 = 6; r2 = 10; r3 = 0; r4 = 0 } }) → ⊥
+apart-first : (l : List ℕ) → Apart l (record { position = 0; bank = record { r1 = 6; r2 = 10; r3 = 0; r4 = 0 } }) → ⊥
 unfolding figure2 marked someBelow wordBelow collides rowWord register rowFor
-apart-first d = d 1 3 (omega arith) (omega arith) refl
+apart-first l d = d 1 3 (omega arith) (omega arith) refl
 
-apart-again : Apart again → ⊥
+apart-again : (l : List ℕ) → Apart l again → ⊥
 unfolding figure2 marked someBelow wordBelow collides rowWord register rowFor
-apart-again d = d 1 3 (omega arith) (omega arith) refl
+apart-again l d = d 1 3 (omega arith) (omega arith) refl
 
-among-four : (s : State) (i : ℕ) → i < 4 → getD four i (firstState figure2 ab) ≡ s → s .position ≡ 0 → Apart s → ⊥
-among-four s zero h e p d = apart-first (subst Apart (sym e) d)
-among-four s (suc zero) h e p d = let z : _≡_ {A = ℕ} 1 0 = ap (λ (x : State). x .position) e ∙ p in omega arith
-among-four s (suc (suc zero)) h e p d = let z : _≡_ {A = ℕ} 1 0 = ap (λ (x : State). x .position) e ∙ p in omega arith
-among-four s (suc (suc (suc zero))) h e p d = apart-again (subst Apart (sym e) d)
-among-four s (suc (suc (suc (suc i)))) h e p d = omega arith
+among-four : (l : List ℕ) (s : State) (i : ℕ) → i < 4 → getD four i (firstState figure2 ab) ≡ s → s .position ≡ 0 → Apart l s → ⊥
+among-four l s zero h e p d = apart-first l (subst (Apart l) (sym e) d)
+among-four l s (suc zero) h e p d = let z : _≡_ {A = ℕ} 1 0 = ap (λ (x : State). x .position) e ∙ p in omega arith
+among-four l s (suc (suc zero)) h e p d = let z : _≡_ {A = ℕ} 1 0 = ap (λ (x : State). x .position) e ∙ p in omega arith
+among-four l s (suc (suc (suc zero))) h e p d = apart-again l (subst (Apart l) (sym e) d)
+among-four l s (suc (suc (suc (suc i)))) h e p d = omega arith
 
-pub twice-not-best : BestLoop figure2 (1 ∷ 2 ∷ []) (1 ∷ 3 ∷ 1 ∷ 3 ∷ []) → ⊥
-twice-not-best b =
+pub again-not-best : (l : List ℕ) → BestLoop figure2 (1 ∷ 2 ∷ []) (1 ∷ 3 ∷ 1 ∷ 3 ∷ l) → ⊥
+again-not-best l b =
     let n : length (loopStates figure2 ab) ≡ 4 = ap length figure2-states in
     let at = listed-all figure2 ab figure2-sound figure2-loop (omega arith) (b .state) (b .cycle .reached) in
     let e : getD four (at .index) (firstState figure2 ab) ≡ b .state =
     ap (λ (l : List State). getD l (at .index) (firstState figure2 ab)) (sym figure2-states) ∙ at .found in
-    among-four (b .state) (at .index) (omega (arith, at .inside)) e (b .start) (b .cycle .apart)
+    among-four l (b .state) (at .index) (omega (arith, at .inside)) e (b .start) (b .cycle .apart)
+
+-- No other loop is best: each pair has a sum of at least 4, and all together of at most 4 for each
+
+module _ (l : List ℕ) (b : BestLoop figure2 ab l) where
+  some : (i : ℕ) → i < length l → 1 ≤ getD l i 0
+  some = b .schedule .latencies .each
+
+  late : (i : ℕ) → i * 2 + 1 < length l → 3 ≤ getD l (i * 2 + 1) 0
+  late = after-b l (b .schedule) (b .never)
+
+  low : total l ≤ 4 * b .schedule .turns
+  low = omega (arith, b .schedule .whole, b .least (1 ∷ 3 ∷ []) (one-three-best .schedule) one-three-never)
+
+one-pair : (x y turns : ℕ) → 2 ≡ turns * 2 → x + y ≤ 4 * turns → 1 ≤ x → 3 ≤ y → (x ≡ 1) × (y ≡ 3)
+one-pair x y turns n h a c = (omega arith, omega arith)
+
+pub figure2-only : (l : List ℕ) → BestLoop figure2 (1 ∷ 2 ∷ []) l → l ≡ 1 ∷ 3 ∷ []
+figure2-only [] b = absurd (omega (arith, b .schedule .latencies .nonempty))
+figure2-only (x ∷ []) b = absurd (omega (arith, b .schedule .whole))
+figure2-only (x ∷ y ∷ []) b =
+    let l : List ℕ = x ∷ y ∷ [] in
+    let e = one-pair x y (b .schedule .turns) (b .schedule .whole) (omega (arith, low l b)) (some l b 0 (omega arith)) (late l b 0 (omega arith)) in
+    λ i. e .0 i ∷ e .1 i ∷ []
+figure2-only (x ∷ y ∷ z ∷ []) b = absurd (omega (arith, b .schedule .whole))
+figure2-only (x ∷ y ∷ z ∷ w ∷ l) b = absurd (again-not-best l (subst (BestLoop figure2 ab) same b))
+  where
+    rest : (t : ℕ) → length (x ∷ y ∷ z ∷ w ∷ l) ≡ t * 2 → 4 * t ≤ 8 + total l
+    rest zero n = omega arith
+    rest (suc zero) n = omega arith
+    rest (suc (suc t)) n =
+        omega (
+          arith,
+          four-each t l (omega arith) (λ i h. some (x ∷ y ∷ z ∷ w ∷ l) b (suc (suc (suc (suc i)))) (omega arith))
+              (tail-late z w l (tail-late x y (z ∷ w ∷ l) (late (x ∷ y ∷ z ∷ w ∷ l) b))),
+        )
+
+    bound : x + y + z + w ≤ 8
+    bound = omega (arith, low (x ∷ y ∷ z ∷ w ∷ l) b, rest (b .schedule .turns) (b .schedule .whole))
+
+    x1 : 1 ≤ x
+    x1 = some (x ∷ y ∷ z ∷ w ∷ l) b 0 (omega arith)
+
+    z1 : 1 ≤ z
+    z1 = some (x ∷ y ∷ z ∷ w ∷ l) b 2 (omega arith)
+
+    y3 : 3 ≤ y
+    y3 = late (x ∷ y ∷ z ∷ w ∷ l) b 0 (omega arith)
+
+    w3 : 3 ≤ w
+    w3 = late (x ∷ y ∷ z ∷ w ∷ l) b 1 (omega arith)
+
+    a : x ≡ 1
+    a = omega (arith, bound, x1, z1, y3, w3)
+
+    c : y ≡ 3
+    c = omega (arith, bound, x1, z1, y3, w3)
+
+    d : z ≡ 1
+    d = omega (arith, bound, x1, z1, y3, w3)
+
+    e : w ≡ 3
+    e = omega (arith, bound, x1, z1, y3, w3)
+
+    same : x ∷ y ∷ z ∷ w ∷ l ≡ 1 ∷ 3 ∷ 1 ∷ 3 ∷ l
+    same = λ i. a i ∷ c i ∷ d i ∷ e i ∷ l
+
+-- so that the call answers just this, whatever words are lent
+
+figure2-known : allTags figure2 ab ≡ true
+unfolding figure2
+figure2-known = refl
+
+figure2-few : leb (length (loopStates figure2 ab)) 256 ≡ true
+figure2-few = ap (λ (l : List State). leb (length l) 256) figure2-states
+
+figure2-done : (room : ℕ) → 16000 ≤ room → loopAnswer figure2 (1 ∷ 2 ∷ []) room ≡ Done
+unfolding loopAnswer
+figure2-done room h = simp (figure2-sound, figure2-known, le-leb 16000 room h, figure2-few)
+
+pub figure2-answer : (before after : List ℕ) (r : Handed) → 16000 ≤ length before → LoopPromise figure2 (1 ∷ 2 ∷ []) before after r
+    → (r .answer ≡ Done) × (r .plan ≡ planOf 0 (1 ∷ 3 ∷ []))
+figure2-answer before after r room p =
+    let d : r .answer ≡ Done = p .says ∙ figure2-done (length before) room in
+    let f = p .found d in
+    (d, f .held ∙ ap (planOf 0) (figure2-only (f .latencies) (f .best)))

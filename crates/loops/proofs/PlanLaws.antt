@@ -2,7 +2,7 @@
 use mathlib.Core.Path.{_≡_, sym, ap, ap₂, _∙_}
 use mathlib.Core.List.{List, _++_}
 use Prim.Native.Nat.{ℕ, _+_, _-_, _%_, _≤_, _<_}
-use native.Mathlib.Nat.{not-suc-le-zero, mod-eq-of-lt, mod-lt, add-mod-left}
+use native.Mathlib.Nat.{not-suc-le-zero, mod-lt}
 use native.Mathlib.Decide.{decLt}
 use native.Mathlib.Omega.{arith}
 use borrow.Author.Count.{below-more}
@@ -10,27 +10,16 @@ use lib.ListN.{length, getD, set, drop, replicate, length-set, length-append, le
 use lib.Seq.{getD-set-same, getD-set-other, getD-take, getD-drop, getD-append-add, ext-getD, length-take-le}
 use Rattle.unit.specs.declared.Plan.{Plan}
 use Rattle.graphs.specs.Rotation.{rotate}
-use Rattle.graphs.proofs.Rotations.{rotate-length, rotate-low, rotate-high, rotate-total}
+use Rattle.graphs.proofs.Rotations.{rotate-length, rotate-at, rotate-total}
 use Rattle.collision.specs.Pipeline.{total}
 use Rattle.mean_cycle.specs.declared.Cycle.{Cycle}
 use Rattle.planner.specs.Plans.{planOf}
-use Rattle.loops.specs.Inner.{latenciesIn, Standing, Turnable, turnOf}
+use Rattle.loops.specs.Inner.{cycleIn, Standing, Turnable, turnOf}
 
-rotate-mod : (l : List ℕ) (r i : ℕ) → r ≤ length l → i < length l → getD (rotate l r) i 0 ≡ getD l ((r + i) % length l) 0
-rotate-mod l r i h b = go (decLt (r + i) (length l))
-  where
-    go : Dec (r + i < length l) → getD (rotate l r) i 0 ≡ getD l ((r + i) % length l) 0
-    go (yes k) = rotate-low l r 0 i k ∙ ap (λ m. getD l m 0) (sym (mod-eq-of-lt k))
-    go (no k) =
-        let m : ℕ = r + i - length l in
-        let f : r + i ≡ length l + m = omega arith in
-        let w : (r + i) % length l ≡ m = ap (λ x. x % length l) f ∙ add-mod-left (length l) m ∙ mod-eq-of-lt (omega arith) in
-        rotate-high l r 0 i h b (omega arith) ∙ ap (λ x. getD l x 0) (sym w)
-
-pub standing-length : (w : List ℕ) (count : ℕ) → Standing w count → length (latenciesIn w count) ≡ count
+pub standing-length : (w : List ℕ) (count : ℕ) → Standing w count → length (cycleIn w count) ≡ count
 standing-length w count s = length-take-le count (drop 1536 w) (rw (length-drop 1536 w) (omega (arith, s .room, s .few)))
 
-standing-at : (w : List ℕ) (count i : ℕ) → i < count → getD (latenciesIn w count) i 0 ≡ getD w (1536 + i) 0
+standing-at : (w : List ℕ) (count i : ℕ) → i < count → getD (cycleIn w count) i 0 ≡ getD w (1536 + i) 0
 standing-at w count i h = getD-take count (drop 1536 w) i 0 h ∙ getD-drop 1536 w i 0
 
 -- the bytes before i are the latencies turned, those from i on are 0
@@ -62,44 +51,44 @@ turn-more {w} {count} {first} {bytes} {i} h l few =
     }
 
 pub turn-all : (w : List ℕ) (count first : ℕ) (bytes : List ℕ) (i : ℕ) → Standing w count → first < count → Turning w count first bytes i → count ≤ i
-    → bytes ≡ rotate (latenciesIn w count) first ++ replicate (256 - count) 0
-turn-all w count first bytes i s inside h end = ext-getD 0 bytes (rotate (latenciesIn w count) first ++ replicate (256 - count) 0) (h .size ∙ sym whole) same
+    → bytes ≡ rotate (cycleIn w count) first ++ replicate (256 - count) 0
+turn-all w count first bytes i s inside h end = ext-getD 0 bytes (rotate (cycleIn w count) first ++ replicate (256 - count) 0) (h .size ∙ sym whole) same
   where
-    n : length (latenciesIn w count) ≡ count
+    n : length (cycleIn w count) ≡ count
     n = standing-length w count s
 
-    long : length (rotate (latenciesIn w count) first) ≡ count
-    long = rotate-length (latenciesIn w count) first ∙ n
+    long : length (rotate (cycleIn w count) first) ≡ count
+    long = rotate-length (cycleIn w count) first ∙ n
 
-    whole : length (rotate (latenciesIn w count) first ++ replicate (256 - count) 0) ≡ 256
-    whole = length-append (rotate (latenciesIn w count) first) (replicate (256 - count) 0) ∙ ap₂ (λ (a b : ℕ). a + b) long (length-replicate {A = ℕ} (256 - count) 0) ∙ omega (arith, s .few)
+    whole : length (rotate (cycleIn w count) first ++ replicate (256 - count) 0) ≡ 256
+    whole = length-append (rotate (cycleIn w count) first) (replicate (256 - count) 0) ∙ ap₂ (λ (a b : ℕ). a + b) long (length-replicate {A = ℕ} (256 - count) 0) ∙ omega (arith, s .few)
 
-    same : (j : ℕ) → j < length bytes → getD bytes j 0 ≡ getD (rotate (latenciesIn w count) first ++ replicate (256 - count) 0) j 0
+    same : (j : ℕ) → j < length bytes → getD bytes j 0 ≡ getD (rotate (cycleIn w count) first ++ replicate (256 - count) 0) j 0
     same j k = go (decLt j count)
       where
-        go : Dec (j < count) → getD bytes j 0 ≡ getD (rotate (latenciesIn w count) first ++ replicate (256 - count) 0) j 0
+        go : Dec (j < count) → getD bytes j 0 ≡ getD (rotate (cycleIn w count) first ++ replicate (256 - count) 0) j 0
         go (yes m) =
             let low : (first + j) % count < count = mod-lt (first + j) (omega arith) in
             h .done j (omega arith) ∙ sym (standing-at w count ((first + j) % count) low)
-            ∙ ap (λ k. getD (latenciesIn w count) ((first + j) % k) 0) (sym n)
-            ∙ sym (rotate-mod (latenciesIn w count) first j (omega (arith, n)) (omega (arith, n)))
-            ∙ sym (List·getD-append (rotate (latenciesIn w count) first) (replicate (256 - count) 0) 0 j (omega (arith, long)))
+            ∙ ap (λ k. getD (cycleIn w count) ((first + j) % k) 0) (sym n)
+            ∙ sym (rotate-at (cycleIn w count) first j (omega (arith, n)) (omega (arith, n)))
+            ∙ sym (List·getD-append (rotate (cycleIn w count) first) (replicate (256 - count) 0) 0 j (omega (arith, long)))
         go (no m) =
             let d : ℕ = j - count in
-            let e : j ≡ length (rotate (latenciesIn w count) first) + d = omega (arith, long) in
+            let e : j ≡ length (rotate (cycleIn w count) first) + d = omega (arith, long) in
             h .left j (omega (arith, h .upto)) (omega (arith, h .size))
             ∙ sym (getD-replicate (256 - count) d 0 0 (omega (arith, h .size)))
-            ∙ sym (ap (λ k. getD (rotate (latenciesIn w count) first ++ replicate (256 - count) 0) k 0) e
-            ∙ getD-append-add (rotate (latenciesIn w count) first) (replicate (256 - count) 0) d 0)
+            ∙ sym (ap (λ k. getD (rotate (cycleIn w count) first ++ replicate (256 - count) 0) k 0) e
+            ∙ getD-append-add (rotate (cycleIn w count) first) (replicate (256 - count) 0) d 0)
 
 -- the plan of a cycle
 pub plan-is : (w : List ℕ) (len : ℕ) (c : Cycle) (latencies : List ℕ) (first : ℕ) → Turnable w len c → first ≡ turnOf w len c
-    → latencies ≡ rotate (latenciesIn w (c .count)) first ++ replicate (256 - c .count) 0
-    → _≡_ {A = Plan} (record { tag = 0; count = c .count; sum = c .sum; latencies = latencies }) (planOf 0 (rotate (latenciesIn w (c .count)) (turnOf w len c)))
+    → latencies ≡ rotate (cycleIn w (c .count)) first ++ replicate (256 - c .count) 0
+    → _≡_ {A = Plan} (record { tag = 0; count = c .count; sum = c .sum; latencies = latencies }) (planOf 0 (rotate (cycleIn w (c .count)) (turnOf w len c)))
 plan-is w len c latencies first h e t =
-    let l : List ℕ = latenciesIn w (c .count) in
-    let n : length (rotate (latenciesIn w (c .count)) (turnOf w len c)) ≡ c .count = rotate-length (latenciesIn w (c .count)) (turnOf w len c) ∙ standing-length w (c .count) (h .standing) in
-    let s : c .sum ≡ total (rotate (latenciesIn w (c .count)) (turnOf w len c)) = h .adds ∙ sym (rotate-total (latenciesIn w (c .count)) (turnOf w len c)) in
-    let b : latencies ≡ rotate (latenciesIn w (c .count)) (turnOf w len c) ++ replicate (256 - length (rotate (latenciesIn w (c .count)) (turnOf w len c))) 0 =
-    t ∙ ap₂ (λ (r k : ℕ). rotate (latenciesIn w (c .count)) r ++ replicate (256 - k) 0) e (sym n) in
+    let l : List ℕ = cycleIn w (c .count) in
+    let n : length (rotate (cycleIn w (c .count)) (turnOf w len c)) ≡ c .count = rotate-length (cycleIn w (c .count)) (turnOf w len c) ∙ standing-length w (c .count) (h .standing) in
+    let s : c .sum ≡ total (rotate (cycleIn w (c .count)) (turnOf w len c)) = h .adds ∙ sym (rotate-total (cycleIn w (c .count)) (turnOf w len c)) in
+    let b : latencies ≡ rotate (cycleIn w (c .count)) (turnOf w len c) ++ replicate (256 - length (rotate (cycleIn w (c .count)) (turnOf w len c))) 0 =
+    t ∙ ap₂ (λ (r k : ℕ). rotate (cycleIn w (c .count)) r ++ replicate (256 - k) 0) e (sym n) in
     λ i. record { tag = 0; count = sym n i; sum = s i; latencies = b i }

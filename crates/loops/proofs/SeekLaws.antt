@@ -36,7 +36,7 @@ use Rattle.loops.specs.Loop.{Loop}
 use Rattle.loops.specs.Steps.{firstState, loopStates, arcGraph, arcTests}
 use Rattle.loops.specs.Best.{BestLoop}
 use Rattle.loops.specs.Answers.{allTags, loopAnswer, LoopPromise}
-use Rattle.loops.specs.Inner.{Ruled, ruleGraph, ruleTests, ruleStates, ruleFirst, stateOf, Explored, latenciesIn, Standing, Turnable, turnOf, Checked, Sought}
+use Rattle.loops.specs.Inner.{Ruled, ruleGraph, ruleTests, ruleStates, ruleFirst, stateOf, Explored, cycleIn, Standing, Turnable, turnOf, Checked, Sought}
 use Rattle.loops.proofs.StateLaws.{tests-right}
 use Rattle.loops.proofs.BestLaws.{toStart}
 use Rattle.loops.proofs.StoreLaws.{state-kept}
@@ -122,7 +122,7 @@ module _ (u : FunctionUnit) (tags w w₁ w₂ : List ℕ) (R : Rules) (r : ℕ) 
   room : 11264 ≤ length w
   room = omega (arith, k .room)
 
-  best : BestLoop u tags (rotate (latenciesIn w₂ (c .count)) (toStart tags (stateOf w₁ (c .start))))
+  best : BestLoop u tags (rotate (cycleIn w₂ (c .count)) (toStart tags (stateOf w₁ (c .start))))
   best = explored-best u tags (k .loop) R (h .rules) (k .sound) (h .sane) w w₁ r x few room w₂ c least
 
   start-low : c .start < r
@@ -142,10 +142,10 @@ module _ (u : FunctionUnit) (tags w w₁ w₂ : List ℕ) (R : Rules) (r : ℕ) 
   long : length tags ≤ c .count
   long = go (best .schedule .turns) (best .schedule .whole)
     where
-      n : length (rotate (latenciesIn w₂ (c .count)) (toStart tags (stateOf w₁ (c .start)))) ≡ c .count
-      n = rotate-length (latenciesIn w₂ (c .count)) (toStart tags (stateOf w₁ (c .start))) ∙ standing-length w₂ (c .count) standing
+      n : length (rotate (cycleIn w₂ (c .count)) (toStart tags (stateOf w₁ (c .start)))) ≡ c .count
+      n = rotate-length (cycleIn w₂ (c .count)) (toStart tags (stateOf w₁ (c .start))) ∙ standing-length w₂ (c .count) standing
 
-      go : (t : ℕ) → length (rotate (latenciesIn w₂ (c .count)) (toStart tags (stateOf w₁ (c .start)))) ≡ t * length tags → length tags ≤ c .count
+      go : (t : ℕ) → length (rotate (cycleIn w₂ (c .count)) (toStart tags (stateOf w₁ (c .start)))) ≡ t * length tags → length tags ≤ c .count
       go zero e = absurd (omega (arith, n, least .cycle .some))
       go (suc t) e = omega (arith, n)
 
@@ -161,10 +161,10 @@ module _ (u : FunctionUnit) (tags w w₁ w₂ : List ℕ) (R : Rules) (r : ℕ) 
   }
 
   pub sought-found : (a : Handed) → a .answer ≡ Done
-      → a .plan ≡ planOf 0 (rotate (latenciesIn w₂ (c .count)) (turnOf w₂ (length tags) c)) → Sought u tags w w₂ a
+      → a .plan ≡ planOf 0 (rotate (cycleIn w₂ (c .count)) (turnOf w₂ (length tags) c)) → Sought u tags w w₂ a
   sought-found a e p =
       let same : turnOf w₂ (length tags) c ≡ toStart tags (stateOf w₁ (c .start)) = ap (toStart tags) state-same in
-      let l : List ℕ = rotate (latenciesIn w₂ (c .count)) (toStart tags (stateOf w₁ (c .start))) in
+      let l : List ℕ = rotate (cycleIn w₂ (c .count)) (toStart tags (stateOf w₁ (c .start))) in
       record {
         size = least .frame .size ∙ x .size;
         beyond = λ j m. least .frame .high j (omega arith) ∙ x .high j (omega arith);
@@ -173,10 +173,10 @@ module _ (u : FunctionUnit) (tags w w₁ w₂ : List ℕ) (R : Rules) (r : ℕ) 
             ∙ sym (ap (λ b. check b TooManyStates Done) (le-leb (length (loopStates u tags)) 256
             (few-states u tags (k .loop) R h (omega (arith, node-count u tags (k .loop) R (h .rules) (k .sound) (h .sane) w w₁ r x few room)))));
         found = λ f. record {
-          latencies = rotate (latenciesIn w₂ (c .count)) (toStart tags (stateOf w₁ (c .start)));
-          few = omega (arith, rotate-length (latenciesIn w₂ (c .count)) (toStart tags (stateOf w₁ (c .start))), standing-length w₂ (c .count) standing, count-few);
+          latencies = rotate (cycleIn w₂ (c .count)) (toStart tags (stateOf w₁ (c .start)));
+          few = omega (arith, rotate-length (cycleIn w₂ (c .count)) (toStart tags (stateOf w₁ (c .start))), standing-length w₂ (c .count) standing, count-few);
           best = best;
-          held = p ∙ ap (λ t. planOf 0 (rotate (latenciesIn w₂ (c .count)) t)) same;
+          held = p ∙ ap (λ t. planOf 0 (rotate (cycleIn w₂ (c .count)) t)) same;
         };
         none = λ why f. never-done (sym f ∙ e);
       }

@@ -198,8 +198,8 @@ pub record Explored (w w′ : List ℕ) (R : Rules) (r : ℕ) : Type 0 where
 -- The answer
 
 -- the latencies that stand in the words from 1536 on
-abbrev pub latenciesIn : List ℕ → ℕ → List ℕ
-latenciesIn w count = take count (drop 1536 w)
+abbrev pub cycleIn : List ℕ → ℕ → List ℕ
+cycleIn w count = take count (drop 1536 w)
 
 -- they are there, and each fits a byte
 pub record Standing (w : List ℕ) (count : ℕ) : Type 0 where
@@ -215,7 +215,7 @@ pub record Turnable (w : List ℕ) (len : ℕ) (c : Cycle) : Type 0 where
   pub place : stateOf w (c .start) .position < len
   pub short : len ≤ 8
   pub long : len ≤ c .count
-  pub adds : c .sum ≡ total (latenciesIn w (c .count))
+  pub adds : c .sum ≡ total (cycleIn w (c .count))
   pub low : c .sum ≤ 8192
 
 -- by how many latencies the cycle is turned

@@ -9,7 +9,7 @@ ghost use Rattle.unit.specs.Calls.{noPlan};
 ghost use Rattle.graphs.specs.Rotation.{rotate};
 ghost use Rattle.planner.specs.Plans.{planOf};
 ghost use Rattle.loops.specs.Answers.{LoopPromise};
-ghost use Rattle.loops.specs.Inner.{latenciesIn, Standing, Turnable, turnOf, Checked, Sought};
+ghost use Rattle.loops.specs.Inner.{cycleIn, Standing, Turnable, turnOf, Checked, Sought};
 
 mod listing;
 mod ruling;
@@ -45,7 +45,7 @@ pub struct Rules {
 fn turned(work: &[u32], count: usize, first: usize) -> [u8; 256]
     requires { ⌜ Standing (now work) count ⌝ }
     requires { ⌜ first < count ⌝ }
-    ensures { λ r. ⌜ r ≡ rotate (latenciesIn (now (work .entry)) count) first ++ replicate (256 - count) 0 ⌝ }
+    ensures { λ r. ⌜ r ≡ rotate (cycleIn (now (work .entry)) count) first ++ replicate (256 - count) 0 ⌝ }
 {
     let mut bytes = [0u8; 256];
     let mut i: usize = 0;
@@ -59,7 +59,7 @@ fn turned(work: &[u32], count: usize, first: usize) -> [u8; 256]
 // The latencies of a cycle that stands in the working words, turned so that they begin at position 0, as a plan holds them; its tag is 0.
 fn plan_of(work: &[u32], length: usize, cycle: Cycle) -> Plan
     requires { ⌜ Turnable (now work) length cycle ⌝ }
-    ensures { λ r. ⌜ r ≡ planOf 0 (rotate (latenciesIn (now (work .entry)) (cycle .count)) (turnOf (now (work .entry)) length cycle)) ⌝ }
+    ensures { λ r. ⌜ r ≡ planOf 0 (rotate (cycleIn (now (work .entry)) (cycle .count)) (turnOf (now (work .entry)) length cycle)) ⌝ }
 {
     let count = cycle.count;
     let start = cycle.start;

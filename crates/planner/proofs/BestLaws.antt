@@ -16,7 +16,8 @@ use Rattle.diagram.proofs.Sound.{sound, walk-cycle}
 use Rattle.diagram.proofs.Rival.{rival}
 use Rattle.graphs.specs.Rotation.{rotate}
 use Rattle.cycles.specs.Rotation.{LeastRotated, firstRotation}
-use Rattle.cycles.proofs.RotationLaws.{rotate-length, rotate-total, rotate-cycle}
+use Rattle.graphs.proofs.Rotations.{rotate-length, rotate-total}
+use Rattle.cycles.proofs.RotationLaws.{rotate-cycle}
 use Rattle.cycles.proofs.OrderLaws.{rotate-least, first-inside}
 use Rattle.mean_cycle.specs.Mean.{Floor}
 use Rattle.planner.specs.Plans.{Best}

@@ -1,7 +1,7 @@
 -- The bytes of a plan: latencies in front, zeros behind; the plan of a cycle that stands in the working words. Assumes nothing.
-use Prim.Native.Nat.{ℕ, zero, suc, _+_, _-_, _^_, _≤_, _<_}
-use mathlib.Core.Path.{_≡_, refl, sym, ap, ap₂, _∙_}
-use mathlib.Core.List.{List, [], _∷_, _++_}
+use Prim.Native.Nat.{ℕ, zero, suc, _+_, _-_, _≤_, _<_}
+use mathlib.Core.Path.{_≡_, sym, ap, ap₂, _∙_}
+use mathlib.Core.List.{List, _++_}
 use native.Mathlib.Nat.{sub-zero, zero-sub}
 use native.Mathlib.Omega.{arith}
 use lib.ListN.{length, getD, take, drop, replicate, length-replicate, length-drop}
@@ -11,7 +11,7 @@ use Rattle.unit.specs.declared.Plan.{Plan}
 use Rattle.collision.specs.Pipeline.{total}
 use Rattle.graphs.specs.Rotation.{rotate}
 use Rattle.cycles.specs.Rotation.{firstRotation}
-use Rattle.cycles.proofs.RotationLaws.{rotate-length, rotate-total}
+use Rattle.graphs.proofs.Rotations.{rotate-length, rotate-total}
 use Rattle.cycles.proofs.OrderLaws.{first-inside}
 use Rattle.mean_cycle.specs.declared.Cycle.{Cycle}
 use Rattle.planner.specs.Plans.{planOf}

@@ -32,7 +32,7 @@ use Rattle.diagram.proofs.WidthLaws.{width-le}
 use Rattle.cycles.specs.Greedy.{WorkAfter}
 use Rattle.graphs.specs.Rotation.{rotate}
 use Rattle.cycles.specs.Rotation.{firstRotation}
-use Rattle.cycles.proofs.RotationLaws.{rotate-length}
+use Rattle.graphs.proofs.Rotations.{rotate-length}
 use Rattle.mean_cycle.specs.declared.Cycle.{Cycle}
 use Rattle.mean_cycle.specs.declared.Answer.the-variants.{No, Found}
 use Rattle.mean_cycle.specs.Mean.{Floor, LeastMean, searchable, Searched}

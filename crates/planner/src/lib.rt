@@ -16,7 +16,7 @@ use unit::Plan;
 use unit::Refusal;
 use unit::Tag;
 
-// What a read hands out: the plan, or why there is none.
+// A plan that is handed out by value, or why there is none.
 pub struct Handed {
     pub answer: Answer,
     pub plan: Plan,

@@ -9,7 +9,7 @@ use lib.ListN.{length, getD, set, take, replicate}
 use lib.Seq.{length-take-le, getD-take}
 use Rattle.diagram.proofs.CopyLaws.{front, front-more}
 use Rattle.graphs.specs.Rotation.{rotate}
-use Rattle.cycles.proofs.RotationLaws.{rotate-length, rotate-at}
+use Rattle.graphs.proofs.Rotations.{rotate-length, rotate-at}
 use Rattle.planner.proofs.PlanLaws.{zeros, zeros-length, front-zeros}
 use Rattle.planner.proofs.rotated.Statement.{statement}
 use Rattle.planner.proofs.rotated.Tie as tie
