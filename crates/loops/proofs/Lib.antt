@@ -1,6 +1,5 @@
 pub mod BankLaws
 pub mod StepLaws
-pub mod EventLaws
 pub mod Sound
 pub mod Complete
 pub mod StateLaws
@@ -13,6 +12,3 @@ pub mod NodeLaws
 pub mod RulingLaws
 pub mod PlanLaws
 pub mod SeekLaws
-pub mod ClaimLaws
-pub mod Examples
-pub mod Diagrams

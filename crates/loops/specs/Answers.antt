@@ -24,7 +24,7 @@ abbrev pub allTags : FunctionUnit → List ℕ → Bool
 allTags u [] = true
 allTags u (t ∷ tags) = inside t (u .functions) && allTags u tags
 
--- 7 for more than 256 states (`SevenExactly`, specs/Claims.antt)
+-- 7 for more than 256 states (`SevenExactly`, crate loop_claims)
 abbrev pub fewLoopStates : FunctionUnit → List ℕ → Answer
 fewLoopStates u tags = check (leb (length (loopStates u tags)) 256) TooManyStates Done
 

@@ -2,5 +2,4 @@ pub mod Loop
 pub mod Steps
 pub mod Best
 pub mod Answers
-pub mod Claims
 pub mod Inner

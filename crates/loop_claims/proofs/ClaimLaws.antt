@@ -19,12 +19,12 @@ use Rattle.unit.specs.Calls.{check}
 use Rattle.unit.proofs.Laws.{within}
 use Rattle.collision.specs.Pipeline.{Task, Clash, Cycle, startAt, taskAt, NeverCollides}
 use Rattle.graphs.specs.States.{More}
 use Rattle.loops.specs.Loop.{Loop, Schedule, loopTask, LoopNeverCollides}
 use Rattle.loops.specs.Steps.{loopGraph, loopStates}
 use Rattle.loops.specs.Answers.{allTags, loopAnswer}
-use Rattle.loops.specs.Claims.{Asked, SevenExactly, OneAverage, OneTag}
+use Rattle.loop_claims.specs.Claims.{Asked, SevenExactly, OneAverage, OneTag}
 use Rattle.loops.proofs.StateLaws.{loop-many}
 use Rattle.loops.proofs.RulingLaws.{all-known, all-tags}
 
 -- 7
 

@@ -1,0 +1,4 @@
+pub mod EventLaws
+pub mod ClaimLaws
+pub mod Examples
+pub mod Diagrams
