@@ -13,6 +13,7 @@ use Rattle.words.proofs.Tests.{nowhere}
 use Rattle.words.proofs.BitLaws.{bit-above}
 use Rattle.diagram.specs.Diagram.{width, next, Permits, Reachable}
 use Rattle.diagram.specs.States.{states}
+use Rattle.diagram.specs.Cycles.{CycleFrom}
 use Rattle.diagram.specs.Work.{stateIn, enlistAnswer, Enlisted}
 use Rattle.diagram.proofs.WidthLaws.{width-top}
 use Rattle.diagram.proofs.StateLaws.{states-width}
@@ -25,7 +26,7 @@ use Rattle.mean_cycle.specs.Nodes.{Least, cyc}
 use Rattle.mean_cycle.specs.Inner.{Listing}
 use Rattle.mean_cycle.proofs.Links.{decide}
 use Rattle.mean_cycle.proofs.Bounds.{walk-nodes}
-use Rattle.mean_cycle.proofs.Cycles.{ruled, spell, cycle-spell, total-spell, cycle-from}
+use Rattle.mean_cycle.proofs.Cycles.{ruled, spell, cycle-spell, total-spell, cycle-from, cycle-begins}
 
 -- a vector without a column 32 has a width of at most 31
 width-31 : (cv : ℕ) → cv < 2 ^ 31 → width cv ≤ 31
@@ -160,13 +161,24 @@ module _ (cv : ℕ) (before w : List ℕ) (r : ℕ) (room : 2048 ≤ length befo
       spelled : found after best ≡ spell (cyc after) 0 (best .count)
       spelled = cycle-spell after (best .count) (omega (arith, short, l .frame .size, h .size))
 
+      start-low : best .start < r
+      start-low = subst (λ (v : ℕ). v < r) (l .cycle .begins) (l .cycle .arcs 0 (l .cycle .some) .leaves)
+
+      -- the cycle, from the state of its first node on
+      begun : (z : CycleFrom 1 (width cv) cv (found after best)) × (z .state ≡ getD (states 256 1 (width cv) cv) (best .start) 0)
+      begun =
+          subst (λ (c : List ℕ). (z : CycleFrom 1 (width cv) cv c) × (z .state ≡ getD (states 256 1 (width cv) cv) (best .start) 0)) (sym spelled)
+          (cycle-from listing reached (l .cycle), cycle-begins listing reached (l .cycle) ∙ state-at (best .start) start-low)
+
       least : LeastMean 1 cv after best
       least =
           record {
+            begins = omega (arith, start-low, count);
+            start = begun .1;
             some = l .cycle .some;
             few = short;
             adds = l .cycle .total ∙ sym (ap total spelled ∙ total-spell (cyc after) (best .count));
-            cycle = rw spelled (cycle-from listing reached (l .cycle));
+            cycle = begun .0;
             floor = record { bound = l .floor .bound; every = λ k e walk. let m = walk-nodes listing walk 0 (listing .some) first in l .floor .every k (m .0) (m .1) };
           }
 

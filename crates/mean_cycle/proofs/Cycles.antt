@@ -110,3 +110,11 @@ cycle-from {w} {r} {n} {cv} {c} {best} h reached z =
           let q : i ≡ j = z .apart i j (omega arith) low same in
           omega arith;
     }
+
+-- it begins at the state of its first node
+pub cycle-begins :
+    {w : List ℕ} {r n cv : ℕ} {c : ℕ → ℕ} {best : Cycle} (h : Listing w (ruled r n cv))
+    (reached : (i : ℕ) → i < r → Reachable 1 n cv (stateIn w i)) (z : CycleOf w (ruled r n cv) c best)
+    → cycle-from h reached z .state ≡ stateIn w (best .start)
+unfolding cycle-from
+cycle-begins {w} h reached z = ap (stateIn w) (z .begins)

@@ -23,12 +23,15 @@ pub record Floor (g n cv count sum : ℕ) : Type 0 where
 abbrev pub found : List ℕ → Cycle → List ℕ
 found after c = take (c .count) (drop 1536 after)
 
--- c is the count and the sum of a cycle of the diagram of cv that stands in the words, and no cycle has a lower average
+-- c is the count, the sum and the place of the first state, as the states are listed, of a cycle of the diagram of cv that stands in the words, and no
+-- cycle has a lower average
 pub record LeastMean (g cv : ℕ) (after : List ℕ) (c : Cycle) : Type 0 where
   pub some : 1 ≤ c .count
   pub few : c .count ≤ 256
   pub adds : c .sum ≡ total (found after c)
   pub cycle : CycleFrom g (width cv) cv (found after c)
+  pub begins : c .start < length (states 256 g (width cv) cv)
+  pub start : cycle .state ≡ getD (states 256 g (width cv) cv) (c .start) 0
   pub floor : Floor g (width cv) cv (c .count) (c .sum)
 
 -- a search is made: there are 2048 working words, the vector has no column 32, and the diagram has at most 256 states
