@@ -8,12 +8,16 @@ mod loops_check;
 mod model;
 mod model_check;
 mod random;
+mod record_files;
+mod records;
+mod records_check;
 mod sheet;
 mod tally;
 mod units;
 
 fn main() {
-    match model_check::run().and_then(|units| loops_check::run().map(|_| units)) {
+    let checked = model_check::run().and_then(|units| loops_check::run().map(|_| units));
+    match checked.and_then(|units| records_check::run().map(|_| units)) {
         Ok(units) => println!("model: agrees with the paper's tables and, on {units} random units, with itself"),
         Err(why) => {
             println!("model: {why}");

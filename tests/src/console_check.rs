@@ -1,12 +1,14 @@
 //! The program's output held against the answers that were worked out before: byte by byte, but for the best cycles and loops, of which the
-//! paper leaves free which one is handed out. A plan that was shown once is known from then on.
+//! paper leaves free which one is handed out. A plan that was shown once is known from then on, and the records that were written of it have
+//! to be its own.
 
-use crate::console_folder::Folder;
+use crate::console_folder::{File, Folder};
 use crate::console_model::*;
 use crate::console_program::Ending;
 use crate::console_script::Script;
 use crate::loops::Loops;
 use crate::model::*;
+use crate::records;
 use std::collections::{BTreeMap, HashMap, HashSet};
 use std::ops::Range;
 
@@ -39,7 +41,7 @@ pub struct Counts {
 }
 
 /// The refusals and the words that each command can answer with. Besides, each can be told what was expected.
-const ANSWERS: [(&str, &[u32], &[&str]); 22] = [
+const ANSWERS: [(&str, &[u32], &[&str]); 25] = [
     ("fresh", &[1], &["ok"]),
     ("mark", &[2, 3, 4], &["ok", "no unit"]),
     ("unmark", &[2, 3, 4], &["ok", "no unit"]),
@@ -62,6 +64,9 @@ const ANSWERS: [(&str, &[u32], &[&str]); 22] = [
     ("table", &[2], &["ok", "no unit"]),
     ("diagram", &[2, 7], &["ok", "no unit"]),
     ("loop", &[2, 7, 17], &["ok", "no unit"]),
+    ("record", &[2, 8], &["ok", "not written", "no unit"]),
+    ("report", &[15], &["ok", "no file"]),
+    ("ring", &[15], &["ok", "no file"]),
 ];
 
 const OTHERS: [(Sort, &str); 4] = [
@@ -173,13 +178,62 @@ impl Reader<'_> {
             }
             Part::Drawing(search, tag, drawn) => self.drawing(*search, *tag, drawn),
             Part::Loop(loops) => self.cycle().and_then(|cycle| self.best_loop(loops, cycle)),
+            Part::List(planned) => {
+                let cycle = self.list()?;
+                self.plan(planned.search, &planned.drawn, cycle)
+            }
+            Part::Ring(planned) => {
+                let cycle = self.ring()?;
+                self.plan(planned.search, &planned.drawn, cycle)
+            }
         }
+    }
+
+    /// What is left of the line.
+    fn rest_of_line(&self) -> &[u8] {
+        let rest = &self.output[self.at..];
+        &rest[..rest.iter().position(|byte| *byte == b'\n').unwrap_or(rest.len())]
+    }
+
+    /// K and the list up to the end of the line, written as they have to be.
+    fn list(&mut self) -> Result<Cycle, String> {
+        let no_list = || "no count and list".to_string();
+        let text = std::str::from_utf8(self.rest_of_line()).map_err(|_| no_list())?;
+        let (count, list) = text.split_once(" list ").ok_or_else(no_list)?;
+        let latencies: Vec<u8> = list.split(' ').map(|word| word.parse().ok()).collect::<Option<_>>().ok_or_else(no_list)?;
+        let count: usize = count.parse().map_err(|_| no_list())?;
+        if count != latencies.len() {
+            return Err(format!("the list has {} latencies", latencies.len()));
+        }
+        if records::list_text(count, &latencies) != text {
+            return Err("numbers with something besides digits, or with zeros in front".to_string());
+        }
+        self.at += text.len();
+        Ok(Cycle { sum: sum_of(&latencies), latencies })
+    }
+
+    /// S and the ring up to the end of the line, written as they have to be.
+    fn ring(&mut self) -> Result<Cycle, String> {
+        let no_ring = || "no sum and ring".to_string();
+        let text = std::str::from_utf8(self.rest_of_line()).map_err(|_| no_ring())?;
+        let (sum, ring) = text.split_once(" ring ").ok_or_else(no_ring)?;
+        let bit = |digit: char| digit.to_digit(2).map(|bit| bit == 1);
+        let bits: Vec<bool> = ring.chars().map(bit).collect::<Option<_>>().ok_or_else(no_ring)?;
+        let sum: usize = sum.parse().map_err(|_| no_ring())?;
+        if sum != bits.len() {
+            return Err(format!("the ring has {} bits", bits.len()));
+        }
+        if records::ring_text(sum, &bits) != text {
+            return Err("a number with something besides digits, or with zeros in front".to_string());
+        }
+        let latencies = records::latencies_of(&bits).ok_or("the ring of no cycle")?;
+        self.at += text.len();
+        Ok(Cycle { latencies, sum: sum as u32 })
     }
 
     /// Latencies and sum up to the end of the line, written as they have to be.
     fn cycle(&mut self) -> Result<Cycle, String> {
-        let rest = &self.output[self.at..];
-        let line = &rest[..rest.iter().position(|byte| *byte == b'\n').unwrap_or(rest.len())];
+        let line = self.rest_of_line();
         let no_cycle = || "no latencies and sum".to_string();
         let text = std::str::from_utf8(line).map_err(|_| no_cycle())?;
         let (list, sum) = text.split_once(" sum ").ok_or_else(no_cycle)?;
@@ -189,8 +243,50 @@ impl Reader<'_> {
         if format!("{} sum {sum}", words.join(" ")) != text {
             return Err("numbers with something besides digits, or with zeros in front".to_string());
         }
-        self.at += line.len();
+        self.at += text.len();
         Ok(Cycle { latencies, sum })
+    }
+
+    /// A file that was found where the record of this plan should be: the whole file is a record, by both ways, and its cycle is the plan's.
+    fn record(&mut self, planned: &Planned, found: Option<&File>) -> Result<(), String> {
+        let Some(File::Bytes(bytes)) = found else {
+            return Err(format!("found: {found:?}"));
+        };
+        let wrongs = records::wrongs(bytes);
+        let latencies = records::written_again(bytes).map_err(|_| format!("no record for {wrongs:?}: {bytes:?}"))?;
+        assert!(wrongs.is_empty(), "the two ways disagree");
+        if !self.plans.contains_key(&planned.search) {
+            self.counts.meet("a record found: of a plan that was never shown");
+        }
+        let (count, sum) = (latencies.len(), sum_of(&latencies));
+        let cases = [
+            (count == 1, "a record found: one latency"),
+            (count > 1, "a record found: two or more latencies"),
+            (count >= 40, "a record found: 40 latencies or more"),
+            (latencies.contains(&32), "a record found: a latency 32"),
+            (sum > 255, "a record found: a sum above 255"),
+            (sum % 8 == 0, "a record found: a sum that is a multiple of 8"),
+            (sum % 8 > 0, "a record found: a sum that is no multiple of 8"),
+        ];
+        let told = format!("{latencies:?}");
+        self.plan(planned.search, &planned.drawn, Cycle { latencies, sum }).map_err(|why| format!("the record of {told}: {why}"))?;
+        cases.into_iter().filter(|(holds, _)| *holds).for_each(|(_, what)| self.counts.meet(what));
+        Ok(())
+    }
+
+    /// The first file that is not as it should be, in words.
+    fn files(&mut self, after: &Folder, found: &Folder) -> Option<String> {
+        let mut known = after.clone();
+        for (name, file) in &mut known.files {
+            if let File::Record(planned) = file {
+                let seen = found.files.get(name);
+                if let Err(why) = self.record(planned, seen) {
+                    return Some(format!("the file {}, which should be the record of {planned:?}\n{why}", name.escape_ascii()));
+                }
+                *file = seen.expect("a record that was found").clone();
+            }
+        }
+        known.difference(found)
     }
 
     /// A plan that is shown: a best cycle, and the same as it was before.
@@ -304,7 +400,7 @@ pub fn check(script: &Script, run: &Run, counts: &mut Counts) -> Result<(), Diff
     if run.ending != Ending::Status(0) {
         return end(format!("all answers are right, but the program {}", run.ending.told()));
     }
-    if let Some(why) = script.after.difference(&run.folder) {
+    if let Some(why) = reader.files(&script.after, &run.folder) {
         return end(why);
     }
     for what in &script.met {
@@ -351,6 +447,14 @@ fn expected_text(answer: &Answer, plans: &HashMap<usize, Vec<u8>>) -> String {
             Part::Best(_) => text += "<a best cycle>",
             Part::Loop(_) => text += "<a best loop>",
             Part::Plan(search, _) => text += &plans.get(search).map_or("<a best cycle>".to_string(), |latencies| cycle_text(latencies)),
+            Part::List(planned) => {
+                let list = |latencies: &Vec<u8>| records::list_text(latencies.len(), latencies);
+                text += &plans.get(&planned.search).map_or("<count and list of a best cycle>".to_string(), list);
+            }
+            Part::Ring(planned) => {
+                let ring = |latencies: &Vec<u8>| records::ring_text(sum_of(latencies) as usize, &records::ring_of(latencies));
+                text += &plans.get(&planned.search).map_or("<sum and ring of a best cycle>".to_string(), ring);
+            }
             Part::Drawing(search, tag, drawn) => {
                 let course = plans.get(search).and_then(|latencies| drawn.graph.course(latencies)).unwrap_or_default();
                 text += &drawing(*tag, &drawn.graph, &course.into_iter().collect());

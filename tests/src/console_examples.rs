@@ -1,11 +1,11 @@
 //! The console's answers by hand, for the lines of its description and the paper's tables: the model has to give them before it may judge.
 
 use crate::console_check::{check, Counts, Run};
-use crate::console_folder::Folder;
+use crate::console_folder::{File, Folder};
 use crate::console_model::Console;
 use crate::console_program::Ending;
 use crate::console_script::{Feed, Line, Script};
-use crate::{loops_check, model_check};
+use crate::{loops_check, model_check, records_check};
 
 /// A session as it is to be seen: after `>` what is typed. The paper's Fig. 1 and Fig. 2, its tables "No marks" and "Marks 1 11", loops
 /// over them and over a table whose second function no loop names, and the lines of the console's description.
@@ -390,6 +390,205 @@ refused 7
 constant 3
 ";
 
+/// Records, in a folder with the files below: readers before the first unit, forms, refusals, and plans that are written. The table is
+/// Fig. 1's, whose best cycle is 3 4; with one more mark it is 2 7.
+const RECORDS: &str = "\
+>report missing
+no file
+>ring missing
+no file
+>report inner
+no file
+>ring ./
+no file
+>report paper
+count 2 list 3 4
+>ring paper
+sum 7 ring 0110111
+>report longer
+refused 15
+>ring longer
+refused 15
+>report spare
+refused 15
+>ring spare
+refused 15
+>report empty
+refused 15
+>ring empty
+refused 15
+>report unit
+refused 15
+>ring unit
+refused 15
+>load paper
+refused 1
+>record 1 made
+no unit
+>tick
+no unit
+>report
+line 18: expected report FILE
+>report paper paper
+line 19: expected report FILE
+>ring
+line 20: expected ring FILE
+>ring paper 1
+line 21: expected ring FILE
+>record
+line 22: expected record Q FILE
+>record 1
+line 23: expected record Q FILE
+>record made
+line 24: expected record Q FILE
+>record made 1
+line 25: expected record Q FILE
+>record 1 made 1
+line 26: expected record Q FILE
+>record -1 made
+line 27: expected record Q FILE
+>record 4294967296 made
+line 28: expected record Q FILE
+>record 1x made
+line 29: expected record Q FILE
+>records 1 made
+line 30: expected a command
+>Report paper
+line 31: expected a command
+>report 1
+no file
+>record 4294967295 4294967296
+no unit
+>\treport\tpaper \r
+count 2 list 3 4
+>fresh 2 5 9
+ok
+>mark 1 1 1
+ok
+>mark 1 1 9
+ok
+>mark 1 2 2
+ok
+>mark 1 2 3
+ok
+>mark 1 2 8
+ok
+>mark 1 3 4
+ok
+>mark 1 4 5
+ok
+>mark 1 4 6
+ok
+>mark 1 5 7
+ok
+>mark 1 5 8
+ok
+>record 1 made
+refused 8
+>record 3 made
+refused 2
+>record 0 made
+refused 2
+>record 257 made
+refused 2
+>report made
+no file
+>search 1
+ok
+>record 3 made
+refused 2
+>record 2 made
+refused 8
+>record 01 made
+ok
+>ring made
+sum 7 ring 0110111
+>report made
+count 2 list 3 4
+>load made
+refused 1
+>read
+plan 1 cycle 3 4 sum 7
+>start 1
+ok
+>record 1 again
+ok
+>bank
+177 0 0 0
+>record 1 missing/made
+not written
+>record 1 inner
+not written
+>record 1 made/
+not written
+>record 1 0001
+ok
+>report 0001
+count 2 list 3 4
+>report 1
+no file
+>record 1 unit
+ok
+>load unit
+refused 1
+>read
+plan 1 cycle 3 4 sum 7
+>bank
+177 0 0 0
+>save paper
+ok
+>ring paper
+refused 15
+>mark 1 3 8
+ok
+>record 1 made
+refused 8
+>report made
+count 2 list 3 4
+>search 1
+ok
+>ring made
+sum 7 ring 0110111
+>record 1 made
+ok
+>ring made
+sum 9 ring 010111111
+>report made
+count 2 list 2 7
+>search 2
+ok
+>record 1 again
+refused 8
+>record 2 two
+ok
+>report two
+count 1 list 1
+>ring two
+sum 1 ring 0
+>read
+plan 2 cycle 1 sum 1
+>report again
+count 2 list 3 4
+";
+
+/// The paper's record, the same with a byte more, and with its spare bit 0; a unit file; and a file of no bytes.
+const RECORD_FILES: [(&str, &[u8]); 5] = [
+    ("paper", &[0x02, 0x00, 0x07, 0x00, 0x08, 0x00, 0x0A, 0x00, 0x03, 0x04, 0xF6]),
+    ("longer", &[0x02, 0x00, 0x07, 0x00, 0x08, 0x00, 0x0A, 0x00, 0x03, 0x04, 0xF6, 0xFF]),
+    ("spare", &[0x02, 0x00, 0x07, 0x00, 0x08, 0x00, 0x0A, 0x00, 0x03, 0x04, 0x76]),
+    ("unit", &[1, 1, 2, 0, 6, 0, 2, 0, 0, 0]),
+    ("empty", &[]),
+];
+
+/// The records that are found after the lines above.
+const FOUND_RECORDS: [(&str, &[u8]); 5] = [
+    ("made", &[0x02, 0x00, 0x09, 0x00, 0x08, 0x00, 0x0A, 0x00, 0x02, 0x07, 0xFA, 0xFF]),
+    ("again", &[0x02, 0x00, 0x07, 0x00, 0x08, 0x00, 0x0A, 0x00, 0x03, 0x04, 0xF6]),
+    ("0001", &[0x02, 0x00, 0x07, 0x00, 0x08, 0x00, 0x0A, 0x00, 0x03, 0x04, 0xF6]),
+    ("unit", &[0x02, 0x00, 0x07, 0x00, 0x08, 0x00, 0x0A, 0x00, 0x03, 0x04, 0xF6]),
+    ("two", &[0x01, 0x00, 0x01, 0x00, 0x08, 0x00, 0x09, 0x00, 0x01, 0xFE]),
+];
+
 /// A script of lines, with the answers that the model gives.
 fn script_of(name: &str, lines: &[&str], before: Folder) -> Script {
     let mut console = Console::new(before.clone());
@@ -399,20 +598,40 @@ fn script_of(name: &str, lines: &[&str], before: Folder) -> Script {
     Script { name: name.to_string(), lines, newline: true, feed: Feed::Pieces, before, after: console.shelf, met: Vec::new() }
 }
 
-/// The model's answers are those written by hand above.
-pub fn examples() -> Result<(), String> {
+/// Puts files of these bytes into the folder.
+fn put_files(folder: &mut Folder, files: &[(&str, &[u8])]) {
+    folder.files.extend(files.iter().map(|(name, bytes)| (name.as_bytes().to_vec(), File::Bytes(bytes.to_vec()))));
+}
+
+/// The model's answers are those written by hand, and so are the records that it says are written.
+fn session(name: &str, seen: &str, before: Folder, records: &[(&str, &[u8])]) -> Result<(), String> {
     // `lines` would pass over carriage returns at the end
-    let lines: Vec<&str> = EXAMPLES.split_terminator('\n').collect();
+    let lines: Vec<&str> = seen.split_terminator('\n').collect();
     let typed: Vec<&str> = lines.iter().filter_map(|line| line.strip_prefix('>')).collect();
     let seen: String = lines.iter().filter(|line| !line.starts_with('>')).map(|line| format!("{line}\n")).collect();
-    let script = script_of("the examples", &typed, Folder::default());
-    let run = Run { output: seen.into_bytes(), ending: Ending::Status(0), unanswered: None, folder: script.after.clone() };
+    let script = script_of(name, &typed, before);
+    let written = script.after.files.iter().filter(|(_, file)| matches!(file, File::Record(_))).count();
+    if written != records.len() {
+        return Err(format!("{name}: {written} records are written"));
+    }
+    let mut folder = script.after.clone();
+    put_files(&mut folder, records);
+    let run = Run { output: seen.into_bytes(), ending: Ending::Status(0), unanswered: None, folder };
     check(&script, &run, &mut Counts::default()).map_err(|difference| difference.why)
+}
+
+/// The model's answers are those written by hand above.
+pub fn examples() -> Result<(), String> {
+    session("the examples", EXAMPLES, Folder::default(), &[])?;
+    let mut before = Folder::default();
+    put_files(&mut before, &RECORD_FILES);
+    session("the examples of records", RECORDS, before, &FOUND_RECORDS)
 }
 
 /// The model against the paper's tables and its own definitions, and against the examples.
 pub fn check_model() -> Result<(), String> {
     model_check::run()?;
     loops_check::run()?;
+    records_check::run()?;
     examples()
 }

@@ -1,12 +1,13 @@
 //! Consoles with one fault each, as a program could have it. The scripts have to show every one of them: an output that is wrong shows that
 //! the comparison works, a console that is wrong shows that the lines reach the fault.
 
-use crate::console_folder::{File, Folder, PART};
+use crate::console_folder::{Content, File, Folder, Shelf, PART};
 use crate::console_model::*;
 use crate::console_script::LINES;
 use crate::console_words::one_turn;
 use crate::loops::Loops;
 use crate::model::*;
+use crate::records;
 
 /// What a faulty console is made of.
 pub struct Faulty {
@@ -16,7 +17,7 @@ pub struct Faulty {
 }
 
 /// The answer that a console with this fault gives.
-type Fault = fn(&mut Faulty, &[u8], usize) -> Answer;
+pub type Fault = fn(&mut Faulty, &[u8], usize) -> Answer;
 
 impl Faulty {
     pub fn new(console: Console<Folder>) -> Faulty {
@@ -152,9 +153,63 @@ impl Faulty {
         answer
     }
 
+    /// With another text in place of what is shown of a record that stood before the first line: what comes after `count` or `sum`.
+    fn showing(&mut self, line: &[u8], place: usize, begin: &str, change: impl Fn(&str) -> String) -> Answer {
+        self.instead(line, place, |_, text| {
+            let shown = text.strip_prefix(begin)?.strip_suffix('\n')?;
+            Some(format!("{begin}{}\n", change(shown)))
+        })
+    }
+
+    /// With other bits of a ring.
+    fn showing_ring(&mut self, line: &[u8], place: usize, change: impl Fn(&str) -> String) -> Answer {
+        self.showing(line, place, "sum ", |shown| match shown.split_once(" ring ") {
+            Some((sum, ring)) => format!("{sum} ring {}", change(ring)),
+            None => shown.to_string(),
+        })
+    }
+
+    /// With another text in this special case of the two readers.
+    fn in_case(&mut self, line: &[u8], place: usize, what: &str, text: &str) -> Answer {
+        self.instead(line, place, |answer, _| answer.met.contains(&what).then(|| text.to_string()))
+    }
+
+    /// With other bytes of the file that a reader of records is given.
+    fn with_file(&mut self, line: &[u8], place: usize, readers: &[&[u8]], change: impl Fn(&mut Vec<u8>)) -> Answer {
+        let [reader, name] = words_of(line)[..] else { return self.answer(line, place) };
+        let old = self.console.shelf.files.get(name).cloned();
+        let (true, Some(File::Bytes(mut bytes))) = (readers.contains(&reader), old.clone()) else { return self.answer(line, place) };
+        change(&mut bytes);
+        self.console.shelf.files.insert(name.to_vec(), File::Bytes(bytes));
+        let answer = self.answer(line, place);
+        self.console.shelf.files.extend(old.map(|file| (name.to_vec(), file)));
+        answer
+    }
+
     /// With a loop in place of a refusal in this special case.
     fn unrefused(&mut self, line: &[u8], place: usize, what: &'static str) -> Answer {
         self.instead(line, place, |answer, _| answer.met.contains(&what).then(|| "loop cycle 1 sum 1\n".to_string()))
+    }
+}
+
+/// The two readers of records.
+const READERS: &[&[u8]] = &[b"report", b"ring"];
+
+/// Where the list of a record ends and where its ring does, where it is long enough for both.
+fn ends(bytes: &[u8]) -> Option<(usize, usize)> {
+    if bytes.len() < records::LIST {
+        return None;
+    }
+    let list_end = records::LIST + records::field(bytes, 0);
+    let ring_end = list_end + records::field(bytes, 1).div_ceil(8);
+    (ring_end <= bytes.len()).then_some((list_end, ring_end))
+}
+
+/// The spare bits of a record's last byte.
+fn spare_bits(bytes: &[u8]) -> u8 {
+    match records::field(bytes, 1) % 8 {
+        0 => 0,
+        used => !((1 << used) - 1),
     }
 }
 
@@ -221,6 +276,16 @@ fn empty(console: &mut Console<Folder>) {
 
 fn drop_plan(console: &mut Console<Folder>) {
     console.plan = None;
+}
+
+/// Takes the last mark away. A plan is kept where its function can still have one.
+fn take_mark(console: &mut Console<Folder>) {
+    if let Some(unit) = &mut console.unit {
+        unit.marks.pop_last();
+    }
+    if console.plan.is_some_and(|plan| console.drawn(plan.tag).is_none()) {
+        drop_plan(console);
+    }
 }
 
 fn is(answer: &Answer, name: &str, told: &str) -> bool {
@@ -320,7 +385,7 @@ pub const FAULTS: &[(&str, Fault)] = &[
         })
     }),
     ("a file's name goes on to the line's end", |it, line, place| {
-        let named = first_is(line, &[b"load", b"save"]);
+        let named = first_is(line, &[b"load", b"save", b"report", b"ring"]);
         it.with_words(line, place, |words| {
             if named && words.len() > 2 {
                 let name = words.drain(1..).collect::<Vec<_>>().join(&b'_');
@@ -390,7 +455,9 @@ pub const FAULTS: &[(&str, Fault)] = &[
     ("no unit comes before what was expected", |it, line, place| {
         let no_unit = it.console.unit.is_none();
         it.instead(line, place, |answer, _| match &answer.sort {
-            Sort::Of(name, told) if told == "expected" && no_unit && !["fresh", "load"].contains(name) => Some("no unit\n".to_string()),
+            Sort::Of(name, told) if told == "expected" && no_unit && !["fresh", "load", "report", "ring"].contains(name) => {
+                Some("no unit\n".to_string())
+            }
             _ => None,
         })
     }),
@@ -653,13 +720,7 @@ pub const FAULTS: &[(&str, Fault)] = &[
         }
         answer
     }),
-    ("a loop takes a mark away", |it, line, place| {
-        it.after(line, place, &["loop"], ok, |console| {
-            if let Some(unit) = &mut console.unit {
-                unit.marks.pop_last();
-            }
-        })
-    }),
+    ("a loop takes a mark away", |it, line, place| it.after(line, place, &["loop"], ok, take_mark)),
     ("a loop drops the plan", |it, line, place| it.after(line, place, &["loop"], ok, drop_plan)),
     ("a refused loop drops the plan", |it, line, place| it.after(line, place, &["loop"], refused, drop_plan)),
     ("a loop makes a plan", |it, line, place| {
@@ -691,6 +752,9 @@ pub const FAULTS: &[(&str, Fault)] = &[
     }),
     // files
     ("a save over a longer file leaves its end", |it, line, place| {
+        if !first_is(line, &[b"save"]) {
+            return it.answer(line, place);
+        }
         let before = it.console.shelf.clone();
         let answer = it.answer(line, place);
         for (name, file) in &mut it.console.shelf.files {
@@ -713,6 +777,9 @@ pub const FAULTS: &[(&str, Fault)] = &[
         answer
     }),
     ("a save writes over the old file itself", |it, line, place| {
+        if !first_is(line, &[b"save"]) {
+            return it.answer(line, place);
+        }
         let before = it.console.shelf.clone();
         let answer = it.answer(line, place);
         if is(&answer, "save", "ok") {
@@ -724,6 +791,9 @@ pub const FAULTS: &[(&str, Fault)] = &[
         answer
     }),
     ("a save to a symbolic link replaces the link", |it, line, place| {
+        if !first_is(line, &[b"save"]) {
+            return it.answer(line, place);
+        }
         let mut before = it.console.shelf.clone();
         let answer = it.answer(line, place);
         if is(&answer, "save", "ok") {
@@ -746,7 +816,7 @@ pub const FAULTS: &[(&str, Fault)] = &[
         answer
     }),
     ("a NUL ends a file's name", |it, line, place| {
-        let named = first_is(line, &[b"load", b"save"]);
+        let named = first_is(line, &[b"load", b"save", b"record", b"report", b"ring"]);
         let end = line.iter().position(|byte| *byte == 0).filter(|_| named).unwrap_or(line.len());
         it.answer(&line[..end], place)
     }),
@@ -761,5 +831,565 @@ pub const FAULTS: &[(&str, Fault)] = &[
         let answer = it.answer(line, place);
         it.console.shelf = whole;
         answer
+    }),
+    // records: what is written
+    ("a record is of the plan, whichever function is asked for", |it, line, place| {
+        let (plan, functions) = (it.console.plan, it.console.unit.as_ref().map_or(0, |unit| unit.functions));
+        it.with_words(line, place, |words| {
+            if let (true, [_, tag, _], Some(plan)) = (words[0] == b"record", &mut words[..], plan) {
+                if number(tag).is_some_and(|tag| (1..=functions).contains(&tag)) {
+                    *tag = plan.tag.to_string().into_bytes();
+                }
+            }
+        })
+    }),
+    ("a record is of the plan that an edit dropped", |it, line, place| {
+        it.in_case(line, place, "a record after an edit dropped the plan", "ok\n")
+    }),
+    ("a record searches where there is no plan", |it, line, place| {
+        let answer = it.answer(line, place);
+        if !is(&answer, "record", "refused 8") || it.console.plan.is_some() {
+            return answer;
+        }
+        let search = [b"search ", words_of(line)[1]].concat();
+        it.answer(&search, place);
+        it.answer(line, place)
+    }),
+    ("a record searches where another function has the plan", |it, line, place| {
+        let answer = it.answer(line, place);
+        if !is(&answer, "record", "refused 8") || it.console.plan.is_none() {
+            return answer;
+        }
+        let search = [b"search ", words_of(line)[1]].concat();
+        it.answer(&search, place);
+        it.answer(line, place)
+    }),
+    ("a record wants its plan read before", |it, line, place| {
+        it.in_case(line, place, "a record of a plan that was not read before", "refused 8\n")
+    }),
+    ("record: 8 comes before 2", |it, line, place| it.in_case(line, place, "a record refused by 2 and not by 8", "refused 8\n")),
+    ("record: a plan of a tag's lowest byte is taken", |it, line, place| {
+        it.in_case(line, place, "a record of a tag that would do without its higher bytes", "ok\n")
+    }),
+    ("record: an unknown function is refused by 8 beside a plan", |it, line, place| {
+        it.in_case(line, place, "a record refused by 2 beside a plan", "refused 8\n")
+    }),
+    ("record: a file's name may be no number", |it, line, place| {
+        it.with_words(line, place, |words| {
+            if words[0] == b"record" && words.len() == 3 && number(&words[2]).is_some() {
+                words.push(b"x".to_vec());
+            }
+        })
+    }),
+    ("record: a file's name may be no number above 4294967295", |it, line, place| {
+        it.with_words(line, place, |words| {
+            if words[0] == b"record"
+                && words.len() == 3
+                && digits(&String::from_utf8_lossy(&words[2])).is_some_and(|number| number >= 1 << 32)
+            {
+                words.push(b"x".to_vec());
+            }
+        })
+    }),
+    ("report: a file's name may be no number", |it, line, place| {
+        it.with_words(line, place, |words| {
+            if words[0] == b"report" && words.len() == 2 && number(&words[1]).is_some() {
+                words.push(b"x".to_vec());
+            }
+        })
+    }),
+    ("ring: a file's name may be no number", |it, line, place| {
+        it.with_words(line, place, |words| {
+            if words[0] == b"ring" && words.len() == 2 && number(&words[1]).is_some() {
+                words.push(b"x".to_vec());
+            }
+        })
+    }),
+    ("record: the file may come first", |it, line, place| {
+        it.with_words(line, place, |words| {
+            if words[0] == b"record" && words.len() == 3 && number(&words[1]).is_none() && number(&words[2]).is_some() {
+                words.swap(1, 2);
+            }
+        })
+    }),
+    ("record: without a number it is the plan's", |it, line, place| {
+        let tag = it.console.plan.map_or(1, |plan| plan.tag);
+        it.with_words(line, place, |words| {
+            if words[0] == b"record" && words.len() == 2 {
+                words.insert(1, tag.to_string().into_bytes());
+            }
+        })
+    }),
+    ("record: no unit comes after refused 2", |it, line, place| {
+        it.instead(line, place, |answer, _| is(answer, "record", "no unit").then(|| "refused 2\n".to_string()))
+    }),
+    ("a record leaves its `.part`", |it, line, place| {
+        let answer = it.answer(line, place);
+        if is(&answer, "record", "ok") {
+            let name = words_of(line)[2].to_vec();
+            if let Some(File::Record(planned)) = it.console.shelf.files.get(&name).cloned() {
+                it.console.shelf.files.insert([&name[..], PART.as_bytes()].concat(), File::Record(planned));
+            }
+        }
+        answer
+    }),
+    ("a record writes over the old file itself", |it, line, place| {
+        let part = words_of(line).get(2).map(|name| [name, PART.as_bytes()].concat()).unwrap_or_default();
+        let stood = it.console.shelf.files.get(&part).cloned();
+        let answer = it.answer(line, place);
+        if is(&answer, "record", "ok") {
+            it.console.shelf.files.extend(stood.map(|file| (part, file)));
+        }
+        answer
+    }),
+    ("a record to a symbolic link replaces the link", |it, line, place| {
+        if !first_is(line, &[b"record"]) {
+            return it.answer(line, place);
+        }
+        let mut before = it.console.shelf.clone();
+        let answer = it.answer(line, place);
+        if is(&answer, "record", "ok") {
+            let name = words_of(line)[2];
+            if let (Some(File::Link(_)), Some(Content::Record(planned))) = (before.files.get(name), it.console.shelf.load(name)) {
+                before.files.insert(name.to_vec(), File::Record(planned));
+                it.console.shelf = before;
+            }
+        }
+        answer
+    }),
+    ("a record to a name without room for `.part` is written", |it, line, place| {
+        let mut answer = it.answer(line, place);
+        if answer.met.contains(&"a record to a name without room for `.part`") {
+            answer.parts = vec![Part::Text("ok\n".to_string())];
+        }
+        answer
+    }),
+    ("a record that is refused by 8 empties its file", |it, line, place| {
+        let answer = it.answer(line, place);
+        if is(&answer, "record", "refused 8") {
+            it.console.shelf.save(words_of(line)[2], &Content::Bytes(Vec::new()));
+        }
+        answer
+    }),
+    ("a record that is refused by 2 takes its file away", |it, line, place| {
+        let answer = it.answer(line, place);
+        if is(&answer, "record", "refused 2") {
+            it.console.shelf.files.remove(words_of(line)[2]);
+        }
+        answer
+    }),
+    ("a record is not written over another one", |it, line, place| {
+        let old = words_of(line).get(2).and_then(|name| it.console.shelf.files.get(*name)).cloned();
+        let answer = it.answer(line, place);
+        if let (true, Some(File::Record(_))) = (is(&answer, "record", "ok"), &old) {
+            it.console.shelf.files.extend(old.map(|file| (words_of(line)[2].to_vec(), file)));
+        }
+        answer
+    }),
+    ("a record is not written over a unit file", |it, line, place| it.in_case(line, place, "a record over a unit file", "not written\n")),
+    ("a save writes a record where there is a plan", |it, line, place| {
+        let answer = it.answer(line, place);
+        if let (true, Some(plan)) = (is(&answer, "save", "ok"), it.console.plan) {
+            let line = [format!("record {} ", plan.tag).as_bytes(), words_of(line)[1]].concat();
+            it.answer(&line, place);
+        }
+        answer
+    }),
+    ("a load takes a record", |it, line, place| it.in_case(line, place, "a load of a record", "ok\n")),
+    ("a load refuses a record by 11", |it, line, place| it.in_case(line, place, "a load of a record", "refused 11\n")),
+    ("a load refuses a record that was written by 12", |it, line, place| {
+        it.in_case(line, place, "a load of a record that was written", "refused 12\n")
+    }),
+    ("a record drops the plan", |it, line, place| it.after(line, place, &["record"], ok, drop_plan)),
+    ("a refused record drops the plan", |it, line, place| it.after(line, place, &["record"], refused, drop_plan)),
+    ("a record that is not written drops the plan", |it, line, place| {
+        it.after(line, place, &["record"], |told| told == "not written", drop_plan)
+    }),
+    ("a record empties the bank", |it, line, place| it.after(line, place, &["record"], ok, empty)),
+    ("a refused record empties the bank", |it, line, place| it.after(line, place, &["record"], refused, empty)),
+    ("a record that is not written empties the bank", |it, line, place| {
+        it.after(line, place, &["record"], |told| told == "not written", empty)
+    }),
+    ("a record takes a time unit", |it, line, place| it.after(line, place, &["record"], ok, |console| console.bank.tick())),
+    ("a record takes a mark away", |it, line, place| it.after(line, place, &["record"], ok, take_mark)),
+    ("a report drops the plan", |it, line, place| it.after(line, place, &["report"], ok, drop_plan)),
+    ("a ring drops the plan", |it, line, place| it.after(line, place, &["ring"], ok, drop_plan)),
+    ("a file that is no record drops the plan", |it, line, place| it.after(line, place, &["report", "ring"], refused, drop_plan)),
+    ("a report empties the bank", |it, line, place| it.after(line, place, &["report"], ok, empty)),
+    ("a ring empties the bank", |it, line, place| it.after(line, place, &["ring"], ok, empty)),
+    ("a file that is no record empties the bank", |it, line, place| it.after(line, place, &["report", "ring"], refused, empty)),
+    ("a report of no file drops the plan", |it, line, place| {
+        it.after(line, place, &["report", "ring"], |told| told == "no file", drop_plan)
+    }),
+    ("a report takes its file away", |it, line, place| {
+        let answer = it.answer(line, place);
+        if is(&answer, "report", "ok") {
+            it.console.shelf.files.remove(words_of(line)[1]);
+        }
+        answer
+    }),
+];
+
+/// The same for what stands in the folder of the script about records.
+pub const RECORD_FAULTS: &[(&str, Fault)] = &[
+    // what is shown
+    ("ring: the bits are shown in reverse", |it, line, place| it.showing_ring(line, place, |ring| ring.chars().rev().collect())),
+    ("ring: the bits of each byte are shown in reverse", |it, line, place| {
+        it.showing_ring(line, place, |ring| ring.as_bytes().chunks(8).flat_map(|byte| byte.iter().rev()).map(|bit| *bit as char).collect())
+    }),
+    ("ring: one bit too many", |it, line, place| it.showing_ring(line, place, |ring| format!("{ring}1"))),
+    ("ring: one bit too few", |it, line, place| it.showing_ring(line, place, |ring| ring[..ring.len() - 1].to_string())),
+    ("ring: the spare bits are shown", |it, line, place| {
+        it.showing_ring(line, place, |ring| format!("{ring}{}", "1".repeat(ring.len().div_ceil(8) * 8 - ring.len())))
+    }),
+    ("ring: the last byte is left out where it is not full", |it, line, place| {
+        it.showing_ring(line, place, |ring| ring[..ring.len() - ring.len() % 8].to_string())
+    }),
+    ("ring: a 1 where a task starts", |it, line, place| {
+        it.showing_ring(line, place, |ring| ring.chars().map(|bit| if bit == '0' { '1' } else { '0' }).collect())
+    }),
+    ("ring: the starts are shown one place later", |it, line, place| {
+        it.showing_ring(line, place, |ring| format!("{}{}", &ring[ring.len() - 1..], &ring[..ring.len() - 1]))
+    }),
+    ("ring: 4,096 bits at most are shown", |it, line, place| {
+        it.showing_ring(line, place, |ring| ring[..ring.len().min(4_096)].to_string())
+    }),
+    ("ring: 8,191 bits at most are shown", |it, line, place| {
+        it.showing_ring(line, place, |ring| ring[..ring.len().min(8_191)].to_string())
+    }),
+    ("ring: the sum is shown modulo 256", |it, line, place| {
+        it.showing(line, place, "sum ", |shown| match shown.split_once(' ') {
+            Some((sum, rest)) => format!("{} {rest}", sum.parse::<usize>().expect("a sum") % 256),
+            None => shown.to_string(),
+        })
+    }),
+    ("ring: K is shown in place of S", |it, line, place| {
+        it.showing(line, place, "sum ", |shown| match shown.split_once(" ring ") {
+            Some((_, ring)) => format!("{} ring {ring}", ring.matches('0').count()),
+            None => shown.to_string(),
+        })
+    }),
+    ("report: the list is off by one", |it, line, place| {
+        it.showing(line, place, "count ", |shown| match shown.split_once(" list ") {
+            Some((count, list)) => {
+                let words = list.split(' ').map(|word| (word.parse::<u32>().expect("a latency") - 1).to_string());
+                format!("{count} list {}", words.collect::<Vec<_>>().join(" "))
+            }
+            None => shown.to_string(),
+        })
+    }),
+    ("report: the list begins at its second latency", |it, line, place| {
+        it.showing(line, place, "count ", |shown| match shown.split_once(" list ") {
+            Some((count, list)) => {
+                let mut words: Vec<&str> = list.split(' ').collect();
+                words.rotate_left(1);
+                format!("{count} list {}", words.join(" "))
+            }
+            None => shown.to_string(),
+        })
+    }),
+    ("report: the last latency is left out", |it, line, place| {
+        it.showing(line, place, "count ", |shown| shown.rsplit_once(' ').map_or(String::new(), |(begin, _)| begin.to_string()))
+    }),
+    ("report: 255 latencies at most are shown", |it, line, place| {
+        it.showing(line, place, "count ", |shown| shown.split(' ').take(2 + 255).collect::<Vec<_>>().join(" "))
+    }),
+    ("report: K is shown modulo 256", |it, line, place| it.showing(line, place, "count ", |shown| shown.replacen("256 list", "0 list", 1))),
+    ("report: the sum is shown in place of K", |it, line, place| {
+        it.showing(line, place, "count ", |shown| match shown.split_once(" list ") {
+            Some((_, list)) => format!("{} list {list}", list.split(' ').map(|word| word.parse::<u32>().expect("a latency")).sum::<u32>()),
+            None => shown.to_string(),
+        })
+    }),
+    ("report: a list of one latency has no number", |it, line, place| {
+        it.showing(line, place, "count ", |shown| shown.replacen("1 list ", "list ", shown.starts_with("1 ") as usize))
+    }),
+    // what is taken
+    ("the fields have their higher byte first", |it, line, place| {
+        it.with_file(line, place, READERS, |bytes| {
+            if bytes.len() >= 8 {
+                bytes[..8].chunks_mut(2).for_each(|pair| pair.swap(0, 1));
+            }
+        })
+    }),
+    ("K has one byte", |it, line, place| {
+        it.with_file(line, place, READERS, |bytes| {
+            if bytes.len() >= 8 && bytes[0] > 0 {
+                bytes[1] = 0;
+            }
+        })
+    }),
+    ("the higher bytes of the offsets are not looked at", |it, line, place| {
+        it.with_file(line, place, READERS, |bytes| {
+            if bytes.len() >= 8 {
+                bytes[5] = 0;
+                bytes[7] = ((records::LIST + records::field(bytes, 0)) / 256) as u8;
+            }
+        })
+    }),
+    ("a byte after the end is passed over", |it, line, place| {
+        it.with_file(line, place, READERS, |bytes| {
+            if let Some((_, end)) = ends(bytes) {
+                bytes.truncate(if bytes.len() == end + 1 { end } else { bytes.len() });
+            }
+        })
+    }),
+    ("bytes after the end are passed over", |it, line, place| {
+        it.with_file(line, place, READERS, |bytes| {
+            if let Some((_, end)) = ends(bytes) {
+                bytes.truncate(end);
+            }
+        })
+    }),
+    ("bytes after the end are passed over by the loader alone", |it, line, place| {
+        it.with_file(line, place, &[b"ring"], |bytes| {
+            if let Some((_, end)) = ends(bytes) {
+                bytes.truncate(end);
+            }
+        })
+    }),
+    ("a newline at the end is passed over", |it, line, place| {
+        it.with_file(line, place, READERS, |bytes| {
+            if bytes.ends_with(b"\n") {
+                bytes.pop();
+            }
+        })
+    }),
+    ("bytes after the 1,288th are not read", |it, line, place| it.with_file(line, place, READERS, |bytes| bytes.truncate(1_288))),
+    ("1,287 bytes are read", |it, line, place| it.with_file(line, place, READERS, |bytes| bytes.truncate(1_287))),
+    ("1,024 bytes are read", |it, line, place| it.with_file(line, place, READERS, |bytes| bytes.truncate(1_024))),
+    ("300 bytes are read", |it, line, place| it.with_file(line, place, READERS, |bytes| bytes.truncate(300))),
+    ("the length of a record is taken modulo 256", |it, line, place| {
+        it.with_file(line, place, READERS, |bytes| {
+            if let Some((_, end)) = ends(bytes) {
+                bytes.truncate(if bytes.len() % 256 == end % 256 { end } else { bytes.len() });
+            }
+        })
+    }),
+    ("the length of a record is taken modulo 65,536", |it, line, place| {
+        it.with_file(line, place, READERS, |bytes| {
+            if bytes.len() >= 65_536 {
+                bytes.truncate(bytes.len() - 65_536);
+            }
+        })
+    }),
+    ("a byte that is cut off is taken for a spare one", |it, line, place| {
+        it.with_file(line, place, READERS, |bytes| {
+            bytes.push(255);
+            if ends(bytes).is_none_or(|(_, end)| end != bytes.len()) {
+                bytes.pop();
+            }
+        })
+    }),
+    ("the spare bits are not looked at", |it, line, place| {
+        it.with_file(line, place, READERS, |bytes| {
+            if let Some((_, end)) = ends(bytes).filter(|(list, end)| list < end) {
+                bytes[end - 1] |= spare_bits(bytes);
+            }
+        })
+    }),
+    ("the spare bits are 0", |it, line, place| {
+        it.with_file(line, place, READERS, |bytes| {
+            if let Some((_, end)) = ends(bytes).filter(|(list, end)| list < end) {
+                bytes[end - 1] ^= spare_bits(bytes);
+            }
+        })
+    }),
+    ("the first spare bit is 0", |it, line, place| {
+        it.with_file(line, place, READERS, |bytes| {
+            if let Some((_, end)) = ends(bytes).filter(|(list, end)| list < end) {
+                let spare = spare_bits(bytes);
+                bytes[end - 1] ^= spare & spare.wrapping_neg();
+            }
+        })
+    }),
+    ("the first spare bit alone is looked at", |it, line, place| {
+        it.with_file(line, place, READERS, |bytes| {
+            if let Some((_, end)) = ends(bytes).filter(|(list, end)| list < end) {
+                let spare = spare_bits(bytes);
+                bytes[end - 1] |= spare & !(spare & spare.wrapping_neg());
+            }
+        })
+    }),
+    ("the bits of the ring begin with the highest of each byte", |it, line, place| {
+        it.with_file(line, place, READERS, |bytes| {
+            if let Some((list, end)) = ends(bytes) {
+                bytes[list..end].iter_mut().for_each(|byte| *byte = byte.reverse_bits());
+            }
+        })
+    }),
+    ("a task starts where the ring has a 1", |it, line, place| {
+        it.with_file(line, place, READERS, |bytes| {
+            if let Some((list, end)) = ends(bytes) {
+                bytes[list..end].iter_mut().for_each(|byte| *byte = !*byte);
+            }
+        })
+    }),
+    ("the first bit of the ring is not looked at", |it, line, place| {
+        it.with_file(line, place, READERS, |bytes| {
+            if let Some((list, _)) = ends(bytes).filter(|(list, end)| list < end) {
+                bytes[list] &= 254;
+            }
+        })
+    }),
+    ("the report reader does not look at the ring", |it, line, place| {
+        it.with_file(line, place, &[b"report"], |bytes| {
+            if let Some((list, end)) = ends(bytes) {
+                let right = records::laid_out(&bytes[records::LIST..list])[list..].to_vec();
+                if right.len() == end - list {
+                    bytes[list..end].copy_from_slice(&right);
+                }
+            }
+        })
+    }),
+    ("the loader does not look at the list", |it, line, place| {
+        it.with_file(line, place, &[b"ring"], |bytes| {
+            if let Some((list, end)) = ends(bytes) {
+                let bits: Vec<bool> = (0..records::field(bytes, 1)).map(|bit| bytes[list + bit / 8] >> (bit % 8) & 1 == 1).collect();
+                match records::latencies_of(&bits) {
+                    Some(latencies) if latencies.len() == list - records::LIST && list < end => {
+                        bytes[records::LIST..list].copy_from_slice(&latencies);
+                    }
+                    _ => {}
+                }
+            }
+        })
+    }),
+    ("0s of the ring may be missing", |it, line, place| {
+        it.with_file(line, place, READERS, |bytes| {
+            if let Some((list, end)) = ends(bytes) {
+                let right = records::laid_out(&bytes[records::LIST..list])[list..].to_vec();
+                if right.len() == end - list {
+                    bytes[list..end].iter_mut().zip(right).for_each(|(byte, right)| *byte &= right);
+                }
+            }
+        })
+    }),
+    ("0s of the ring may be too many", |it, line, place| {
+        it.with_file(line, place, READERS, |bytes| {
+            if let Some((list, end)) = ends(bytes) {
+                let right = records::laid_out(&bytes[records::LIST..list])[list..].to_vec();
+                if right.len() == end - list {
+                    bytes[list..end].iter_mut().zip(right).for_each(|(byte, right)| *byte |= right);
+                }
+            }
+        })
+    }),
+    ("an empty file is no file", |it, line, place| {
+        it.instead(line, place, |answer, _| {
+            let is_empty = answer.met.iter().any(|what| ["report: an empty file", "ring: an empty file"].contains(what));
+            is_empty.then(|| "no file\n".to_string())
+        })
+    }),
+    ("no file is refused by 15", |it, line, place| {
+        it.instead(line, place, |answer, _| {
+            (is(answer, "report", "no file") || is(answer, "ring", "no file")).then(|| "refused 15\n".to_string())
+        })
+    }),
+    ("a file that is no record is refused by 11", |it, line, place| {
+        it.instead(line, place, |answer, _| is(answer, "report", "refused 15").then(|| "refused 11\n".to_string()))
+    }),
+    ("report: there has to be a unit", |it, line, place| it.in_case(line, place, "report: a file before the first unit", "no unit\n")),
+    ("ring: there has to be a unit", |it, line, place| it.in_case(line, place, "ring: a file before the first unit", "no unit\n")),
+    ("report: there has to be a unit before a file is looked for", |it, line, place| {
+        it.in_case(line, place, "report: no file before the first unit", "no unit\n")
+    }),
+    ("ring: there has to be a unit before a file is looked for", |it, line, place| {
+        it.in_case(line, place, "ring: no file before the first unit", "no unit\n")
+    }),
+    // each single case by each reader
+    ("report: no 15 for fewer than 8 bytes", |it, line, place| {
+        it.in_case(line, place, "report: 15 for fewer than 8 bytes", "count 1 list 1\n")
+    }),
+    ("ring: no 15 for fewer than 8 bytes", |it, line, place| it.in_case(line, place, "ring: 15 for fewer than 8 bytes", "sum 1 ring 0\n")),
+    ("report: no 15 for K of 0", |it, line, place| it.in_case(line, place, "report: 15 for K of 0", "count 1 list 1\n")),
+    ("ring: no 15 for K of 0", |it, line, place| it.in_case(line, place, "ring: 15 for K of 0", "sum 1 ring 0\n")),
+    ("report: no 15 for K of 257", |it, line, place| it.in_case(line, place, "report: 15 for K of 257", "count 1 list 1\n")),
+    ("ring: no 15 for K of 257", |it, line, place| it.in_case(line, place, "ring: 15 for K of 257", "sum 1 ring 0\n")),
+    ("report: no 15 for the offset of the list", |it, line, place| {
+        it.in_case(line, place, "report: 15 for the offset of the list", "count 1 list 1\n")
+    }),
+    ("ring: no 15 for the offset of the list", |it, line, place| {
+        it.in_case(line, place, "ring: 15 for the offset of the list", "sum 1 ring 0\n")
+    }),
+    ("report: no 15 for the offset of the ring", |it, line, place| {
+        it.in_case(line, place, "report: 15 for the offset of the ring", "count 1 list 1\n")
+    }),
+    ("ring: no 15 for the offset of the ring", |it, line, place| {
+        it.in_case(line, place, "ring: 15 for the offset of the ring", "sum 1 ring 0\n")
+    }),
+    ("report: no 15 for one byte cut off", |it, line, place| {
+        it.in_case(line, place, "report: 15 for one byte cut off", "count 1 list 1\n")
+    }),
+    ("ring: no 15 for one byte cut off", |it, line, place| it.in_case(line, place, "ring: 15 for one byte cut off", "sum 1 ring 0\n")),
+    ("report: no 15 for more bytes cut off", |it, line, place| {
+        it.in_case(line, place, "report: 15 for more bytes cut off", "count 1 list 1\n")
+    }),
+    ("ring: no 15 for more bytes cut off", |it, line, place| it.in_case(line, place, "ring: 15 for more bytes cut off", "sum 1 ring 0\n")),
+    ("report: no 15 for a byte after the end", |it, line, place| {
+        it.in_case(line, place, "report: 15 for a byte after the end", "count 1 list 1\n")
+    }),
+    ("ring: no 15 for a byte after the end", |it, line, place| {
+        it.in_case(line, place, "ring: 15 for a byte after the end", "sum 1 ring 0\n")
+    }),
+    ("report: no 15 for 256 bytes after the end", |it, line, place| {
+        it.in_case(line, place, "report: 15 for 256 bytes after the end", "count 1 list 1\n")
+    }),
+    ("ring: no 15 for 256 bytes after the end", |it, line, place| {
+        it.in_case(line, place, "ring: 15 for 256 bytes after the end", "sum 1 ring 0\n")
+    }),
+    ("report: no 15 for 65,536 bytes after the end", |it, line, place| {
+        it.in_case(line, place, "report: 15 for 65,536 bytes after the end", "count 1 list 1\n")
+    }),
+    ("ring: no 15 for 65,536 bytes after the end", |it, line, place| {
+        it.in_case(line, place, "ring: 15 for 65,536 bytes after the end", "sum 1 ring 0\n")
+    }),
+    ("report: no 15 for a latency 0", |it, line, place| it.in_case(line, place, "report: 15 for a latency 0", "count 1 list 1\n")),
+    ("ring: no 15 for a latency 0", |it, line, place| it.in_case(line, place, "ring: 15 for a latency 0", "sum 1 ring 0\n")),
+    ("report: no 15 for a latency 33", |it, line, place| it.in_case(line, place, "report: 15 for a latency 33", "count 1 list 1\n")),
+    ("ring: no 15 for a latency 33", |it, line, place| it.in_case(line, place, "ring: 15 for a latency 33", "sum 1 ring 0\n")),
+    ("report: no 15 for the sum", |it, line, place| it.in_case(line, place, "report: 15 for the sum", "count 1 list 1\n")),
+    ("ring: no 15 for the sum", |it, line, place| it.in_case(line, place, "ring: 15 for the sum", "sum 1 ring 0\n")),
+    ("report: no 15 for the ring", |it, line, place| it.in_case(line, place, "report: 15 for the ring", "count 1 list 1\n")),
+    ("ring: no 15 for the ring", |it, line, place| it.in_case(line, place, "ring: 15 for the ring", "sum 1 ring 0\n")),
+    ("report: no 15 for a spare bit", |it, line, place| it.in_case(line, place, "report: 15 for a spare bit", "count 1 list 1\n")),
+    ("ring: no 15 for a spare bit", |it, line, place| it.in_case(line, place, "ring: 15 for a spare bit", "sum 1 ring 0\n")),
+    ("report: an empty file is taken", |it, line, place| it.in_case(line, place, "report: an empty file", "count 1 list 1\n")),
+    ("ring: an empty file is taken", |it, line, place| it.in_case(line, place, "ring: an empty file", "sum 1 ring 0\n")),
+    ("report: a file longer than 2^32 bytes is taken", |it, line, place| {
+        it.in_case(line, place, "report: a file longer than 2^32 bytes", "count 1 list 1\n")
+    }),
+    ("ring: a file longer than 2^32 bytes is taken", |it, line, place| {
+        it.in_case(line, place, "ring: a file longer than 2^32 bytes", "sum 1 ring 0\n")
+    }),
+    ("report: a file of 1,289 bytes is taken", |it, line, place| {
+        it.in_case(line, place, "report: a file of 1,289 bytes", "count 1 list 1\n")
+    }),
+    ("ring: a file of 1,289 bytes is taken", |it, line, place| it.in_case(line, place, "ring: a file of 1,289 bytes", "sum 1 ring 0\n")),
+    ("report: a file of 4,096 bytes is taken", |it, line, place| {
+        it.in_case(line, place, "report: a file of 4,096 bytes", "count 1 list 1\n")
+    }),
+    ("ring: a file of 4,096 bytes is taken", |it, line, place| it.in_case(line, place, "ring: a file of 4,096 bytes", "sum 1 ring 0\n")),
+    ("report: a file of 70,000 bytes is taken", |it, line, place| {
+        it.in_case(line, place, "report: a file of 70,000 bytes", "count 1 list 1\n")
+    }),
+    ("ring: a file of 70,000 bytes is taken", |it, line, place| it.in_case(line, place, "ring: a file of 70,000 bytes", "sum 1 ring 0\n")),
+    ("report: a unit file is taken", |it, line, place| it.in_case(line, place, "report: a unit file", "count 1 list 1\n")),
+    ("ring: a unit file is taken", |it, line, place| it.in_case(line, place, "ring: a unit file", "sum 1 ring 0\n")),
+    ("report: K of 1 is refused", |it, line, place| it.in_case(line, place, "report: K of 1", "refused 15\n")),
+    ("ring: K of 1 is refused", |it, line, place| it.in_case(line, place, "ring: K of 1", "refused 15\n")),
+    ("report: K of 256 is refused", |it, line, place| it.in_case(line, place, "report: K of 256", "refused 15\n")),
+    ("ring: K of 256 is refused", |it, line, place| it.in_case(line, place, "ring: K of 256", "refused 15\n")),
+    ("report: S of 8,192 is refused", |it, line, place| it.in_case(line, place, "report: S of 8,192", "refused 15\n")),
+    ("ring: S of 8,192 is refused", |it, line, place| it.in_case(line, place, "ring: S of 8,192", "refused 15\n")),
+    ("report: S a multiple of 8 is refused", |it, line, place| it.in_case(line, place, "report: S a multiple of 8", "refused 15\n")),
+    ("ring: S a multiple of 8 is refused", |it, line, place| it.in_case(line, place, "ring: S a multiple of 8", "refused 15\n")),
+    ("report: S no multiple of 8 is refused", |it, line, place| it.in_case(line, place, "report: S no multiple of 8", "refused 15\n")),
+    ("ring: S no multiple of 8 is refused", |it, line, place| it.in_case(line, place, "ring: S no multiple of 8", "refused 15\n")),
+    ("report: a record of 1,288 bytes is refused", |it, line, place| {
+        it.in_case(line, place, "report: a record of 1,288 bytes", "refused 15\n")
+    }),
+    ("ring: a record of 1,288 bytes is refused", |it, line, place| {
+        it.in_case(line, place, "ring: a record of 1,288 bytes", "refused 15\n")
     }),
 ];

@@ -1,6 +1,7 @@
-//! The folder that the program is started in: what its files hold before, after each `save`, and at the end.
+//! The folder that the program is started in: what its files hold before, after each `save` and `record`, and at the end.
 
-use crate::model::*;
+use crate::console_model::Planned;
+use crate::model::decode;
 use std::collections::BTreeMap;
 use std::ffi::OsStr;
 use std::fs;
@@ -18,12 +19,17 @@ pub const FULL: &str = "/dev/full";
 /// The longest name of a file, and the longest path to one, on the systems that the test is for.
 const LONGEST_NAME: usize = 255;
 const LONGEST_PATH: usize = 4_095;
-/// "A save writes the new file beside the old one, under the file's name with `.part` after it, and then renames it."
+/// "A save writes the new file beside the old one, under the file's name with `.part` after it, and then renames it." A record is written in
+/// the same way.
 pub const PART: &str = ".part";
+/// No file in order, a unit or a record, has so many bytes, and one that is longer is refused by the same number, whatever comes after them.
+pub const HEAD: usize = 1_400;
 
 #[derive(Clone, PartialEq, Eq, Debug)]
 pub enum File {
     Bytes(Vec<u8>),
+    /// The record of a plan, whose cycle is seen when the program is run.
+    Record(Planned),
     /// These bytes first, zeros after them up to this length. Never written by the program, and too long to be held here.
     Long(Vec<u8>, u64),
     /// A symbolic link to this path, which is taken from the folder that the link is in.
@@ -39,16 +45,31 @@ pub fn has_devices() -> bool {
     [NULL, FULL].iter().all(|device| fs::symlink_metadata(device).is_ok_and(|about| about.file_type().is_char_device()))
 }
 
-/// Where units are loaded from and saved to.
+/// What a command writes to a file, or finds in one.
+#[derive(Clone)]
+pub enum Content {
+    /// Of a long file the first bytes, `HEAD` of them.
+    Bytes(Vec<u8>),
+    Record(Planned),
+}
+
+/// Where units and records are read from and written to.
 pub trait Shelf {
     /// None where there is no file of this name.
-    fn load(&self, name: &[u8]) -> Option<Reply<Unit>>;
+    fn load(&self, name: &[u8]) -> Option<Content>;
     /// Whether it was written.
-    fn save(&mut self, name: &[u8], unit: &Unit) -> bool;
-    /// The length of the file of this name, where there is one.
+    fn save(&mut self, name: &[u8], content: &Content) -> bool;
+    /// The length of the file of this name, where there is one and its length is known.
     fn length(&self, name: &[u8]) -> Option<u64>;
-    /// The special cases that a save to this name is one of.
-    fn special(&self, name: &[u8]) -> Vec<&'static str>;
+    /// The special cases that a file written under this name is one of, for a save and for a record.
+    fn special(&self, name: &[u8]) -> Vec<[&'static str; 2]>;
+}
+
+/// A special case of a file that is written: for a save, and for a record.
+macro_rules! written {
+    ($what:literal) => {
+        [concat!("a save ", $what), concat!("a record ", $what)]
+    };
 }
 
 /// What a file's name leads to.
@@ -133,28 +154,28 @@ fn part_of(name: &[u8]) -> Vec<u8> {
 }
 
 impl Shelf for Folder {
-    fn load(&self, name: &[u8]) -> Option<Reply<Unit>> {
+    fn load(&self, name: &[u8]) -> Option<Content> {
         let key = match self.end_of(name) {
             Place::File(key) => key,
-            Place::Null => return Some(decode(&[])),
+            Place::Null => return Some(Content::Bytes(Vec::new())),
             // zeros without end
-            Place::Full => return Some(decode(&[0; 300])),
+            Place::Full => return Some(Content::Bytes(vec![0; HEAD])),
             // a folder can be opened, but it is no file and has no bytes to refuse
             Place::Folder | Place::None => return None,
         };
         match self.files.get(&key)? {
-            File::Bytes(bytes) => Some(decode(bytes)),
-            // no file in order has 300 bytes, and a longer one is refused by the same number
+            File::Bytes(bytes) => Some(Content::Bytes(bytes[..bytes.len().min(HEAD)].to_vec())),
+            File::Record(planned) => Some(Content::Record(planned.clone())),
             File::Long(head, _) => {
                 let mut bytes = head.clone();
-                bytes.resize(300, 0);
-                Some(decode(&bytes))
+                bytes.resize(HEAD, 0);
+                Some(Content::Bytes(bytes))
             }
             File::Link(_) | File::Folder | File::Pipe => None,
         }
     }
 
-    fn save(&mut self, name: &[u8], unit: &Unit) -> bool {
+    fn save(&mut self, name: &[u8], content: &Content) -> bool {
         // "A name that is a symbolic link, or that names something other than a regular file, is written in place"
         let in_place = self.is_link(name);
         match self.end_of(name) {
@@ -165,7 +186,11 @@ impl Shelf for Folder {
                 if !in_place {
                     self.files.remove(&part_of(&key));
                 }
-                self.files.insert(key, File::Bytes(encode(unit)));
+                let file = match content.clone() {
+                    Content::Bytes(bytes) => File::Bytes(bytes),
+                    Content::Record(planned) => File::Record(planned),
+                };
+                self.files.insert(key, file);
                 true
             }
             Place::Null => true,
@@ -178,43 +203,22 @@ impl Shelf for Folder {
         match self.files.get(&key)? {
             File::Bytes(bytes) => Some(bytes.len() as u64),
             File::Long(_, length) => Some(*length),
-            File::Link(_) | File::Folder | File::Pipe => None,
+            File::Record(_) | File::Link(_) | File::Folder | File::Pipe => None,
         }
     }
 
-    fn special(&self, name: &[u8]) -> Vec<&'static str> {
-        let (is_link, no_part) = (self.is_link(name), self.has_no_part(name));
+    fn special(&self, name: &[u8]) -> Vec<[&'static str; 2]> {
+        let (is_link, no_part, old) = (self.is_link(name), self.has_no_part(name), self.load(name));
         let part_stands = !is_link && matches!(self.place_of(name), Place::File(key) if self.files.contains_key(&part_of(&key)));
         let cases = [
-            (is_link && matches!(self.end_of(name), Place::File(_)), "a save to a link to a file"),
-            (is_link && !matches!(self.end_of(name), Place::File(_)), "a save to a link to something else"),
-            (no_part && !is_link, "a save to a name without room for `.part`"),
-            (part_stands, "a save where a file has its name with `.part`"),
+            (is_link && matches!(self.end_of(name), Place::File(_)), written!("to a link to a file")),
+            (is_link && !matches!(self.end_of(name), Place::File(_)), written!("to a link to something else")),
+            (no_part && !is_link, written!("to a name without room for `.part`")),
+            (part_stands, written!("where a file has its name with `.part`")),
+            (matches!(old, Some(Content::Record(_))), written!("over a record that was written")),
+            (matches!(&old, Some(Content::Bytes(bytes)) if decode(bytes).is_ok()), written!("over a unit file")),
         ];
         cases.into_iter().filter(|(holds, _)| *holds).map(|(_, what)| what).collect()
-    }
-}
-
-/// The files of the system, in the folder that the process is in.
-pub struct Disk;
-
-impl Shelf for Disk {
-    fn load(&self, name: &[u8]) -> Option<Reply<Unit>> {
-        let mut head = Vec::new();
-        fs::File::open(OsStr::from_bytes(name)).ok()?.take(300).read_to_end(&mut head).ok()?;
-        Some(decode(&head))
-    }
-
-    fn save(&mut self, name: &[u8], unit: &Unit) -> bool {
-        store(OsStr::from_bytes(name), &encode(unit))
-    }
-
-    fn length(&self, name: &[u8]) -> Option<u64> {
-        fs::metadata(OsStr::from_bytes(name)).ok().map(|about| about.len())
-    }
-
-    fn special(&self, _: &[u8]) -> Vec<&'static str> {
-        Vec::new()
     }
 }
 
@@ -242,6 +246,7 @@ impl Folder {
             let path = root.join(OsStr::from_bytes(name));
             match file {
                 File::Bytes(bytes) => fs::write(path, bytes)?,
+                File::Record(_) => return Err(io::Error::other("no folder begins with a record whose cycle is free")),
                 File::Long(head, length) => {
                     let mut file = fs::File::create(path)?;
                     file.write_all(head)?;

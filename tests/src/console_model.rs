@@ -3,19 +3,21 @@
 //! A line is taken apart by the standard library's `split` and its answer is put together from `model.rs`. Of a plan only the number of
 //! the search that made it is known here: which best cycle it holds is free, and is seen when the program first shows it.
 
-use crate::console_folder::Shelf;
+use crate::console_folder::{Content, Shelf};
 use crate::loops::*;
 use crate::model::*;
+use crate::records::{self, Wrong, LONGEST_LATENCY, LONGEST_RECORD};
 use std::cell::OnceCell;
 use std::collections::{HashMap, HashSet};
+use std::fmt;
 use std::rc::Rc;
 
 /// "over 4,096 bytes: `line N: too long`"
 pub const LONGEST_LINE: usize = 4_096;
 
-/// Each command with what it wants after its name: `FILE` is a file's name, `L L ..` and `Q Q ..` are any number of numbers, none too, and
-/// all else is a number.
-pub const COMMANDS: [(&str, &str); 22] = [
+/// Each command with what it wants after its name: `FILE` is a file's name, which may be any word, `L L ..` and `Q Q ..` are any number of
+/// numbers, none too, and all else is a number.
+pub const COMMANDS: [(&str, &str); 25] = [
     ("fresh", " P S C"),
     ("mark", " Q R C"),
     ("unmark", " Q R C"),
@@ -38,7 +40,17 @@ pub const COMMANDS: [(&str, &str); 22] = [
     ("table", " Q"),
     ("diagram", " Q"),
     ("loop", " Q Q .."),
+    ("record", " Q FILE"),
+    ("report", " FILE"),
+    ("ring", " FILE"),
 ];
+
+/// A special case of the two readers of a record, `report` and `ring`.
+macro_rules! both {
+    ($what:literal) => {
+        [concat!("report: ", $what), concat!("ring: ", $what)]
+    };
+}
 
 // ---------------------------------------------------------------------------------------------------------------------------------
 // What is known of a function
@@ -138,6 +150,35 @@ impl Drawn {
     }
 }
 
+/// The plan that a search made, by the number of the search, and its function.
+#[derive(Clone)]
+pub struct Planned {
+    pub search: usize,
+    pub drawn: Drawn,
+}
+
+impl PartialEq for Planned {
+    fn eq(&self, other: &Planned) -> bool {
+        self.search == other.search
+    }
+}
+
+impl Eq for Planned {}
+
+impl fmt::Debug for Planned {
+    fn fmt(&self, text: &mut fmt::Formatter) -> fmt::Result {
+        write!(text, "the plan of search {}", self.search)
+    }
+}
+
+impl Planned {
+    /// More bytes than its record has. No state occurs twice in a plan's cycle, and no latency is above 32.
+    fn more_than_record(&self) -> usize {
+        let states = self.drawn.graph.diagram.states.len();
+        records::LIST + states + states * LONGEST_LATENCY as usize / 8 + 1
+    }
+}
+
 struct Function {
     spots: Rc<Vec<Spot>>,
     vector: Vec<bool>,
@@ -230,6 +271,10 @@ pub enum Part {
     Drawing(usize, u32, Drawn),
     /// Latencies and sum of any best loop.
     Loop(Rc<Loops>),
+    /// What `report` shows of the plan's record, after `count`.
+    List(Planned),
+    /// What `ring` shows of it, after `sum`.
+    Ring(Planned),
 }
 
 /// What sort of answer a line got: a command's, which begins with its name, or that of a line that is none.
@@ -255,7 +300,7 @@ impl Answer {
     pub fn height(&self) -> usize {
         let height = |part: &Part| match part {
             Part::Text(text) => text.matches('\n').count(),
-            Part::Plan(..) | Part::Best(_) | Part::Loop(_) => 0,
+            Part::Plan(..) | Part::Best(_) | Part::Loop(_) | Part::List(_) | Part::Ring(_) => 0,
             Part::Drawing(_, _, drawn) => drawn.graph.arc_lines().count() + 2,
         };
         self.parts.iter().map(height).sum()
@@ -315,11 +360,9 @@ struct Arguments<'a> {
 }
 
 fn arguments<'a>(wants: &str, words: &[&'a [u8]]) -> Option<Arguments<'a>> {
-    if wants == " FILE" {
-        return match words {
-            [file] => Some(Arguments { numbers: Vec::new(), file }),
-            _ => None,
-        };
+    if let Some(first) = wants.strip_suffix(" FILE") {
+        let (file, others) = words.split_last()?;
+        return arguments(first, others).map(|arguments| Arguments { file, ..arguments });
     }
     let numbers: Vec<u32> = words.iter().map(|word| number(word)).collect::<Option<_>>()?;
     let enough = match wants.strip_suffix(" L L ..").or(wants.strip_suffix(" Q Q ..")) {
@@ -349,8 +392,10 @@ pub struct Console<S: Shelf> {
     before: Before,
     /// The bank as the last accepted edit found it.
     found: Bank,
-    /// The search whose plan was last shown.
-    shown: usize,
+    /// The searches whose plans were shown.
+    shown: HashSet<usize>,
+    /// Whether the last edit dropped a plan and no search was accepted since then.
+    dropped: bool,
 }
 
 #[derive(Clone, Copy, PartialEq, Eq)]
@@ -365,6 +410,13 @@ enum Before {
     RefusedSearch,
     Looped,
     RefusedLoop,
+    Recorded,
+    RefusedRecord,
+    NotWritten,
+    /// A record was shown by `report` or `ring`.
+    Shown,
+    /// A file was refused by them, or there was none.
+    NotShown,
     Bad,
     Other,
 }
@@ -377,7 +429,8 @@ impl<S: Shelf> Console<S> {
     pub fn new(shelf: S) -> Console<S> {
         let book = Book { functions: HashMap::new(), graphs: HashMap::new(), lists: HashMap::new(), yard: Yard::new() };
         let (bank, found, before) = (empty_bank(), empty_bank(), Before::Other);
-        Console { book, unit: None, plan: None, searches: 0, bank, shelf, met: Vec::new(), before, found, shown: 0 }
+        let (met, shown) = (Vec::new(), HashSet::new());
+        Console { book, unit: None, plan: None, searches: 0, bank, shelf, met, before, found, shown, dropped: false }
     }
 
     /// A console as a new process has it, which knows of the same functions and lists.
@@ -433,14 +486,28 @@ impl<S: Shelf> Console<S> {
         let reply = match name {
             "fresh" => Unit::fresh(numbers[0], numbers[1], numbers[2]).map(|unit| self.take_unit(unit)),
             "load" => match self.shelf.load(file) {
-                Some(Err(11)) if self.shelf.length(file).is_some_and(|length| length >= 1 << 32) => {
-                    self.met.push("a file longer than 2^32 bytes");
-                    Err(11)
-                }
                 None => return said("no file".to_string()),
-                Some(read) => read.map(|unit| self.take_unit(unit)),
+                // K stands where a unit file has its functions and segments, one of which is then 0
+                Some(Content::Record(_)) => {
+                    self.met.push("a load of a record that was written");
+                    Err(1)
+                }
+                Some(Content::Bytes(bytes)) => {
+                    let read = decode(&bytes);
+                    let length = self.shelf.length(file);
+                    self.met_if(read == Err(11) && length.is_some_and(|length| length >= 1 << 32), "a file longer than 2^32 bytes");
+                    self.met_if(bytes.len() <= LONGEST_RECORD && records::wrongs(&bytes).is_empty(), "a load of a record");
+                    read.map(|unit| self.take_unit(unit))
+                }
             },
-            // "before the first fresh every call but `load` and `fresh` answers `no unit`"
+            "report" | "ring" => match self.shelf.load(file) {
+                None => {
+                    self.met_view(name, self.unit.is_none(), both!("no file before the first unit"));
+                    return said("no file".to_string());
+                }
+                Some(content) => self.view(name, content, self.shelf.length(file)),
+            },
+            // "before the first fresh every call but `load` and `fresh` answers `no unit`": and but `report` and `ring`
             _ => match self.unit.take() {
                 None => return said("no unit".to_string()),
                 Some(mut unit) => {
@@ -459,6 +526,7 @@ impl<S: Shelf> Console<S> {
         self.met_if(self.plan.is_some(), "a plan dropped by a new unit");
         self.unit = Some(unit);
         self.plan = None;
+        self.dropped = false;
         self.bank = empty_bank();
         said("ok".to_string())
     }
@@ -472,6 +540,7 @@ impl<S: Shelf> Console<S> {
                 if name == "mark" { unit.mark(mark) } else { unit.unmark(mark) }?;
                 self.meet_edit(name, stood);
                 // "An accepted one drops the plan, even where the mark already stood so", and "empties the console's bank"
+                self.dropped |= self.plan.is_some();
                 self.plan = None;
                 self.found = std::mem::replace(&mut self.bank, empty_bank());
                 done()
@@ -491,12 +560,13 @@ impl<S: Shelf> Console<S> {
             ("save", []) => {
                 let shorter = self.shelf.length(file).is_some_and(|length| length > file_length(unit.functions, unit.segments) as u64);
                 let known = self.shelf.length(file).is_some();
-                self.met.extend(self.shelf.special(file));
-                let written = self.shelf.save(file, unit);
+                self.met.extend(self.shelf.special(file).into_iter().map(|what| what[0]));
+                let written = self.shelf.save(file, &Content::Bytes(encode(unit)));
                 self.met_if(written && known, "a save over another file");
                 self.met_if(written && shorter, "a save over a longer file");
                 Ok(said(if written { "ok" } else { "not written" }.to_string()))
             }
+            ("record", &[tag]) => self.record(unit, tag, file),
             // all others have a tag first
             (_, &[tag, ref others @ ..]) => {
                 unit.check_tag(tag)?;
@@ -517,6 +587,46 @@ impl<S: Shelf> Console<S> {
         self.met_if(sum_of(greedy) as i64 * of > least * greedy.len() as i64, "a plan better than greedy");
         let begin = Part::Text(format!("plan {tag} cycle "));
         Ok(vec![begin, Part::Plan(search, drawn), Part::Text("\n".to_string())])
+    }
+
+    /// `refused 2` where the unit has no function Q; `refused 8` where there is no plan, or the plan is another function's.
+    fn record(&mut self, unit: &Unit, tag: u32, file: &[u8]) -> Reply<Vec<Part>> {
+        self.meet_record(unit, tag);
+        unit.check_tag(tag)?;
+        let Plan { search, .. } = self.plan.filter(|plan| plan.tag == tag).ok_or(8u32)?;
+        let drawn = self.book.drawn(unit, tag).expect("a search that was accepted");
+        let planned = Planned { search, drawn };
+        let length = self.shelf.length(file);
+        self.met.extend(self.shelf.special(file).into_iter().map(|what| what[1]));
+        let written = self.shelf.save(file, &Content::Record(planned.clone()));
+        self.met_if(written && length.is_some(), "a record over another file");
+        let is_shorter = length.is_some_and(|length| length >= planned.more_than_record() as u64);
+        self.met_if(written && is_shorter, "a record over a longer file");
+        self.met_if(written && !self.shown.contains(&search), "a record of a plan that was not read before");
+        self.met_if(written && number(file).is_some(), "a record to a file whose name is a number");
+        Ok(said(if written { "ok" } else { "not written" }.to_string()))
+    }
+
+    /// What a reader shows of a file: `report` K and the list, `ring` S and the ring.
+    fn view(&mut self, name: &str, content: Content, length: Option<u64>) -> Reply<Vec<Part>> {
+        let is_report = name == "report";
+        self.met_view(name, self.unit.is_none(), both!("a file before the first unit"));
+        match content {
+            Content::Record(planned) => {
+                self.met_view(name, true, both!("a record that was written"));
+                let is_known = !self.shown.insert(planned.search);
+                self.met_view(name, is_known, both!("a record of a plan that was shown before"));
+                self.met_view(name, !is_known, both!("a record of a plan that was not shown before"));
+                let is_of_plan = self.plan.is_some_and(|plan| plan.search == planned.search);
+                self.met_view(name, !is_of_plan, both!("a record of a plan that is no longer the unit's"));
+                let (begin, part) = if is_report { ("count ", Part::List(planned)) } else { ("sum ", Part::Ring(planned)) };
+                Ok(vec![Part::Text(begin.to_string()), part, Part::Text("\n".to_string())])
+            }
+            Content::Bytes(bytes) => {
+                self.meet_view(name, &bytes, length);
+                Ok(said(if is_report { records::report(&bytes) } else { records::ring(&bytes) }?))
+            }
+        }
     }
 
     /// A question about a function of the unit.
@@ -563,11 +673,12 @@ impl<S: Shelf> Console<S> {
                 self.searches += 1;
                 self.met_if(self.plan.is_some_and(|plan| plan.tag != tag), "a plan in place of another function's");
                 self.plan = Some(Plan { tag, search: self.searches });
+                self.dropped = false;
                 "ok".to_string()
             }
             "diagram" => match self.plan {
                 Some(plan) if plan.tag == tag => {
-                    self.met_if(self.shown != plan.search, "a drawing of a plan that was not read before");
+                    self.met_if(!self.shown.contains(&plan.search), "a drawing of a plan that was not read before");
                     self.meet_plan(plan.search);
                     return Ok(vec![Part::Drawing(plan.search, tag, drawn)]);
                 }
@@ -757,10 +868,16 @@ impl<S: Shelf> Console<S> {
         self.met_if(words[1..].iter().any(and_return), "a number with a carriage return in its word");
         let later = words.get(257..).unwrap_or(&[]);
         self.met_if(words[0] == b"loop" && later.iter().any(|word| number(word).is_none()), "loop: no number after 256 tags");
-        if let [b"load" | b"save", file] = words {
+        if let [b"load" | b"save" | b"report" | b"ring", file] | [b"record", _, file] = words {
+            let least = words.iter().map(|word| word.len() + 1).sum::<usize>() - 1;
             self.met_if(returned && !is_blank(last), "a file's name with a carriage return after it");
             self.met_if(file.contains(&b'\r'), "a file's name with a carriage return in it");
-            self.met_if(between.len() > 5 + file.len() && is_blank(last), "a file's name with blanks around it");
+            self.met_if(between.len() > least && is_blank(last), "a file's name with blanks around it");
+            self.met_if(number(file).is_some(), "a file's name that is a number");
+        }
+        if let [b"record", first, file] = words {
+            self.met_if(number(first).is_none() && number(file).is_some(), "a record with its number after the file");
+            self.met_if(number(first).is_some() && large(file), "a record to a file whose name is a number above 4294967295");
         }
     }
 
@@ -796,6 +913,76 @@ impl<S: Shelf> Console<S> {
         }
     }
 
+    /// A record that is asked for, good or bad.
+    fn meet_record(&mut self, unit: &Unit, tag: u32) {
+        let good = unit.check_tag(tag).is_ok();
+        let plan = self.plan.map(|plan| plan.tag);
+        self.met_if(good && plan.is_none(), "a record without a plan");
+        self.met_if(good && plan.is_none() && self.dropped, "a record after an edit dropped the plan");
+        self.met_if(good && plan.is_some_and(|other| other != tag), "a record of a function beside another one's plan");
+        self.met_if(!good && plan.is_none(), "a record refused by 2 and not by 8");
+        self.met_if(!good && plan.is_some(), "a record refused by 2 beside a plan");
+        self.met_if(tag == 0, "a record of a tag 0");
+        self.met_if(tag == unit.functions + 1, "a record of a tag after the last");
+        self.met_if(tag > 255 && plan == Some(tag % 256), "a record of a tag that would do without its higher bytes");
+    }
+
+    fn met_view(&mut self, name: &str, holds: bool, what: [&'static str; 2]) {
+        self.met_if(holds, what[(name == "ring") as usize]);
+    }
+
+    /// The bytes that a reader finds, and how many there are where that is known.
+    fn meet_view(&mut self, name: &str, bytes: &[u8], length: Option<u64>) {
+        self.met_view(name, bytes.is_empty(), both!("an empty file"));
+        self.met_view(name, length == Some(LONGEST_RECORD as u64 + 1), both!("a file of 1,289 bytes"));
+        self.met_view(name, length == Some(4_096), both!("a file of 4,096 bytes"));
+        self.met_view(name, length == Some(70_000), both!("a file of 70,000 bytes"));
+        self.met_view(name, length.is_some_and(|length| length >= 1 << 32), both!("a file longer than 2^32 bytes"));
+        self.met_view(name, decode(bytes).is_ok(), both!("a unit file"));
+        let wrongs = records::wrongs(bytes);
+        let field = |place: usize| records::field(bytes, place);
+        match wrongs[..] {
+            [] => {
+                let (count, sum) = (field(0), field(1));
+                self.met_view(name, count == 1, both!("K of 1"));
+                self.met_view(name, count == 256, both!("K of 256"));
+                self.met_view(name, sum == 8_192, both!("S of 8,192"));
+                self.met_view(name, sum % 8 == 0, both!("S a multiple of 8"));
+                self.met_view(name, sum % 8 > 0, both!("S no multiple of 8"));
+                self.met_view(name, length == Some(LONGEST_RECORD as u64), both!("a record of 1,288 bytes"));
+            }
+            // refused for this alone
+            [Wrong::Short] => self.met_view(name, true, both!("15 for fewer than 8 bytes")),
+            [Wrong::Count] => {
+                self.met_view(name, field(0) == 0, both!("15 for K of 0"));
+                self.met_view(name, field(0) == 257, both!("15 for K of 257"));
+            }
+            [Wrong::ListOffset] => self.met_view(name, true, both!("15 for the offset of the list")),
+            [Wrong::RingOffset] => self.met_view(name, true, both!("15 for the offset of the ring")),
+            [Wrong::TooFew] => {
+                let need = records::LIST + field(0) + field(1).div_ceil(8);
+                self.met_view(name, bytes.len() + 1 == need, both!("15 for one byte cut off"));
+                self.met_view(name, bytes.len() + 1 < need, both!("15 for more bytes cut off"));
+            }
+            [Wrong::TooMany] => {
+                let need = records::LIST + field(0) + field(1).div_ceil(8);
+                let length = length.map(|length| length - need as u64);
+                self.met_view(name, length == Some(1), both!("15 for a byte after the end"));
+                self.met_view(name, length == Some(256), both!("15 for 256 bytes after the end"));
+                self.met_view(name, length == Some(65_536), both!("15 for 65,536 bytes after the end"));
+            }
+            [Wrong::Latency] => {
+                let list = &bytes[records::LIST..records::LIST + field(0)];
+                self.met_view(name, list.contains(&0), both!("15 for a latency 0"));
+                self.met_view(name, list.contains(&33), both!("15 for a latency 33"));
+            }
+            [Wrong::Sum] => self.met_view(name, true, both!("15 for the sum")),
+            [Wrong::RingBit] => self.met_view(name, true, both!("15 for the ring")),
+            [Wrong::SpareBit] => self.met_view(name, true, both!("15 for a spare bit")),
+            _ => self.met_view(name, true, both!("15 for several things")),
+        }
+    }
+
     fn what_was_done(&mut self, name: &str, said: &str, before: Before) -> Before {
         match (name, said) {
             ("fresh", "ok") => Before::Emptied,
@@ -810,6 +997,11 @@ impl<S: Shelf> Console<S> {
             ("search", "refused 2" | "refused 7") => Before::RefusedSearch,
             ("loop", "ok") => Before::Looped,
             ("loop", "refused 2" | "refused 7" | "refused 17") => Before::RefusedLoop,
+            ("record", "ok") => Before::Recorded,
+            ("record", "refused 2" | "refused 8") => Before::RefusedRecord,
+            ("record", "not written") => Before::NotWritten,
+            ("report" | "ring", "ok") => Before::Shown,
+            ("report" | "ring", "refused 15" | "no file") => Before::NotShown,
             // what only looks leaves what was done before in place
             ("read" | "bank" | "diagram" | "vector" | "bound" | "upper" | "constant" | "row" | "list" | "table", _) => before,
             (_, "expected") => Before::Bad,
@@ -826,12 +1018,17 @@ impl<S: Shelf> Console<S> {
             Before::RefusedSearch => "a plan kept by a refused search",
             Before::Looped => "a plan kept by a loop",
             Before::RefusedLoop => "a plan kept by a refused loop",
+            Before::Recorded => "a plan kept by a record",
+            Before::RefusedRecord => "a plan kept by a refused record",
+            Before::NotWritten => "a plan kept by a record that was not written",
+            Before::Shown => "a plan kept by a record that is shown",
+            Before::NotShown => "a plan kept by a file that is no record",
             Before::Bad => "a plan kept by a line that is no command",
             _ => "a plan",
         };
         self.met.push(kept);
-        self.met_if(self.shown == search, "a plan shown again");
-        self.shown = search;
+        let is_known = !self.shown.insert(search);
+        self.met_if(is_known, "a plan shown again");
     }
 
     fn meet_bank(&mut self) {
@@ -849,6 +1046,11 @@ impl<S: Shelf> Console<S> {
             Before::RefusedSearch => "a bank kept by a refused search",
             Before::Looped => "a bank kept by a loop",
             Before::RefusedLoop => "a bank kept by a refused loop",
+            Before::Recorded => "a bank kept by a record",
+            Before::RefusedRecord => "a bank kept by a refused record",
+            Before::NotWritten => "a bank kept by a record that was not written",
+            Before::Shown => "a bank kept by a record that is shown",
+            Before::NotShown => "a bank kept by a file that is no record",
             Before::Bad => "a bank kept by a line that is no command",
             _ => "a bank in use",
         };
@@ -911,6 +1113,7 @@ pub const WANTED: &[&str] = &[
     "a file's name with a carriage return after it",
     "a file's name with a carriage return in it",
     "a file's name with blanks around it",
+    "a file's name that is a number",
     "a last line without a newline",
     "a last line without a newline, its last byte a carriage return",
     "a last line without a newline, its last byte a blank",
@@ -935,6 +1138,11 @@ pub const WANTED: &[&str] = &[
     "a plan kept by a refused search",
     "a plan kept by a loop",
     "a plan kept by a refused loop",
+    "a plan kept by a record",
+    "a plan kept by a refused record",
+    "a plan kept by a record that was not written",
+    "a plan kept by a record that is shown",
+    "a plan kept by a file that is no record",
     "a plan kept by a line that is no command",
     "a plan with a sum above 255",
     "a plan of two or more latencies",
@@ -987,6 +1195,106 @@ pub const WANTED: &[&str] = &[
     "loop: 65 latencies or more",
     "loop: a sum above 255",
     "loop: a latency 32",
+    "a load of a record",
+    "a load of a record that was written",
+    "a save over a record that was written",
+    "a save over a unit file",
+    "a record without a plan",
+    "a record after an edit dropped the plan",
+    "a record of a function beside another one's plan",
+    "a record refused by 2 and not by 8",
+    "a record refused by 2 beside a plan",
+    "a record of a tag 0",
+    "a record of a tag after the last",
+    "a record of a tag that would do without its higher bytes",
+    "a record of a plan that was not read before",
+    "a record to a file whose name is a number",
+    "a record to a file whose name is a number above 4294967295",
+    "a record with its number after the file",
+    "a record over another file",
+    "a record over a longer file",
+    "a record over a unit file",
+    "a record over a record that was written",
+    "a record to a link to a file",
+    "a record to a link to something else",
+    "a record to a name without room for `.part`",
+    "a record where a file has its name with `.part`",
+    "a record found: one latency",
+    "a record found: two or more latencies",
+    "a record found: 40 latencies or more",
+    "a record found: a latency 32",
+    "a record found: a sum above 255",
+    "a record found: a sum that is a multiple of 8",
+    "a record found: a sum that is no multiple of 8",
+    "a record found: of a plan that was never shown",
+    "report: a file before the first unit",
+    "ring: a file before the first unit",
+    "report: no file before the first unit",
+    "ring: no file before the first unit",
+    "report: a record that was written",
+    "ring: a record that was written",
+    "report: a record of a plan that was shown before",
+    "ring: a record of a plan that was shown before",
+    "report: a record of a plan that was not shown before",
+    "ring: a record of a plan that was not shown before",
+    "report: a record of a plan that is no longer the unit's",
+    "ring: a record of a plan that is no longer the unit's",
+    "report: an empty file",
+    "ring: an empty file",
+    "report: a file of 1,289 bytes",
+    "ring: a file of 1,289 bytes",
+    "report: a file of 4,096 bytes",
+    "ring: a file of 4,096 bytes",
+    "report: a file of 70,000 bytes",
+    "ring: a file of 70,000 bytes",
+    "report: a file longer than 2^32 bytes",
+    "ring: a file longer than 2^32 bytes",
+    "report: a unit file",
+    "ring: a unit file",
+    "report: K of 1",
+    "ring: K of 1",
+    "report: K of 256",
+    "ring: K of 256",
+    "report: S of 8,192",
+    "ring: S of 8,192",
+    "report: S a multiple of 8",
+    "ring: S a multiple of 8",
+    "report: S no multiple of 8",
+    "ring: S no multiple of 8",
+    "report: a record of 1,288 bytes",
+    "ring: a record of 1,288 bytes",
+    "report: 15 for fewer than 8 bytes",
+    "ring: 15 for fewer than 8 bytes",
+    "report: 15 for K of 0",
+    "ring: 15 for K of 0",
+    "report: 15 for K of 257",
+    "ring: 15 for K of 257",
+    "report: 15 for the offset of the list",
+    "ring: 15 for the offset of the list",
+    "report: 15 for the offset of the ring",
+    "ring: 15 for the offset of the ring",
+    "report: 15 for one byte cut off",
+    "ring: 15 for one byte cut off",
+    "report: 15 for more bytes cut off",
+    "ring: 15 for more bytes cut off",
+    "report: 15 for a byte after the end",
+    "ring: 15 for a byte after the end",
+    "report: 15 for 256 bytes after the end",
+    "ring: 15 for 256 bytes after the end",
+    "report: 15 for 65,536 bytes after the end",
+    "ring: 15 for 65,536 bytes after the end",
+    "report: 15 for a latency 0",
+    "ring: 15 for a latency 0",
+    "report: 15 for a latency 33",
+    "ring: 15 for a latency 33",
+    "report: 15 for the sum",
+    "ring: 15 for the sum",
+    "report: 15 for the ring",
+    "ring: 15 for the ring",
+    "report: 15 for a spare bit",
+    "ring: 15 for a spare bit",
+    "report: 15 for several things",
+    "ring: 15 for several things",
     "no plan after a loop",
     "a bank in use",
     "a bank emptied",
@@ -1005,6 +1313,11 @@ pub const WANTED: &[&str] = &[
     "a bank kept by a refused search",
     "a bank kept by a loop",
     "a bank kept by a refused loop",
+    "a bank kept by a record",
+    "a bank kept by a refused record",
+    "a bank kept by a record that was not written",
+    "a bank kept by a record that is shown",
+    "a bank kept by a file that is no record",
     "a bank kept by a line that is no command",
     "an input of no bytes",
     "an input that comes byte by byte",
@@ -1029,6 +1342,25 @@ pub const WANTED: &[&str] = &[
     "files: a save with room for no byte",
     "files: a save with room for all but one byte",
     "files: a save with room for just its bytes",
+    "files: a record to a FIFO",
+    "files: a record to a symbolic link to a FIFO",
+    "files: a record to a new name and over other files",
+    "files: a record over a file that has a second name",
+    "files: a record to a symbolic link to a file",
+    "files: a record to a symbolic link in another folder",
+    "files: a record to a symbolic link to another one",
+    "files: a record to a symbolic link to nothing",
+    "files: a record to a symbolic link to a folder",
+    "files: a record to a symbolic link to a full device",
+    "files: a record into a folder that is not there",
+    "files: a record into a file",
+    "files: a record onto a folder",
+    "files: a record with a folder in the way of its `.part`",
+    "files: a record where a `.part` stands",
+    "files: a record to a name without room for `.part`",
+    "files: a record with room for no byte",
+    "files: a record with room for all but one byte",
+    "files: a record with room for just its bytes",
     "output: a full device",
     "output: a full device, and more input may come",
     "output: a pipe that nobody reads",
@@ -1040,6 +1372,10 @@ pub const WHERE_POSSIBLE: &[&str] = &[
     "files: a save over a file that may not be written",
     "files: a save into a folder that may not be written",
     "files: a save that can't be renamed",
+    "files: a record over a file that may not be written",
+    "files: a record into a folder that may not be written",
+    "files: a record that can't be renamed",
+    "files: a file that may not be read",
 ];
 
 /// "the reservation table, a row for each segment, `x` for a mark and `.` for none, with column numbers": cells of three bytes.

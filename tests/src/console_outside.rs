@@ -1,5 +1,5 @@
-//! Runs of a few lines each, in which what stands in the folder or what becomes of the output is special: what a save leaves behind, and what
-//! is done after an answer that can't be written. Answers and files are those of the console's description, by hand.
+//! Runs of a few lines each, in which what stands in the folder or what becomes of the output is special: what a save or a record leaves
+//! behind, and what is done after an answer that can't be written. Answers and files are those of the console's description, by hand.
 
 use crate::console_check::Counts;
 use crate::console_folder::{File, Folder, FULL, INNER, PART};
@@ -70,9 +70,31 @@ pub struct Case {
     piped: &'static [u8],
 }
 
-/// The unit of `MAKE` as a file: 1 function, 1 segment, 2 columns; the table begins at byte 6, and its one word has the bit of column 2.
+/// A unit as a file: 1 function, 1 segment, 2 columns; the table begins at byte 6, and its one word has the bit of column 2.
 const NEW: &[u8] = &[1, 1, 2, 0, 6, 0, 2, 0, 0, 0];
-const MAKE: &str = "fresh 1 1 2\nmark 1 1 2\n";
+/// The record of the unit's plan, which is the cycle 1: one latency, a sum of 1, the list at 8, the ring at 9, one bit that is 0 and seven
+/// spare ones.
+const RECORD: &[u8] = &[1, 0, 1, 0, 8, 0, 9, 0, 1, 0xFE];
+
+/// How a new file is made: by a save, or by a record.
+struct Way {
+    /// The place of its special cases among those of both.
+    place: usize,
+    make: &'static str,
+    verb: &'static str,
+    bytes: &'static [u8],
+}
+
+const SAVE: Way = Way { place: 0, make: "fresh 1 1 2\nmark 1 1 2\n", verb: "save", bytes: NEW };
+const WAYS: [Way; 2] = [SAVE, Way { place: 1, make: "fresh 1 1 2\nmark 1 1 2\nsearch 1\n", verb: "record 1", bytes: RECORD }];
+
+/// A special case of a file that is written: by a save, and by a record.
+macro_rules! files {
+    ($what:literal) => {
+        [concat!("files: a save ", $what), concat!("files: a record ", $what)]
+    };
+}
+
 /// A longer file.
 const OLD: &[u8] = b"an old file, which is longer than the new one";
 
@@ -84,21 +106,12 @@ fn old() -> File {
     File::Bytes(OLD.to_vec())
 }
 
-fn new() -> File {
-    File::Bytes(NEW.to_vec())
-}
-
 fn link(target: &str) -> File {
     File::Link(target.as_bytes().to_vec())
 }
 
-/// A unit is made and saved under each of these names, each with whether it is to be written.
-fn saving(what: &'static str, before: &[(&str, File)], saves: &[(&str, bool)], after: &[(&str, File)]) -> Case {
-    let (mut lines, mut answers) = (MAKE.to_string(), "ok\nok\n".to_string());
-    for (name, written) in saves {
-        lines += &format!("save {name}\n");
-        answers += if *written { "ok\n" } else { "not written\n" };
-    }
+/// Lines that are answered so.
+fn lines(what: &'static str, lines: String, answers: String, before: &[(&str, File)], after: &[(&str, File)]) -> Case {
     Case {
         what,
         before: folder(before),
@@ -115,9 +128,26 @@ fn saving(what: &'static str, before: &[(&str, File)], saves: &[(&str, bool)], a
     }
 }
 
+impl Way {
+    fn new(&self) -> File {
+        File::Bytes(self.bytes.to_vec())
+    }
+
+    /// A unit is made and written under each of these names, each with whether it is to be written.
+    fn writing(&self, what: [&'static str; 2], before: &[(&str, File)], names: &[(&str, bool)], after: &[(&str, File)]) -> Case {
+        let (mut typed, mut answers) = (self.make.to_string(), "ok\n".repeat(self.make.lines().count()));
+        for (name, written) in names {
+            typed += &format!("{} {name}\n", self.verb);
+            answers += if *written { "ok\n" } else { "not written\n" };
+        }
+        lines(what[self.place], typed, answers, before, after)
+    }
+}
+
 /// "The program stops at the first write to standard output that fails: no later command is carried out."
 fn failing(what: &'static str, outlet: Outlet) -> Case {
-    Case { lines: "fresh 1 1 1\nsave x.unit\n".to_string(), outlet, answers: None, ..saving(what, &[], &[], &[]) }
+    let typed = "fresh 1 1 1\nsave x.unit\n".to_string();
+    Case { outlet, answers: None, ..lines(what, typed, String::new(), &[], &[]) }
 }
 
 /// Takes from a path the right to write, for all users.
@@ -127,124 +157,124 @@ fn close(path: &Path) -> io::Result<()> {
 }
 
 /// In this order: what is no regular file of the folder is tried before any device of the system.
-pub fn cases() -> Vec<Case> {
+fn file_cases(way: &Way) -> Vec<Case> {
     let part = |name: &str| format!("{name}{PART}");
     let name_of = |length: usize| "n".repeat(length);
     let (fits, above, most) = (name_of(250), name_of(251), name_of(255));
     let in_inner = |name: &str| format!("{INNER}/{name}");
     vec![
-        Case { piped: NEW, ..saving("files: a save to a FIFO", &[("fifo", File::Pipe)], &[("fifo", true)], &[("fifo", File::Pipe)]) },
+        Case { piped: way.bytes, ..way.writing(files!("to a FIFO"), &[("fifo", File::Pipe)], &[("fifo", true)], &[("fifo", File::Pipe)]) },
         Case {
-            piped: NEW,
-            ..saving(
-                "files: a save to a symbolic link to a FIFO",
+            piped: way.bytes,
+            ..way.writing(
+                files!("to a symbolic link to a FIFO"),
                 &[("fifo", File::Pipe), ("link", link("fifo"))],
                 &[("link", true)],
                 &[("fifo", File::Pipe), ("link", link("fifo"))],
             )
         },
-        saving(
-            "files: a save to a new name and over other files",
+        way.writing(
+            files!("to a new name and over other files"),
             &[("longer", old()), ("empty", File::Bytes(Vec::new()))],
             &[("new", true), ("longer", true), ("empty", true), (&in_inner("new"), true), ("new", true)],
-            &[("new", new()), ("longer", new()), ("empty", new()), (&in_inner("new"), new())],
+            &[("new", way.new()), ("longer", way.new()), ("empty", way.new()), (&in_inner("new"), way.new())],
         ),
         // "the old file stays whole until the new one is": it is not the old one that is written, whatever other name it has
         Case {
             prepare: |folder| fs::hard_link(folder.join("one"), folder.join("two")),
-            ..saving(
-                "files: a save over a file that has a second name",
+            ..way.writing(
+                files!("over a file that has a second name"),
                 &[("one", old())],
                 &[("one", true)],
-                &[("one", new()), ("two", old())],
+                &[("one", way.new()), ("two", old())],
             )
         },
-        saving(
-            "files: a save to a symbolic link to a file",
+        way.writing(
+            files!("to a symbolic link to a file"),
             &[("file", old()), ("link", link("file"))],
             &[("link", true)],
-            &[("file", new()), ("link", link("file"))],
+            &[("file", way.new()), ("link", link("file"))],
         ),
-        saving(
-            "files: a save to a symbolic link in another folder",
+        way.writing(
+            files!("to a symbolic link in another folder"),
             &[("file", old()), (&in_inner("link"), link("../file"))],
             &[(&in_inner("link"), true)],
-            &[("file", new()), (&in_inner("link"), link("../file"))],
+            &[("file", way.new()), (&in_inner("link"), link("../file"))],
         ),
-        saving(
-            "files: a save to a symbolic link to another one",
+        way.writing(
+            files!("to a symbolic link to another one"),
             &[("file", old()), ("first", link("file")), ("second", link("first"))],
             &[("second", true)],
-            &[("file", new()), ("first", link("file")), ("second", link("first"))],
+            &[("file", way.new()), ("first", link("file")), ("second", link("first"))],
         ),
-        saving(
-            "files: a save to a symbolic link to nothing",
+        way.writing(
+            files!("to a symbolic link to nothing"),
             &[("link", link("file")), ("far", link("missing/file")), ("circle", link("circle"))],
             &[("link", true), ("far", false), ("circle", false)],
-            &[("file", new()), ("link", link("file")), ("far", link("missing/file")), ("circle", link("circle"))],
+            &[("file", way.new()), ("link", link("file")), ("far", link("missing/file")), ("circle", link("circle"))],
         ),
-        saving("files: a save to a symbolic link to a folder", &[("link", link(INNER))], &[("link", false)], &[("link", link(INNER))]),
-        saving("files: a save to a symbolic link to a full device", &[("link", link(FULL))], &[("link", false)], &[("link", link(FULL))]),
-        saving("files: a save into a folder that is not there", &[], &[("missing/new", false), ("missing/", false)], &[]),
-        saving("files: a save into a file", &[("file", old())], &[("file/new", false), ("file/", false)], &[("file", old())]),
-        saving(
-            "files: a save onto a folder",
+        way.writing(files!("to a symbolic link to a folder"), &[("link", link(INNER))], &[("link", false)], &[("link", link(INNER))]),
+        way.writing(files!("to a symbolic link to a full device"), &[("link", link(FULL))], &[("link", false)], &[("link", link(FULL))]),
+        way.writing(files!("into a folder that is not there"), &[], &[("missing/new", false), ("missing/", false)], &[]),
+        way.writing(files!("into a file"), &[("file", old())], &[("file/new", false), ("file/", false)], &[("file", old())]),
+        way.writing(
+            files!("onto a folder"),
             &[("folder", File::Folder), ("folder/file", old())],
             &[("folder", false), (INNER, false), (".", false), ("folder/", false)],
             &[("folder", File::Folder), ("folder/file", old())],
         ),
-        saving(
-            "files: a save with a folder in the way of its `.part`",
+        way.writing(
+            files!("with a folder in the way of its `.part`"),
             &[("file", old()), (&part("file"), File::Folder), (&part("new"), File::Folder)],
             &[("file", false), ("new", false)],
             &[("file", old()), (&part("file"), File::Folder), (&part("new"), File::Folder)],
         ),
         // one that a run left which was cut off
-        saving(
-            "files: a save where a `.part` stands",
+        way.writing(
+            files!("where a `.part` stands"),
             &[("file", old()), (&part("file"), old()), (&part("new"), old())],
             &[("file", true), ("new", true)],
-            &[("file", new()), ("new", new())],
+            &[("file", way.new()), ("new", way.new())],
         ),
-        saving(
-            "files: a save to a name without room for `.part`",
+        way.writing(
+            files!("to a name without room for `.part`"),
             &[(&most, old())],
             &[(&fits, true), (&above, false), (&most, false)],
-            &[(&fits, new()), (&most, old())],
+            &[(&fits, way.new()), (&most, old())],
         ),
         Case {
             room: Some(0),
-            ..saving("files: a save with room for no byte", &[("file", old())], &[("file", false), ("new", false)], &[("file", old())])
+            ..way.writing(files!("with room for no byte"), &[("file", old())], &[("file", false), ("new", false)], &[("file", old())])
         },
         Case {
-            room: Some(NEW.len() as u64 - 1),
-            ..saving(
-                "files: a save with room for all but one byte",
+            room: Some(way.bytes.len() as u64 - 1),
+            ..way.writing(
+                files!("with room for all but one byte"),
                 &[("file", old())],
                 &[("file", false), ("new", false)],
                 &[("file", old())],
             )
         },
         Case {
-            room: Some(NEW.len() as u64),
-            ..saving("files: a save with room for just its bytes", &[("file", old())], &[("file", true)], &[("file", new())])
+            room: Some(way.bytes.len() as u64),
+            ..way.writing(files!("with room for just its bytes"), &[("file", old())], &[("file", true)], &[("file", way.new())])
         },
         // "A file that exists and can't be written is `not written`", though the folder could be
         Case {
             by: By::Owner,
             prepare: |folder| close(&folder.join("file")),
-            ..saving(
-                "files: a save over a file that may not be written",
+            ..way.writing(
+                files!("over a file that may not be written"),
                 &[("file", old())],
                 &[("file", false), ("new", true)],
-                &[("file", old()), ("new", new())],
+                &[("file", old()), ("new", way.new())],
             )
         },
         Case {
             by: By::Owner,
             prepare: |folder| close(&folder.join(INNER)),
-            ..saving(
-                "files: a save into a folder that may not be written",
+            ..way.writing(
+                files!("into a folder that may not be written"),
                 &[(&in_inner("file"), old())],
                 &[(&in_inner("file"), false), (&in_inner("new"), false)],
                 &[(&in_inner("file"), old())],
@@ -257,11 +287,29 @@ pub fn cases() -> Vec<Case> {
                 fs::set_permissions(folder, Permissions::from_mode(0o1777))?;
                 fs::set_permissions(folder.join("file"), Permissions::from_mode(0o666))
             },
-            ..saving(
-                "files: a save that can't be renamed",
+            ..way.writing(
+                files!("that can't be renamed"),
                 &[("file", old())],
                 &[("file", false), ("new", true)],
-                &[("file", old()), ("new", new())],
+                &[("file", old()), ("new", way.new())],
+            )
+        },
+    ]
+}
+
+pub fn cases() -> Vec<Case> {
+    let record = [("file", File::Bytes(RECORD.to_vec()))];
+    let mut cases: Vec<Case> = WAYS.iter().flat_map(file_cases).collect();
+    cases.extend([
+        Case {
+            by: By::Owner,
+            prepare: |folder| fs::set_permissions(folder.join("file"), Permissions::from_mode(0)),
+            ..lines(
+                "files: a file that may not be read",
+                "report file\nring file\nload file\n".to_string(),
+                "no file\n".repeat(3),
+                &record,
+                &record,
             )
         },
         failing("output: a full device", Outlet::Full),
@@ -272,11 +320,12 @@ pub fn cases() -> Vec<Case> {
             room: Some(12),
             answers: Some("ok\n".repeat(4)),
             lines: "fresh 1 1 2\nmark 1 1 2\nsave one\nsave two\nsave three\nsave four\nfresh 1 1 1\nsave one\n".to_string(),
-            after: folder(&[("one", new()), ("two", new())]),
+            after: folder(&[("one", SAVE.new()), ("two", SAVE.new())]),
             free: Some("three"),
             ..failing("output: a file with room for the first answers", Outlet::File)
         },
-    ]
+    ]);
+    cases
 }
 
 // ---------------------------------------------------------------------------------------------------------------------------------
@@ -438,6 +487,8 @@ impl Case {
             // where nothing is left this is an error
             let _ = pipe.read_to_end(&mut piped);
         }
+        // so that what it holds can be looked at, where it is there
+        let _ = fs::set_permissions(place.path.join("file"), Permissions::from_mode(0o644));
         let found = Folder::found(&place.path)?;
         // so that it can be removed, where it is still there
         let _ = fs::set_permissions(place.path.join(INNER), Permissions::from_mode(0o755));
@@ -462,7 +513,7 @@ impl Case {
             return Some(format!("the program {}", ending.told()));
         }
         if let Some(name) = self.free {
-            if found.files.get(name.as_bytes()) == Some(&new()) {
+            if found.files.get(name.as_bytes()) == Some(&SAVE.new()) {
                 found.files.remove(name.as_bytes());
             }
         }

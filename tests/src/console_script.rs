@@ -6,6 +6,8 @@ use crate::loops::MOST_TAGS;
 use crate::loops_check;
 use crate::model::*;
 use crate::random::{seed_of, Random};
+use crate::record_files::*;
+use crate::records::laid_out;
 use crate::units;
 
 pub struct Line {
@@ -45,6 +47,21 @@ impl Script {
         input
     }
 
+    /// Leaves out the files that no line names: a few lines name few of them, and it takes time to put files into a folder. Links are
+    /// kept, and what they lead to.
+    fn leave_out(&mut self) {
+        let input = self.input();
+        let kept = |name: &[u8], file: &File| {
+            let is_named = input.windows(name.len()).any(|bytes| bytes == name);
+            is_named || matches!(file, File::Link(_)) || LINKS.iter().any(|target| target.as_bytes() == name)
+        };
+        let idle: Vec<Vec<u8>> = self.before.files.iter().filter(|(name, file)| !kept(name, file)).map(|(name, _)| name.clone()).collect();
+        for name in idle {
+            self.before.files.remove(&name);
+            self.after.files.remove(&name);
+        }
+    }
+
     /// Each line with its newline, and how many lines the answers have up to it.
     pub fn turns(&self) -> Vec<(Vec<u8>, usize)> {
         let mut height = 0;
@@ -65,6 +82,13 @@ const DAMAGED_FILES: usize = 160;
 /// So many of them, the first ones, are refused for certain. Of the others a few are in order, with other marks.
 const REFUSED_FILES: usize = 17;
 const LONG_FILES: usize = 3;
+/// Records of special and of random cycles, and damaged ones, beside the unit files.
+const RECORD_FILES: usize = 60;
+const TORN_FILES: usize = 80;
+/// So many of each, the first ones, may be replaced.
+const REPLACED_FILES: u64 = 30;
+/// How many files records are written to again and again.
+const PLAN_NAMES: u64 = 8;
 
 fn good_name(place: usize) -> String {
     format!("unit{place}")
@@ -76,6 +100,16 @@ fn damaged_name(place: usize) -> String {
 
 fn long_name(place: usize) -> String {
     format!("long{place}")
+}
+
+/// A record that stands before the first line.
+fn record_name(place: usize) -> String {
+    format!("record{place}")
+}
+
+/// A damaged record.
+fn torn_name(place: usize) -> String {
+    format!("torn{place}")
 }
 
 /// A file with the unit of a hard list of tags.
@@ -154,6 +188,22 @@ fn files(random: &mut Random) -> Folder {
     for (place, row) in loops_check::HARD.into_iter().enumerate() {
         put(list_name(place), File::Bytes(encode(&loops_check::hard_unit(row))));
     }
+    let cycles = special_cycles();
+    for place in 0..RECORD_FILES {
+        let cycle = cycles.get(place).cloned().unwrap_or_else(|| random_cycle(random));
+        put(record_name(place), File::Bytes(laid_out(&cycle)));
+    }
+    let torn: Vec<Vec<u8>> = [&[3, 4][..], &[2, 2, 7], &[8], &[32; 256]].iter().flat_map(|cycle| damaged(cycle, random)).collect();
+    for place in 0..TORN_FILES {
+        // not those with 65,536 bytes more
+        let some = loop {
+            let some = &torn[random.below(torn.len() as u64) as usize];
+            if some.len() < 5_000 {
+                break some;
+            }
+        };
+        put(torn_name(place), File::Bytes(some.clone()));
+    }
     // lengths that are right if one takes their last 32 bits alone, and zeros after a file in order
     let file = encode(&units::unit(random));
     let length = file.len() as u64;
@@ -171,13 +221,54 @@ fn files(random: &mut Random) -> Folder {
 // ---------------------------------------------------------------------------------------------------------------------------------
 // Lines
 
+/// The files of the script about records, all of them named in it: records of special and of random cycles; records damaged in every
+/// single way, cut at every length or with every bit the other way, and at random; and files of special lengths.
+fn all_records(random: &mut Random) -> Vec<File> {
+    let mut files: Vec<Vec<u8>> = special_cycles().iter().map(|cycle| laid_out(cycle)).collect();
+    files.extend((0..150).map(|_| laid_out(&random_cycle(random))));
+    let mut bases = vec![vec![3, 4], vec![1], vec![8], vec![2, 2, 7], vec![1; 8], vec![32; 8], vec![1; 256], vec![32; 256]];
+    bases.extend((0..5).map(|_| random_cycle(random)));
+    files.extend(bases.iter().flat_map(|cycle| damaged(cycle, random)));
+    files.extend(wrong_lists(random).iter().map(|list| laid_out(list)));
+    let medium: Vec<u8> = (0..24).map(|_| random.between(1, 32) as u8).collect();
+    for cycle in [&[3, 4][..], &[1; 30], &medium] {
+        files.extend(cut_off(&laid_out(cycle)));
+    }
+    // the longest record around its fields, its list and its ends, and some lengths between
+    let near = |length: &usize| (0..20).contains(length) || (255..275).contains(length) || *length > 1_275 || length % 50 == 0;
+    files.extend(cut_off(&laid_out(&[32; 256])).into_iter().filter(|file| near(&file.len())));
+    for cycle in [&[3, 4][..], &[8], &[9, 1, 30, 2, 5]] {
+        files.extend(flipped(&laid_out(cycle)));
+    }
+    for _ in 0..400 {
+        let mut file = laid_out(&random_cycle(random));
+        damage(&mut file, random);
+        files.push(file);
+    }
+    for _ in 0..40 {
+        let length = random.below(60) as usize;
+        files.push(random.bytes(length));
+    }
+    files.extend(of_lengths(random));
+    for _ in 0..20 {
+        files.push(encode(&units::unit(random)));
+    }
+    let mut files: Vec<File> = files.into_iter().map(File::Bytes).collect();
+    // lengths that are right if one takes their last 32 bits alone
+    let record = laid_out(&[3, 4]);
+    let length = record.len() as u64;
+    files.push(File::Long(record, length + (1 << 32)));
+    files
+}
+
 struct Writer {
     random: Random,
     console: Console<Folder>,
     lines: Vec<Line>,
     most: usize,
-    /// How many files were saved under a name of their own.
+    /// How many files were saved, and how many records were written, under a name of their own.
     saved: usize,
+    kept: usize,
     /// Whether the system has the devices that the script may name.
     has_devices: bool,
     /// Whether each line ends in a carriage return.
@@ -187,8 +278,11 @@ struct Writer {
 /// No program that reads the line in some wrong way shall write outside its folder: every `/` has to come after a letter, a digit, a dot
 /// or another `/`, and no two dots may stand together.
 fn harmless(line: &[u8]) -> bool {
-    if [NULL, FULL].iter().any(|device| line.ends_with(device.as_bytes()) && line.len() == 5 + device.len()) {
-        return true;
+    let devices = [NULL.as_bytes(), FULL.as_bytes()];
+    match line.split(|byte| *byte == b' ').collect::<Vec<_>>()[..] {
+        [b"load" | b"save" | b"report" | b"ring", file] if devices.contains(&file) => return true,
+        [b"record", tag, file] if devices.contains(&file) && number(tag).is_some() => return true,
+        _ => {}
     }
     let inside = |byte: u8| byte.is_ascii_alphanumeric() || byte == b'.' || byte == b'/';
     let mut slashes = (0..line.len()).filter(|place| line[*place] == b'/');
@@ -233,7 +327,7 @@ const NO_NUMBERS: [&[u8]; 23] = [
     b"Q",
     b"1/1",
 ];
-const NO_COMMANDS: [&[u8]; 25] = [
+const NO_COMMANDS: [&[u8]; 31] = [
     b"help",
     b"quit",
     b"exit",
@@ -257,11 +351,18 @@ const NO_COMMANDS: [&[u8]; 25] = [
     b"judge1 1",
     b"loops 1 2",
     b"loo 1 2",
+    b"records 1 plan0",
+    b"recor 1 plan0",
+    b"reports record0",
+    b"repor record0",
+    b"rings record0",
+    b"rin record0",
     b"\xef\xbb\xbftick",
     b"line 1: expected a command",
 ];
-/// File names with bytes that mean something elsewhere. One with a tab is none, nor is a carriage return at the line's end.
-const ODD_NAMES: [&[u8]; 20] = [
+/// File names with bytes that mean something elsewhere, and some that are numbers. One with a tab is none, nor is a carriage return at the
+/// line's end.
+const ODD_NAMES: [&[u8]; 25] = [
     b"-",
     b"--",
     b"~",
@@ -282,6 +383,11 @@ const ODD_NAMES: [&[u8]; 20] = [
     b"\xe9t\xe9",
     b"\xff\xfe",
     b"FILE",
+    b"1",
+    b"007",
+    b"4294967295",
+    b"4294967296",
+    b"-1",
 ];
 /// Lines of blanks, carriage returns and signs of a comment: some are passed over, some are not.
 const BARE_LINES: [&[u8]; 22] = [
@@ -309,7 +415,7 @@ const BARE_LINES: [&[u8]; 22] = [
     b"\0",
 ];
 /// In how many forms long lines come.
-const LONG_FORMS: u64 = 33;
+const LONG_FORMS: u64 = 37;
 /// Lengths of lines: around the limit, around multiples of it, and far above it.
 const LENGTHS: [usize; 21] = [
     4_095, 4_095, 4_096, 4_096, 4_096, 4_097, 4_097, 4_098, 5_000, 8_190, 8_191, 8_192, 8_193, 8_194, 12_288, 12_289, 16_384, 65_535,
@@ -318,7 +424,8 @@ const LENGTHS: [usize; 21] = [
 
 impl Writer {
     fn new(seed: u64, most: usize, console: Console<Folder>) -> Writer {
-        Writer { random: Random::new(seed), console, lines: Vec::new(), most, saved: 0, has_devices: has_devices(), returns: false }
+        let (random, lines) = (Random::new(seed), Vec::new());
+        Writer { random, console, lines, most, saved: 0, kept: 0, has_devices: has_devices(), returns: false }
     }
 
     /// Puts a line, now and then with blanks around its words.
@@ -460,7 +567,7 @@ impl Writer {
     fn load_name(&mut self) -> Vec<u8> {
         let random = &mut self.random;
         let good = good_name(random.below(GOOD_FILES as u64) as usize);
-        let text = match random.below(64) {
+        let text = match random.below(70) {
             0..=15 => damaged_name(random.below(DAMAGED_FILES as u64) as usize),
             16 => long_name(random.below(LONG_FILES as u64) as usize),
             17..=24 => format!("again{}", random.below(12)),
@@ -483,6 +590,11 @@ impl Writer {
             46..=49 => link_name(random.below(LINKS.len() as u64) as usize),
             50 => format!("{}/again{}", link_name(INNER_LINK), random.below(3)),
             51 => format!("again{}{PART}", random.below(12)),
+            // records, which are no units
+            52 | 53 => format!("plan{}", random.below(PLAN_NAMES)),
+            54 => format!("kept{}", random.below(self.kept as u64 + 1)),
+            55 | 56 => record_name(random.below(RECORD_FILES as u64) as usize),
+            57 => torn_name(random.below(TORN_FILES as u64) as usize),
             _ => good,
         };
         text.into_bytes()
@@ -490,7 +602,7 @@ impl Writer {
 
     fn save_name(&mut self) -> Vec<u8> {
         let random = &mut self.random;
-        let text = match random.below(48) {
+        let text = match random.below(52) {
             0..=15 => format!("again{}", random.below(12)),
             16..=18 => format!("{INNER}/again{}", random.below(3)),
             19 => format!("./again{}", random.below(12)),
@@ -508,10 +620,50 @@ impl Writer {
             33..=37 => link_name(random.below(LINKS.len() as u64) as usize),
             38 => format!("{}/again{}", link_name(INNER_LINK), random.below(3)),
             39 => format!("again{}{PART}", random.below(12)),
+            40 | 41 => format!("plan{}", random.below(PLAN_NAMES)),
+            42 => record_name(random.below(REPLACED_FILES) as usize),
             _ => {
                 self.saved += 1;
                 format!("out{}", self.saved)
             }
+        };
+        text.into_bytes()
+    }
+
+    /// Where a record goes: to a name that records have again and again, to one of its own, over files of all sorts, or to what a save may
+    /// name.
+    fn plan_name(&mut self) -> Vec<u8> {
+        let random = &mut self.random;
+        let text = match random.below(24) {
+            0..=7 => format!("plan{}", random.below(PLAN_NAMES)),
+            8 => format!("{INNER}/plan{}", random.below(2)),
+            9 | 10 => format!("again{}", random.below(12)),
+            11 => record_name(random.below(REPLACED_FILES) as usize),
+            12 | 13 => torn_name(random.below(REPLACED_FILES) as usize),
+            14 => format!("plan{}{PART}", random.below(PLAN_NAMES)),
+            15 => return random.pick(&ODD_NAMES).to_vec(),
+            16..=19 => return self.save_name(),
+            _ => {
+                self.kept += 1;
+                format!("kept{}", self.kept)
+            }
+        };
+        text.into_bytes()
+    }
+
+    /// What a reader of records is given: records of all sorts, and what a load may name.
+    fn view_name(&mut self) -> Vec<u8> {
+        let random = &mut self.random;
+        let text = match random.below(32) {
+            0..=8 => format!("plan{}", random.below(PLAN_NAMES)),
+            9 => format!("{INNER}/plan{}", random.below(2)),
+            10 | 11 => format!("kept{}", random.below(self.kept as u64 + 1)),
+            12..=15 => record_name(random.below(RECORD_FILES as u64) as usize),
+            16..=20 => torn_name(random.below(TORN_FILES as u64) as usize),
+            21 => good_name(random.below(GOOD_FILES as u64) as usize),
+            22..=24 => format!("again{}", random.below(12)),
+            25 => return random.pick(&ODD_NAMES).to_vec(),
+            _ => return self.load_name(),
         };
         text.into_bytes()
     }
@@ -616,6 +768,27 @@ impl Writer {
         line.into_bytes()
     }
 
+    /// Mostly of the function that has a plan, where one has.
+    fn record(&mut self) -> Vec<u8> {
+        let tag = match self.console.plan {
+            Some(plan) if self.random.chance(2, 3) => self.digits(plan.tag),
+            Some(plan) if self.random.chance(1, 4) => (self.random.pick(&[256, 65_536, 1 << 24]) + plan.tag).to_string(),
+            _ if self.random.chance(1, 4) => self.bad_tag(),
+            _ => self.tag(),
+        };
+        let name = self.plan_name();
+        match self.random.below(60) {
+            // the other way about
+            0 => [b"record ", &name[..], b" ", tag.as_bytes()].concat(),
+            _ => [b"record ", tag.as_bytes(), b" ", &name].concat(),
+        }
+    }
+
+    fn view(&mut self) -> Vec<u8> {
+        let reader: &[u8] = self.random.pick(&[b"report ", b"ring "]);
+        [reader, &self.view_name()].concat()
+    }
+
     /// What is no tag of the unit, or no number.
     fn bad_tag(&mut self) -> String {
         let (functions, _, _) = self.counts();
@@ -645,7 +818,7 @@ impl Writer {
     }
 
     fn command(&mut self) -> Vec<u8> {
-        match self.random.below(116) {
+        match self.random.below(126) {
             0..=22 => self.mark(),
             23..=29 => self.unmark(),
             30..=38 => self.about("search"),
@@ -672,7 +845,9 @@ impl Writer {
                     (self.argument(MOST_FUNCTIONS), self.argument(MOST_SEGMENTS), self.argument(MOST_COLUMNS));
                 format!("fresh {functions} {segments} {columns}").into_bytes()
             }
-            _ => self.loop_over(),
+            110..=115 => self.loop_over(),
+            116..=120 => self.record(),
+            _ => self.view(),
         }
     }
 
@@ -836,6 +1011,12 @@ impl Writer {
                 let count = self.random.pick(&[1, 2, 8, 9, 264]);
                 filled(format!("loop{} ", format!(" {tag}").repeat(count - 1)), tag.to_string())
             }
+            33 => filled("record ".to_string(), format!("{tag} plan1")),
+            34 | 35 => {
+                let name = format!("plan{}", self.random.below(PLAN_NAMES));
+                let begin = if form == 34 { format!("record {tag}") } else { self.random.pick(&["report", "ring"]).to_string() };
+                self.long_name_line(&begin, &name, length)
+            }
             // blanks in place of what is missing: in front, between, at the end
             _ => {
                 let mut blank = || self.random.pick(&[b' ', b' ', b'\t']);
@@ -851,6 +1032,7 @@ impl Writer {
                     28 => long(String::new(), "# a comment".to_string()),
                     29 => long("save".to_string(), "again1".to_string()),
                     32 => long(format!("loop {tag}"), tag.to_string()),
+                    36 => long(format!("record {tag}"), "plan1".to_string()),
                     _ => long(format!("\tvector {tag}"), "x".to_string()),
                 }
             }
@@ -895,7 +1077,7 @@ impl Writer {
     fn search_and_read(&mut self) {
         let tag = self.good_tag();
         self.put(format!("search {tag}"));
-        match self.random.below(20) {
+        match self.random.below(24) {
             0 => {
                 let line = self.refused_fresh();
                 self.put(line);
@@ -935,6 +1117,14 @@ impl Writer {
             }
             15 | 16 => {
                 let line = self.loop_over();
+                self.put(line);
+            }
+            17 | 18 => {
+                let line = self.record();
+                self.put(line);
+            }
+            19 => {
+                let line = self.view();
                 self.put(line);
             }
             _ => {}
@@ -983,6 +1173,87 @@ impl Writer {
         }
     }
 
+    /// A plan, or what was one, as a record, which is read back with what may come between.
+    fn records(&mut self) {
+        let tag = self.good_tag();
+        let name = self.plan_name();
+        let to = |begin: &str| [begin.as_bytes(), b" ", &name].concat();
+        if self.random.chance(5, 6) {
+            self.put(format!("search {tag}"));
+        }
+        match self.random.below(16) {
+            0 => {
+                let line = self.mark();
+                self.put(line);
+            }
+            // edits that leave the table as it is
+            1 => {
+                if let Some(Mark { tag, segment, column }) = self.standing() {
+                    self.put(format!("mark {tag} {segment} {column}"));
+                }
+            }
+            2 => {
+                let line = [b"un", &self.mark()[..]].concat();
+                self.put(line);
+            }
+            3 | 4 => {
+                let other = self.good_tag();
+                self.put(format!("search {other}"));
+            }
+            5 => self.put("read"),
+            6 => self.draw(tag),
+            7 => {
+                let line = self.between_starts();
+                self.put(line);
+            }
+            8 => self.put(format!("start {tag}")),
+            // a record that can't be written, and what is to be as it was before it
+            9 => {
+                let (name, seen) = (self.random.pick(&["missing/plan", INNER, "plan1/"]), self.random.pick(&["bank", "read"]));
+                self.put(format!("start {tag}"));
+                self.put(format!("record {tag} {name}"));
+                self.put(seen);
+            }
+            _ => {}
+        }
+        self.put(to(&format!("record {tag}")));
+        for _ in 0..self.random.between(1, 5) {
+            let line = match self.random.below(20) {
+                0..=4 => to("report"),
+                5..=9 => to("ring"),
+                10 | 11 => to("load"),
+                12 => to("save"),
+                13 => b"read".to_vec(),
+                14 => b"bank".to_vec(),
+                15 => self.record(),
+                16 => self.view(),
+                17 => to(&format!("record {}", self.good_tag())),
+                18 => self.unmark(),
+                _ => format!("search {tag}").into_bytes(),
+            };
+            self.put(line);
+        }
+        if self.random.chance(1, 2) {
+            self.put("read");
+        }
+    }
+
+    /// A record of the plan of each hard diagram, and of a plan of the longest latency.
+    fn hard_records(&mut self) {
+        let names: Vec<String> = (0..units::HARD.len()).map(good_name).chain([list_name(loops_check::HARD.len() - 1)]).collect();
+        for (place, name) in names.into_iter().enumerate() {
+            self.put(format!("load {name}"));
+            let tag = self.standing().map_or(1, |mark| mark.tag);
+            self.put(format!("search {tag}"));
+            self.put(format!("record {tag} hard{place}"));
+            for line in [format!("ring hard{place}"), format!("report hard{place}"), "read".to_string()] {
+                if self.random.chance(3, 4) {
+                    self.put(line);
+                }
+            }
+        }
+    }
+
     /// The hard lists, and a list of one tag for each hard diagram.
     fn hard_loops(&mut self) {
         for (place, (_, _, _, tags, _)) in loops_check::HARD.into_iter().enumerate() {
@@ -1027,7 +1298,7 @@ impl Writer {
         let (functions, segments, columns) = self.counts();
         let tag = self.good_tag();
         let edit = self.random.pick(&["mark", "unmark"]);
-        match self.random.below(29) {
+        match self.random.below(34) {
             0 => self.refused_fresh(),
             1 => format!("load {}", damaged_name(self.random.below(DAMAGED_FILES as u64) as usize)).into_bytes(),
             2 => self.fresh(),
@@ -1051,6 +1322,8 @@ impl Writer {
             23 => format!("search {tag}").into_bytes(),
             24 => format!("search {}", functions + 1).into_bytes(),
             25..=27 => self.loop_over(),
+            28..=30 => self.record(),
+            31 | 32 => self.view(),
             _ => b"tick".to_vec(),
         }
     }
@@ -1142,12 +1415,13 @@ impl Writer {
             if self.console.unit.as_ref().is_some_and(|unit| unit.marks.len() < 3) && self.random.chance(1, 3) {
                 self.marks();
             }
-            match self.random.below(64) {
+            match self.random.below(66) {
                 0..=5 => self.search_and_read(),
                 6 => self.questions(),
                 7 => self.events(),
                 8 => self.save_and_load(),
                 9 => self.loops(),
+                10 | 11 => self.records(),
                 _ => self.some_line(),
             }
         }
@@ -1214,6 +1488,7 @@ fn sessions(lines: usize, before: &Folder, console: Console<Folder>) -> (Script,
         }
     }
     writer.hard_loops();
+    writer.hard_records();
     while !writer.full() {
         writer.session();
     }
@@ -1229,7 +1504,7 @@ fn sessions(lines: usize, before: &Folder, console: Console<Folder>) -> (Script,
 /// A few lines that end in a special way.
 fn ending(place: usize, last: &[u8], newline: bool, before: &Folder, console: Console<Folder>) -> (Script, Console<Folder>) {
     let mut writer = Writer::new(seed_of(201, place as u64), 10, console.again(before.clone()));
-    for line in ["fresh 1 2 3", "mark 1 2 1", "mark 1 2 3"] {
+    for line in ["fresh 1 2 3", "mark 1 2 1", "mark 1 2 3", "search 1"] {
         writer.put_bare(line);
     }
     writer.put_bare(last);
@@ -1239,6 +1514,54 @@ fn ending(place: usize, last: &[u8], newline: bool, before: &Folder, console: Co
         script.met.push("a last line without a newline, its last byte a blank");
     }
     (script, console)
+}
+
+/// The name of the script about records.
+pub const RECORDS: &str = "the records";
+
+/// Every file of a folder full of records and damaged ones is shown to both readers, before the first unit and after it.
+fn records(console: Console<Folder>) -> (Script, Console<Folder>) {
+    let mut random = Random::new(seed_of(204, 0));
+    let files = all_records(&mut random);
+    let count = files.len();
+    let before = Folder { files: files.into_iter().enumerate().map(|(place, file)| (format!("r{place}").into_bytes(), file)).collect() };
+    let mut writer = Writer::new(seed_of(204, 1), usize::MAX, console.again(before.clone()));
+    let mut places: Vec<usize> = (0..count).collect();
+    for last in (1..count).rev() {
+        places.swap(last, random.below(last as u64 + 1) as usize);
+    }
+    for (time, place) in places.into_iter().enumerate() {
+        if time == count / 2 {
+            for line in ["fresh 2 3 5", "mark 1 1 1", "mark 1 1 4", "mark 2 2 2", "search 1", "start 1"] {
+                writer.put(line);
+            }
+        }
+        let mut readers = ["report", "ring"];
+        if random.chance(1, 2) {
+            readers.swap(0, 1);
+        }
+        for reader in readers {
+            writer.put(format!("{reader} r{place}"));
+        }
+        match random.below(24) {
+            // a file that no load takes leaves the session as it is
+            0 if decode_fails(&before, place) => writer.put(format!("load r{place}")),
+            1 => writer.put("read"),
+            2 => writer.put("bank"),
+            3 => writer.put("report missing"),
+            4 => writer.put(format!("ring {INNER}")),
+            _ => {}
+        }
+    }
+    writer.script(RECORDS, before)
+}
+
+/// Whether a file of this folder is no unit.
+fn decode_fails(folder: &Folder, place: usize) -> bool {
+    match folder.files.get(format!("r{place}").as_bytes()) {
+        Some(File::Bytes(bytes)) => decode(bytes).is_err(),
+        _ => true,
+    }
 }
 
 /// The scripts of a run: the long one, and short ones, each for a new process.
@@ -1264,7 +1587,7 @@ pub fn scripts(lines: usize) -> Vec<Script> {
     let command = format!("vector {}1", "0".repeat(LONGEST_LINE - 8));
     let returned = format!("vector {}1\r", "0".repeat(LONGEST_LINE - 9));
     let too_long = format!("{command}\r");
-    let lasts: [&[u8]; 26] = [
+    let lasts: [&[u8]; 29] = [
         b"",
         b"table 1",
         b"tick",
@@ -1284,6 +1607,9 @@ pub fn scripts(lines: usize) -> Vec<Script> {
         b"tick\r\r",
         b"save out",
         b"save out\r",
+        b"record 1 out",
+        b"record 1 out\r",
+        b"report out ",
         command.as_bytes(),
         returned.as_bytes(),
         too_long.as_bytes(),
@@ -1311,6 +1637,7 @@ pub fn scripts(lines: usize) -> Vec<Script> {
         }
         let returns = writer.returns;
         let (mut script, after) = writer.script(&format!("short script {place}"), before.clone());
+        script.leave_out();
         if returns {
             script.met.push("a script of lines that all end in a carriage return");
         }
@@ -1327,5 +1654,7 @@ pub fn scripts(lines: usize) -> Vec<Script> {
         }
         keep((script, after), &mut console);
     }
+    let made = records(take(&mut console));
+    keep(made, &mut console);
     scripts
 }

@@ -22,29 +22,34 @@ mod loops_check;
 mod model;
 mod model_check;
 mod random;
+mod record_files;
+mod records;
+mod records_check;
 mod sheet;
 mod tally;
 mod units;
 
 use console_check::{check, Counts, Difference, Run};
-use console_faults::{Faulty, FAULTS};
-use console_folder::{store, Disk, File, Folder, Shelf, PART};
+use console_faults::{Fault, Faulty, FAULTS, RECORD_FAULTS};
+use console_folder::{store, Content, File, Folder, Shelf, HEAD, PART};
 use console_model::*;
 use console_outside::{cases, Outcome, Program};
 use console_program::{Ending, Place};
-use console_script::{scripts, Feed, Line, Script, LINES};
+use console_script::{scripts, Feed, Line, Script, LINES, RECORDS};
 use console_words::{one_turn, plan_drawing, Filler, Finder};
 use loops::Loops;
 use model::*;
 use random::{seed_of, Random};
-use std::collections::BTreeMap;
+use std::cell::RefCell;
+use std::collections::{BTreeMap, HashSet};
 use std::ffi::{OsStr, OsString};
 use std::fs::{self, OpenOptions};
-use std::io::{self, BufRead, Write};
+use std::io::{self, BufRead, Read, Write};
 use std::os::fd::AsFd;
 use std::os::unix::ffi::OsStrExt;
 use std::path::Path;
 use std::process::{exit, Command};
+use std::rc::Rc;
 use std::time::Duration;
 
 // ---------------------------------------------------------------------------------------------------------------------------------
@@ -62,13 +67,63 @@ enum Unwritten {
     HoldsBack,
 }
 
+/// Puts answers into words and records into bytes, by the same choice of best cycles.
+struct Choice {
+    filler: Filler,
+    random: Random,
+}
+
+/// Writes a file, and answers whether it is written.
+type Store = fn(&OsStr, &[u8]) -> bool;
+/// The first bytes of a file, where there is one.
+type Fetch = fn(&OsStr) -> Option<Vec<u8>>;
+
+/// The files of the system, in the folder that the process is in, with a way of writing and a way of reading them.
+struct Disk {
+    store: Store,
+    fetch: Fetch,
+    choice: Rc<RefCell<Choice>>,
+}
+
+impl Shelf for Disk {
+    fn load(&self, name: &[u8]) -> Option<Content> {
+        (self.fetch)(OsStr::from_bytes(name)).map(Content::Bytes)
+    }
+
+    fn save(&mut self, name: &[u8], content: &Content) -> bool {
+        let bytes = match content {
+            Content::Bytes(bytes) => bytes.clone(),
+            Content::Record(planned) => {
+                let Choice { filler, random } = &mut *self.choice.borrow_mut();
+                filler.record(planned, random)
+            }
+        };
+        (self.store)(OsStr::from_bytes(name), &bytes)
+    }
+
+    fn length(&self, name: &[u8]) -> Option<u64> {
+        fs::metadata(OsStr::from_bytes(name)).ok().map(|about| about.len())
+    }
+
+    fn special(&self, _: &[u8]) -> Vec<[&'static str; 2]> {
+        Vec::new()
+    }
+}
+
+fn fetch(name: &OsStr) -> Option<Vec<u8>> {
+    let mut head = Vec::new();
+    fs::File::open(name).ok()?.take(HEAD as u64).read_to_end(&mut head).ok()?;
+    Some(head)
+}
+
 /// A stand-in for the program: the model's answers to the lines of standard input, with the files of the system. It shows that the test
 /// takes the system's files for what they are, and that a right program passes.
-fn stand_in(shelf: impl Shelf, unwritten: Unwritten) -> io::Result<()> {
+fn stand_in(store: Store, fetch: Fetch, unwritten: Unwritten) -> io::Result<()> {
     let mut input = io::stdin().lock();
     // each answer is written by itself
     let mut output = fs::File::from(io::stdout().as_fd().try_clone_to_owned()?);
-    let (mut console, mut filler, mut random) = (Console::new(shelf), Filler::default(), Random::new(seed_of(208, 0)));
+    let choice = Rc::new(RefCell::new(Choice { filler: Filler::default(), random: Random::new(seed_of(208, 0)) }));
+    let mut console = Console::new(Disk { store, fetch, choice: choice.clone() });
     let mut line = Vec::new();
     let mut held = Vec::new();
     for place in 1.. {
@@ -77,7 +132,8 @@ fn stand_in(shelf: impl Shelf, unwritten: Unwritten) -> io::Result<()> {
             break;
         }
         let answer = console.answer(line.strip_suffix(b"\n").unwrap_or(&line), place);
-        let text = filler.text(&answer, &mut random);
+        let Choice { filler, random } = &mut *choice.borrow_mut();
+        let text = filler.text(&answer, random);
         if unwritten == Unwritten::HoldsBack {
             held.extend_from_slice(text.as_bytes());
         } else if let Err(error) = output.write_all(text.as_bytes()) {
@@ -103,7 +159,8 @@ impl Fake {
     fn new(script: &Script, random: &mut Random) -> Fake {
         let mut filler = Filler::default();
         let answers = script.lines.iter().map(|line| filler.text(&line.answer, random)).collect();
-        Fake { answers, tail: String::new(), ending: Ending::Status(0), folder: script.after.clone() }
+        let folder = filler.folder(&script.after, random);
+        Fake { answers, tail: String::new(), ending: Ending::Status(0), folder }
     }
 
     fn run(&self) -> Run {
@@ -203,8 +260,9 @@ impl Spoiler<'_> {
 
     /// A file that a save wrote.
     fn saved_file(&self) -> Option<Vec<u8>> {
-        let new = |name: &&Vec<u8>| self.script.before.files.get(*name) != self.script.after.files.get(*name);
-        self.script.after.files.keys().find(new).cloned()
+        let Script { before, after, .. } = self.script;
+        let new = |(name, file): &(&Vec<u8>, &File)| matches!(file, File::Bytes(_)) && before.files.get(*name) != Some(*file);
+        after.files.iter().find(new).map(|(name, _)| name.clone())
     }
 
     fn change_file(&mut self, edit: impl Fn(&mut Vec<u8>)) -> Placed {
@@ -217,6 +275,86 @@ impl Spoiler<'_> {
 
     fn end(&self) -> Placed {
         Some(self.script.lines.len() + 1)
+    }
+
+    /// What is shown of the record of a plan, in place of the right list or ring, from its function and the plan's latencies.
+    fn change_view(&mut self, name: &str, edit: impl Fn(&Drawn, Vec<u8>) -> Option<String>) -> Placed {
+        self.change(|line, text, _, _| {
+            let [Part::Text(begin), Part::List(planned) | Part::Ring(planned), _] = &line.answer.parts[..] else { return None };
+            if !matches!(&line.answer.sort, Sort::Of(command, _) if *command == name) {
+                return None;
+            }
+            let shown = text.strip_prefix(begin.as_str())?.trim_end();
+            let latencies = match shown.split_once(" ring ") {
+                Some((_, ring)) => records::latencies_of(&ring.chars().map(|bit| bit == '1').collect::<Vec<bool>>())?,
+                None => shown.split_once(" list ")?.1.split(' ').map(|word| word.parse().expect("a latency")).collect(),
+            };
+            Some(format!("{begin}{}\n", edit(&planned.drawn, latencies)?))
+        })
+    }
+
+    /// A record that was written, changed from its bytes: any whose change makes it another file.
+    fn change_record(&mut self, edit: impl Fn(&Planned, &[u8], &mut Finder, &mut Random) -> Option<Vec<u8>>) -> Placed {
+        let planned = |(name, file): (&Vec<u8>, &File)| match file {
+            File::Record(planned) => Some((name.clone(), planned.clone())),
+            _ => None,
+        };
+        let mut records: Vec<(Vec<u8>, Planned)> = self.script.after.files.iter().filter_map(planned).collect();
+        let begin = self.random.below(records.len() as u64) as usize;
+        records.rotate_left(begin);
+        for (name, planned) in records {
+            let Some(File::Bytes(bytes)) = self.fake.folder.files.get_mut(&name) else { continue };
+            match edit(&planned, bytes, &mut self.finder, &mut self.random) {
+                Some(other) if other != *bytes => {
+                    *bytes = other;
+                    return self.end();
+                }
+                _ => {}
+            }
+        }
+        None
+    }
+
+    /// The same where the other file is the record of another cycle.
+    fn change_recorded(&mut self, edit: impl Fn(&Drawn, Vec<u8>) -> Option<Vec<u8>>) -> Placed {
+        self.change_record(|planned, bytes, _, _| {
+            let list = records::written_again(bytes).expect("a record");
+            Some(records::laid_out(&edit(&planned.drawn, list)?))
+        })
+    }
+
+    /// The searches whose plans the answers show.
+    fn shown(&self) -> HashSet<usize> {
+        let parts = self.script.lines.iter().flat_map(|line| &line.answer.parts);
+        parts
+            .filter_map(|part| match part {
+                Part::Plan(search, _) | Part::Drawing(search, _, _) => Some(*search),
+                Part::List(planned) | Part::Ring(planned) => Some(planned.search),
+                Part::Text(_) | Part::Best(_) | Part::Loop(_) => None,
+            })
+            .collect()
+    }
+}
+
+/// What `report` shows of a cycle, and what `ring` does.
+fn list_shown(latencies: &[u8]) -> String {
+    records::list_text(latencies.len(), latencies)
+}
+
+fn ring_shown(latencies: &[u8]) -> String {
+    records::ring_text(sum_of(latencies) as usize, &records::ring_of(latencies))
+}
+
+fn rotated(mut latencies: Vec<u8>) -> Vec<u8> {
+    latencies.rotate_left(1);
+    latencies
+}
+
+/// The text with another ring, of the same sum or of the one that goes with it.
+fn with_ring(text: &str, change: impl Fn(&str) -> String) -> String {
+    match text.split_once(" ring ") {
+        Some((begin, ring)) => format!("{begin} ring {}\n", change(ring.trim_end())),
+        None => text.to_string(),
     }
 }
 
@@ -251,7 +389,7 @@ fn worse(drawn: &Drawn, latencies: &[u8]) -> bool {
 
 type Wrong = (&'static str, fn(&mut Spoiler) -> Placed);
 
-const WRONG: [Wrong; 95] = [
+const WRONG: [Wrong; 160] = [
     ("mark: ok in place of refused 2", |it| it.change_of("mark", "refused 2", |_| "ok\n".to_string())),
     ("mark: refused 3 in place of refused 4", |it| it.change_of("mark", "refused 4", |_| "refused 3\n".to_string())),
     ("unmark: refused 2 in place of ok", |it| it.change_of("unmark", "ok", |_| "refused 2\n".to_string())),
@@ -446,6 +584,183 @@ const WRONG: [Wrong; 95] = [
     }),
     ("loop: refused 2 in place of what was expected", |it| it.change_of("loop", "line", |_| "refused 2\n".to_string())),
     ("loop: one tag alone was expected", |it| it.change_of("loop", "line", |text| text.replace("loop Q Q ..", "loop Q"))),
+    ("record: ok in place of refused 8", |it| it.change_of("record", "refused 8", |_| "ok\n".to_string())),
+    ("record: ok in place of refused 2", |it| it.change_of("record", "refused 2", |_| "ok\n".to_string())),
+    ("record: refused 2 in place of refused 8", |it| it.change_of("record", "refused 8", |_| "refused 2\n".to_string())),
+    ("record: refused 8 in place of refused 2", |it| it.change_of("record", "refused 2", |_| "refused 8\n".to_string())),
+    ("record: refused 8 in place of ok", |it| it.change_of("record", "ok", |_| "refused 8\n".to_string())),
+    ("record: refused 15 in place of ok", |it| it.change_of("record", "ok", |_| "refused 15\n".to_string())),
+    ("record: not written in place of ok", |it| it.change_of("record", "ok", |_| "not written\n".to_string())),
+    ("record: ok in place of not written", |it| it.change_of("record", "not written", |_| "ok\n".to_string())),
+    ("record: no file in place of not written", |it| it.change_of("record", "not written", |_| "no file\n".to_string())),
+    ("record: a file alone was expected", |it| it.change_of("record", "line", |text| text.replace("record Q FILE", "record FILE"))),
+    ("record: ok in place of what was expected", |it| it.change_of("record", "line", |_| "ok\n".to_string())),
+    ("report: a name alone was expected", |it| it.change_of("report", "line", |text| text.replace("report FILE", "report"))),
+    ("ring: a number too was expected", |it| it.change_of("ring", "line", |text| text.replace("ring FILE", "ring Q FILE"))),
+    ("report: refused 15 in place of no file", |it| it.change_of("report", "no file", |_| "refused 15\n".to_string())),
+    ("ring: no file in place of refused 15", |it| it.change_of("ring", "refused 15", |_| "no file\n".to_string())),
+    ("report: a list in place of refused 15", |it| it.change_of("report", "refused 15", |_| "count 2 list 3 4\n".to_string())),
+    ("ring: a ring in place of refused 15", |it| it.change_of("ring", "refused 15", |_| "sum 7 ring 0110111\n".to_string())),
+    ("report: refused 15 in place of a list", |it| it.change_of("report", "count", |_| "refused 15\n".to_string())),
+    ("ring: refused 15 in place of a ring", |it| it.change_of("ring", "sum", |_| "refused 15\n".to_string())),
+    ("report: the last latency is another", |it| it.change_of("report", "count", next_digit)),
+    ("report: a sum at the end", |it| it.change_of("report", "count", |text| text.replace('\n', " sum 7\n"))),
+    ("report: a plan's line", |it| it.change_of("report", "count", |text| text.replacen("count", "plan", 1))),
+    ("report: commas", |it| {
+        it.change(|line, text, _, _| {
+            let (begin, list) = text.split_once(" list ")?;
+            (line.bytes.starts_with(b"report") && list.contains(' ')).then(|| format!("{begin} list {}", list.replace(' ', ", ")))
+        })
+    }),
+    ("report: K is one more", |it| it.change_view("report", |_, latencies| Some(records::list_text(latencies.len() + 1, &latencies)))),
+    ("report: a latency is left out", |it| it.change_view("report", |_, latencies| Some(list_shown(&latencies[1..])))),
+    ("report: latencies are one less", |it| {
+        it.change_view("report", |_, latencies| Some(list_shown(&latencies.iter().map(|latency| latency - 1).collect::<Vec<u8>>())))
+    }),
+    ("report: a zero in front of K", |it| it.change_view("report", |_, latencies| Some(format!("0{}", list_shown(&latencies))))),
+    ("report: two spaces", |it| it.change_view("report", |_, latencies| Some(list_shown(&latencies).replacen(' ', "  ", 1)))),
+    ("report: another rotation", |it| it.change_view("report", |_, latencies| Some(list_shown(&rotated(latencies))))),
+    ("report: twice around", |it| it.change_view("report", |_, latencies| Some(list_shown(&latencies.repeat(2))))),
+    ("report: the greedy cycle, which is not the best", |it| {
+        it.change_view("report", |drawn, _| worse(drawn, &drawn.graph.greedy).then(|| list_shown(&drawn.graph.greedy)))
+    }),
+    ("report: another best cycle than before", |it| {
+        it.change(|line, _, finder, random| {
+            let [Part::Text(begin), Part::List(planned), _] = &line.answer.parts[..] else { return None };
+            let is_known = line.answer.met.contains(&"report: a record of a plan that was shown before");
+            is_known.then(|| format!("{begin}{}\n", list_shown(&finder.best(&planned.drawn.graph, random))))
+        })
+    }),
+    ("ring: the bits in reverse", |it| it.change_of("ring", "sum", |text| with_ring(text, |ring| ring.chars().rev().collect()))),
+    ("ring: a 1 for a start", |it| {
+        let other = |bit| if bit == '0' { '1' } else { '0' };
+        it.change_of("ring", "sum", |text| with_ring(text, |ring| ring.chars().map(other).collect()))
+    }),
+    ("ring: a bit too many", |it| it.change_of("ring", "sum", |text| with_ring(text, |ring| format!("{ring}1")))),
+    ("ring: a bit too few", |it| it.change_of("ring", "sum", |text| with_ring(text, |ring| ring[1..].to_string()))),
+    ("ring: a bit the other way", |it| {
+        it.change_of("ring", "sum", |text| {
+            with_ring(text, |ring| if ring.contains('1') { ring.replacen('1', "0", 1) } else { "1".repeat(ring.len()) })
+        })
+    }),
+    ("ring: spaces between the bits", |it| {
+        it.change(|line, text, _, _| {
+            let spaced = |ring: &str| ring.chars().map(|bit| bit.to_string()).collect::<Vec<_>>().join(" ");
+            (line.bytes.starts_with(b"ring") && text.starts_with("sum")).then(|| with_ring(text, spaced))
+        })
+    }),
+    ("ring: the sum is another", |it| it.change_view("ring", |_, latencies| Some(ring_shown(&latencies).replacen(" ring", "0 ring", 1)))),
+    ("ring: the sum and the ring are one more", |it| {
+        it.change_view("ring", |_, mut latencies| {
+            *latencies.last_mut()? += 1;
+            Some(ring_shown(&latencies))
+        })
+    }),
+    ("ring: no bits", |it| it.change_view("ring", |_, _| Some("0 ring ".to_string()))),
+    ("ring: another rotation", |it| it.change_view("ring", |_, latencies| Some(ring_shown(&rotated(latencies))))),
+    ("ring: twice around", |it| it.change_view("ring", |_, latencies| Some(ring_shown(&latencies.repeat(2))))),
+    ("ring: the greedy cycle, which is not the best", |it| {
+        it.change_view("ring", |drawn, _| worse(drawn, &drawn.graph.greedy).then(|| ring_shown(&drawn.graph.greedy)))
+    }),
+    ("ring: another best cycle than before", |it| {
+        it.change(|line, _, finder, random| {
+            let [Part::Text(begin), Part::Ring(planned), _] = &line.answer.parts[..] else { return None };
+            let is_known = line.answer.met.contains(&"ring: a record of a plan that was shown before");
+            is_known.then(|| format!("{begin}{}\n", ring_shown(&finder.best(&planned.drawn.graph, random))))
+        })
+    }),
+    ("a record that was written has its spare bits 0", |it| {
+        it.change_record(|_, bytes, _, _| {
+            let mut other = bytes.to_vec();
+            *other.last_mut()? &= ((1u16 << (records::field(bytes, 1) % 8)) - 1) as u8;
+            (records::field(bytes, 1) % 8 > 0).then_some(other)
+        })
+    }),
+    ("a record that was written has its last spare bit 0", |it| {
+        it.change_record(|_, bytes, _, _| {
+            let mut other = bytes.to_vec();
+            *other.last_mut()? &= 127;
+            (records::field(bytes, 1) % 8 > 0).then_some(other)
+        })
+    }),
+    ("a record that was written has a bit of its ring the other way", |it| {
+        it.change_record(|_, bytes, _, _| {
+            let mut other = bytes.to_vec();
+            other[records::LIST + records::field(bytes, 0)] ^= 1;
+            Some(other)
+        })
+    }),
+    ("a record that was written has the bits of its ring in reverse", |it| {
+        it.change_record(|_, bytes, _, _| {
+            let (begin, ring) = bytes.split_at(records::LIST + records::field(bytes, 0));
+            Some([begin, &ring.iter().map(|byte| byte.reverse_bits()).collect::<Vec<u8>>()].concat())
+        })
+    }),
+    ("a record that was written has 1s for its starts", |it| {
+        it.change_record(|_, bytes, _, _| {
+            let (begin, ring) = bytes.split_at(records::LIST + records::field(bytes, 0));
+            Some([begin, &ring.iter().map(|byte| !byte).collect::<Vec<u8>>()].concat())
+        })
+    }),
+    ("a record that was written has its list off by one", |it| {
+        it.change_record(|_, bytes, _, _| {
+            let mut other = bytes.to_vec();
+            other[records::LIST..records::LIST + records::field(bytes, 0)].iter_mut().for_each(|latency| *latency -= 1);
+            Some(other)
+        })
+    }),
+    ("a record that was written has the higher byte of its fields first", |it| {
+        it.change_record(|_, bytes, _, _| {
+            let mut other = bytes.to_vec();
+            other[..records::LIST].chunks_mut(2).for_each(|pair| pair.swap(0, 1));
+            Some(other)
+        })
+    }),
+    ("a record that was written has another sum", |it| {
+        it.change_record(|_, bytes, _, _| {
+            let mut other = bytes.to_vec();
+            other[2] ^= 1;
+            Some(other)
+        })
+    }),
+    ("a record that was written has another offset of its ring", |it| {
+        it.change_record(|_, bytes, _, _| {
+            let mut other = bytes.to_vec();
+            other[6] = 8;
+            Some(other)
+        })
+    }),
+    ("a record that was written has a byte after its end", |it| it.change_record(|_, bytes, _, _| Some([bytes, &[255]].concat()))),
+    ("a record that was written is cut off", |it| it.change_record(|_, bytes, _, _| Some(bytes[..bytes.len() - 1].to_vec()))),
+    ("a record that was written is empty", |it| it.change_record(|_, _, _, _| Some(Vec::new()))),
+    ("a record that was written is the cycle's list alone", |it| it.change_record(|_, bytes, _, _| records::written_again(bytes).ok())),
+    ("a record that was written is another rotation's", |it| it.change_recorded(|_, latencies| Some(rotated(latencies)))),
+    ("a record that was written goes twice around", |it| it.change_recorded(|_, latencies| Some(latencies.repeat(2)))),
+    ("a record that was written is the greedy cycle's, which is not the best", |it| {
+        it.change_recorded(|drawn, _| worse(drawn, &drawn.graph.greedy).then(|| drawn.graph.greedy.clone()))
+    }),
+    ("a record that was written is the one of (n + 1), which is not the best", |it| {
+        it.change_recorded(|drawn, _| {
+            let cycle = vec![drawn.graph.diagram.states[0].len() as u8 + 1];
+            worse(drawn, &cycle).then_some(cycle)
+        })
+    }),
+    ("a record that was written is of another best cycle than the plan's", |it| {
+        let shown = it.shown();
+        it.change_record(|planned, _, finder, random| {
+            shown.contains(&planned.search).then(|| records::laid_out(&finder.best(&planned.drawn.graph, random)))
+        })
+    }),
+    ("a record that was written is not there", |it| {
+        let name = it.script.after.files.iter().find(|(_, file)| matches!(file, File::Record(_)))?.0.clone();
+        it.fake.folder.files.remove(&name);
+        it.end()
+    }),
+    ("a record that was written is a unit file", |it| {
+        let unit = it.fake.folder.files.get(&b"unit30"[..])?.clone();
+        let File::Bytes(unit) = unit else { return None };
+        it.change_record(|_, _, _, _| Some(unit.clone()))
+    }),
     ("line N: one more", |it| {
         it.change(|_, text, _, _| {
             let (number, rest) = text.strip_prefix("line ")?.split_once(':')?;
@@ -587,28 +902,29 @@ fn try_programs(script: &Script, right: &Run) -> Result<(), String> {
     Ok(())
 }
 
-/// A console with a fault, on the long script: on its first lines, and on all of it where these don't show the fault.
-fn try_fault(script: &Script, fault: usize, console: Console<Folder>) -> Result<(String, Console<Folder>), String> {
-    let (what, answer) = FAULTS[fault];
+/// A console with a fault: on the first lines of the script, and on all of it where these don't show the fault.
+fn try_fault(script: &Script, (what, answer): &(&str, Fault), console: Console<Folder>) -> Result<(String, Console<Folder>), String> {
     let mut console = console;
     for count in [2_000, 20_000, script.lines.len()] {
+        let count = count.min(script.lines.len());
         let mut faulty = Faulty::new(console.again(script.before.clone()));
-        let (mut filler, mut random) = (Filler::default(), Random::new(fault as u64));
+        let (mut filler, mut random) = (Filler::default(), Random::new(what.len() as u64));
         let mut output = Vec::new();
         for (place, line) in (1..).zip(&script.lines[..count]) {
             output.extend_from_slice(filler.text(&answer(&mut faulty, &line.bytes, place), &mut random).as_bytes());
         }
-        let run = Run { output, ending: Ending::Status(0), unanswered: None, folder: faulty.console.shelf.clone() };
+        let folder = filler.folder(&faulty.console.shelf, &mut random);
+        let run = Run { output, ending: Ending::Status(0), unanswered: None, folder };
         console = faulty.console;
         match check(script, &run, &mut Counts::default()) {
             // after so many lines the output has to end
             Err(difference) if difference.line <= count || count == script.lines.len() => {
-                return Ok((format!("reported at line {}: {what}", difference.line), console));
+                return Ok((format!("reported at line {} of {}: {what}", difference.line, script.name), console));
             }
             _ => {}
         }
     }
-    Err(format!("selftest: NOT REPORTED in {} lines: {what}", script.lines.len()))
+    Err(format!("selftest: NOT REPORTED in {} lines of {}: {what}", script.lines.len(), script.name))
 }
 
 /// A program whose answers come when its input has ended.
@@ -642,30 +958,6 @@ fn try_stand_in(whole: &[Script]) -> Result<(), String> {
 
 // ---------------------------------------------------------------------------------------------------------------------------------
 // Files and output from outside
-
-/// Writes a file, and answers whether it is written.
-type Store = fn(&OsStr, &[u8]) -> bool;
-
-/// The system's files, with a way of writing them.
-struct Writing(Store);
-
-impl Shelf for Writing {
-    fn load(&self, name: &[u8]) -> Option<Reply<Unit>> {
-        Disk.load(name)
-    }
-
-    fn save(&mut self, name: &[u8], unit: &Unit) -> bool {
-        self.0(OsStr::from_bytes(name), &encode(unit))
-    }
-
-    fn length(&self, name: &[u8]) -> Option<u64> {
-        Disk.length(name)
-    }
-
-    fn special(&self, name: &[u8]) -> Vec<&'static str> {
-        Disk.special(name)
-    }
-}
 
 fn part_of(name: &OsStr) -> OsString {
     let mut part = name.to_os_string();
@@ -769,6 +1061,12 @@ const WRONG_STORES: [(&str, Store); 17] = [
     }),
 ];
 
+/// Programs that read files in a wrong way.
+const WRONG_FETCHES: [(&str, Fetch); 1] = [("takes a file that can't be read for an empty one", |name| {
+    let is_file = fs::metadata(name).is_ok_and(|about| about.is_file());
+    fetch(name).or(is_file.then(Vec::new))
+})];
+
 /// Programs that do something wrong where an answer can't be written.
 const WRONG_OUTPUTS: [(&str, Unwritten); 3] = [
     ("goes on where an answer can't be written", Unwritten::GoesOn),
@@ -778,9 +1076,12 @@ const WRONG_OUTPUTS: [(&str, Unwritten); 3] = [
 
 /// The stand-in with what is wrong of this number.
 fn wrong_stand_in(number: usize) -> io::Result<()> {
-    match WRONG_STORES.get(number) {
-        Some((_, store)) => stand_in(Writing(*store), Unwritten::Stops),
-        None => stand_in(Disk, WRONG_OUTPUTS[number - WRONG_STORES.len()].1),
+    if let Some((_, store)) = WRONG_STORES.get(number) {
+        return stand_in(*store, fetch, Unwritten::Stops);
+    }
+    match WRONG_FETCHES.get(number - WRONG_STORES.len()) {
+        Some((_, fetch)) => stand_in(store, *fetch, Unwritten::Stops),
+        None => stand_in(store, fetch, WRONG_OUTPUTS[number - WRONG_STORES.len() - WRONG_FETCHES.len()].1),
     }
 }
 
@@ -788,8 +1089,8 @@ fn wrong_stand_in(number: usize) -> io::Result<()> {
 /// special cases that were met.
 fn try_outside() -> Result<Vec<&'static str>, String> {
     let this = std::env::current_exe().map_err(|error| error.to_string())?;
-    let stores = WRONG_STORES.iter().map(|(what, _)| *what);
-    let names: Vec<&str> = stores.chain(WRONG_OUTPUTS.iter().map(|(what, _)| *what)).collect();
+    let files = WRONG_STORES.iter().map(|(what, _)| *what).chain(WRONG_FETCHES.iter().map(|(what, _)| *what));
+    let names: Vec<&str> = files.chain(WRONG_OUTPUTS.iter().map(|(what, _)| *what)).collect();
     let mut programs: Vec<(&str, Program)> = vec![("is right", Program::new(&this, &["stand-in"]))];
     for (number, what) in names.into_iter().enumerate() {
         programs.push((what, Program::new(&this, &["stand-in", &number.to_string()])));
@@ -872,12 +1173,15 @@ fn run(lines: usize) -> Result<(), String> {
     println!("selftest: {tried} sorts of wrong outputs, each made {TIMES} times, and every one is reported");
 
     let mut console = Console::new(Folder::default());
-    for fault in 0..FAULTS.len() {
-        let (told, after) = try_fault(&whole[0], fault, console)?;
-        println!("selftest: {told}");
-        console = after;
+    let about_records = whole.iter().find(|script| script.name == RECORDS).expect("the script about records");
+    for (script, faults) in [(&whole[0], FAULTS), (about_records, RECORD_FAULTS)] {
+        for fault in faults {
+            let (told, after) = try_fault(script, fault, console)?;
+            println!("selftest: {told}");
+            console = after;
+        }
     }
-    println!("selftest: {} consoles with a fault, and every one is reported", FAULTS.len());
+    println!("selftest: {} consoles with a fault, and every one is reported", FAULTS.len() + RECORD_FAULTS.len());
     Ok(())
 }
 
@@ -886,7 +1190,7 @@ fn main() {
     let done = match arguments.iter().map(|word| word.as_str()).collect::<Vec<_>>()[..] {
         [] => run(LINES),
         // where its output can't be written, nothing can be told there
-        ["stand-in"] => stand_in(Disk, Unwritten::Stops).or_else(|_| exit(1)),
+        ["stand-in"] => stand_in(store, fetch, Unwritten::Stops).or_else(|_| exit(1)),
         ["stand-in", number] => wrong_stand_in(number.parse().expect("a number")).or_else(|_| exit(1)),
         _ => Err("console_selftest [stand-in [WRONG]]".to_string()),
     };

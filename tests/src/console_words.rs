@@ -1,9 +1,11 @@
-//! Answers put into words, with best cycles and loops of the model's own.
+//! Answers put into words and records into bytes, with best cycles and loops of the model's own.
 
+use crate::console_folder::{File, Folder};
 use crate::console_model::*;
 use crate::loops::Loops;
 use crate::model::*;
 use crate::random::Random;
+use crate::records;
 use std::collections::HashMap;
 
 /// Best cycles of a diagram and best loops of a list, any of them.
@@ -127,16 +129,42 @@ pub struct Filler {
 
 impl Filler {
     pub fn text(&mut self, answer: &Answer, random: &mut Random) -> String {
-        let Filler { finder, plans } = self;
         let in_words = |part: &Part| match part {
             Part::Text(text) => text.clone(),
-            Part::Best(drawn) => cycle_text(&finder.best(&drawn.graph, random)),
-            Part::Loop(loops) => cycle_text(&finder.best_loop(loops, random)),
-            Part::Plan(search, drawn) => cycle_text(plans.entry(*search).or_insert_with(|| finder.best(&drawn.graph, random))),
-            Part::Drawing(search, tag, drawn) => {
-                plan_drawing(*tag, drawn, plans.entry(*search).or_insert_with(|| finder.best(&drawn.graph, random)))
+            Part::Best(drawn) => cycle_text(&self.finder.best(&drawn.graph, random)),
+            Part::Loop(loops) => cycle_text(&self.finder.best_loop(loops, random)),
+            Part::Plan(search, drawn) => cycle_text(self.plan(*search, drawn, random)),
+            Part::Drawing(search, tag, drawn) => plan_drawing(*tag, drawn, self.plan(*search, drawn, random)),
+            Part::List(planned) => {
+                let latencies = self.plan(planned.search, &planned.drawn, random);
+                records::list_text(latencies.len(), latencies)
+            }
+            Part::Ring(planned) => {
+                let latencies = self.plan(planned.search, &planned.drawn, random);
+                records::ring_text(sum_of(latencies) as usize, &records::ring_of(latencies))
             }
         };
         answer.parts.iter().map(in_words).collect()
+    }
+
+    fn plan(&mut self, search: usize, drawn: &Drawn, random: &mut Random) -> &[u8] {
+        let Filler { finder, plans } = self;
+        plans.entry(search).or_insert_with(|| finder.best(&drawn.graph, random))
+    }
+
+    /// The bytes of a plan's record.
+    pub fn record(&mut self, planned: &Planned, random: &mut Random) -> Vec<u8> {
+        records::record_of(self.plan(planned.search, &planned.drawn, random)).expect("a best cycle has a record")
+    }
+
+    /// The folder as it is found after a run: records with their bytes.
+    pub fn folder(&mut self, folder: &Folder, random: &mut Random) -> Folder {
+        let mut found = folder.clone();
+        for file in found.files.values_mut() {
+            if let File::Record(planned) = file {
+                *file = File::Bytes(self.record(planned, random));
+            }
+        }
+        found
     }
 }

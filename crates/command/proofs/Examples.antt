@@ -3,18 +3,19 @@ use mathlib.Core.Path.{_≡_, refl}
 use mathlib.Core.Bool.{true, false}
 use mathlib.Core.List.{[], _∷_}
 use Prim.Native.Nat.{ℕ}
-use Rattle.text.specs.Text.{ascii, value}
+use Rattle.text.specs.Text.{ascii, value, same}
 use Rattle.command_table.specs.declared.Act.the-variants as Act
 use Rattle.command_table.specs.declared.Ask.the-variants as Ask
 use Rattle.command_table.specs.declared.Show.the-variants as Show
+use Rattle.command_table.specs.declared.View.the-variants as View
 use Rattle.command_table.specs.declared.Verb.{Verb}
 use Rattle.command_table.specs.declared.Verb.the-variants as Verb
 use Rattle.command_table.specs.declared.Form.the-variants as Form
-use Rattle.command_table.specs.Commands.{rowAt, nameAt, same, among, commandOf}
+use Rattle.command_table.specs.Commands.{rowAt, nameAt, among, commandOf}
 use Rattle.command.specs.declared.Trouble.the-variants as Trouble
 use Rattle.command.specs.declared.Parsed.{Parsed}
 use Rattle.command.specs.declared.Parsed.the-variants as Parsed
-use Rattle.command.specs.Lines.{textOf, partsOf, wordsOf, digitsOnly, isNumber, numberSaid, allNumbers, fits, said, meaning, latenciesIn, tagsIn, fileIn}
+use Rattle.command.specs.Lines.{textOf, partsOf, wordsOf, digitsOnly, isNumber, numberSaid, allNumbers, fits, said, meaning, latenciesIn, tagsIn, wordIn}
 
 abbrev command : Verb → ℕ → ℕ → ℕ → ℕ → Parsed
 command v count first second third = Parsed.Command (record { verb = v; count = count; first = first; second = second; third = third })
@@ -95,6 +96,30 @@ pub two-files : meaning (ascii "save a b") ≡ Parsed.Bad (Trouble.Usage 17)
 unfolding meaning textOf said wordsOf partsOf commandOf among same nameAt rowAt allNumbers isNumber digitsOnly numberSaid value
 two-files = refl
 
+pub a-record : meaning (ascii "record 1 plan") ≡ command (Verb.Show Show.Record) 2 1 0 0
+unfolding meaning textOf said wordsOf partsOf commandOf among same nameAt rowAt allNumbers isNumber digitsOnly numberSaid value
+a-record = refl
+
+pub record-of-a-letter : meaning (ascii "record x plan") ≡ Parsed.Bad (Trouble.Usage 22)
+unfolding meaning textOf said wordsOf partsOf commandOf among same nameAt rowAt allNumbers isNumber digitsOnly numberSaid value
+record-of-a-letter = refl
+
+pub file-of-digits : meaning (ascii "record 1 2") ≡ command (Verb.Show Show.Record) 2 1 2 0
+unfolding meaning textOf said wordsOf partsOf commandOf among same nameAt rowAt allNumbers isNumber digitsOnly numberSaid value
+file-of-digits = refl
+
+pub no-file : meaning (ascii "record 1") ≡ Parsed.Bad (Trouble.Usage 22)
+unfolding meaning textOf said wordsOf partsOf commandOf among same nameAt rowAt allNumbers isNumber digitsOnly numberSaid value
+no-file = refl
+
+pub a-report : meaning (ascii "report plan") ≡ command (Verb.View View.Report) 1 0 0 0
+unfolding meaning textOf said wordsOf partsOf commandOf among same nameAt rowAt allNumbers isNumber digitsOnly numberSaid value
+a-report = refl
+
+pub a-ring : meaning (ascii "ring plan") ≡ command (Verb.View View.Ring) 1 0 0 0
+unfolding meaning textOf said wordsOf partsOf commandOf among same nameAt rowAt allNumbers isNumber digitsOnly numberSaid value
+a-ring = refl
+
 pub no-digits : meaning (ascii "row 1 x") ≡ Parsed.Bad (Trouble.Usage 6)
 unfolding meaning textOf said wordsOf partsOf commandOf among same nameAt rowAt allNumbers isNumber digitsOnly numberSaid value
 no-digits = refl
@@ -119,9 +144,17 @@ pub its-tags : tagsIn (ascii "loop 1  2 256 1\r") ≡ 1 ∷ 2 ∷ 0 ∷ 1 ∷ []
 unfolding tagsIn textOf wordsOf partsOf numberSaid isNumber digitsOnly value
 its-tags = refl
 
-pub its-file : fileIn (ascii " load  units/a.unit \r") ≡ ascii "units/a.unit"
-unfolding fileIn textOf wordsOf partsOf
+pub its-file : wordIn (ascii " load  units/a.unit \r") 1 ≡ ascii "units/a.unit"
+unfolding wordIn textOf wordsOf partsOf
 its-file = refl
+
+pub file-after-a-number : wordIn (ascii " record  1  plans/a \r") 2 ≡ ascii "plans/a"
+unfolding wordIn textOf wordsOf partsOf
+file-after-a-number = refl
+
+pub no-such-word : wordIn (ascii " record  1  plans/a \r") 3 ≡ []
+unfolding wordIn textOf wordsOf partsOf
+no-such-word = refl
 
 -- a last number that may be left out
 pub left-out : fits (Form.Optional 1) (ascii "7" ∷ []) ≡ true

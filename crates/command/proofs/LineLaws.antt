@@ -4,10 +4,11 @@ use mathlib.Core.Bool.{Bool, true, false, cond, _&&_}
 use mathlib.Core.List.{List, [], _∷_, _++_}
 use Prim.Native.Nat.{ℕ, zero, suc, _+_, _-_, _≤_, _<_, min}
 use native.Mathlib.Omega.{arith}
-use borrow.Author.Tests.{eq-eqb, ne-eqb, le-leb, lt-leb}
+use borrow.Author.Tests.{eq-eqb, ne-eqb, eqb-true, le-leb, lt-leb}
 use lib.Dec.{leb, eqb}
 use lib.ListN.{length, getD, take, drop}
-use lib.Seq.{take-all, drop-drop}
+use lib.Seq.{take-all, drop-drop, getD-drop}
+use Rattle.words.proofs.Tests.{by-test}
 use Rattle.command_table.specs.declared.Form.{Form}
 use Rattle.command_table.specs.declared.Form.the-variants as Form
 use Rattle.command_table.specs.declared.Verb.{Verb}
@@ -20,7 +21,7 @@ use Rattle.command.specs.declared.Request.{Request}
 use Rattle.command.specs.declared.Parsed.{Parsed}
 use Rattle.command.specs.declared.Parsed.the-variants as Parsed
 use Rattle.command.specs.declared.scan.Scan.{Scan}
-use Rattle.command.specs.Lines.{textOf, isBlank, wordsOf, wordAt, fits, requested, named, isComment, said, meaning, narrowed, latenciesIn, tagsIn, inFront, fileIn}
+use Rattle.command.specs.Lines.{textOf, isBlank, wordsOf, wordAt, allNumbers, fits, requested, named, isComment, said, meaning, narrowed, latenciesIn, tagsIn, inFront, wordIn}
 use Rattle.command.specs.Inner.{wordFrom, wordsFrom, TextEnd, Begins, Passes, scanned, scanFits}
 use Rattle.command.proofs.WordLaws.{part, word-byte, word-part, words-end, words-here, begins-first}
 
@@ -49,11 +50,20 @@ text-whole line n = record {
 
 -- The words after the name
 
+-- where there are so many words and one more, so many stand in front of the last
+scan-file : (k : ℕ) (words : List (List ℕ)) → scanFits (Form.File k) (scanned words) ≡ fits (Form.File k) words
+scan-file k words = by-test (eqb (length words) (k + 1)) counted (λ t. rw t)
+  where
+    counted : eqb (length words) (k + 1) ≡ true → scanFits (Form.File k) (scanned words) ≡ fits (Form.File k) words
+    counted t =
+        let front : length words - 1 ≡ k = omega (arith, eqb-true (length words) (k + 1) t) in
+        ap (λ n. eqb (length words) (k + 1) && allNumbers (take n words)) front
+
 scan-fits : (form : Form) (words : List (List ℕ)) → scanFits form (scanned words) ≡ fits form words
 scan-fits (Form.Numbers k) words = refl
 scan-fits (Form.Optional k) words = refl
+scan-fits (Form.File k) words = scan-file k words
 scan-fits Form.Cycle words = refl
-scan-fits Form.File words = refl
 scan-fits Form.List words = refl
 
 -- what a scan tells, form by form
@@ -74,6 +84,15 @@ module _ (s : Scan) where
   pub optional-fit : (k : ℕ) → k ≤ s .count → s .count - k ≤ 1 → s .good ≡ scanFits (Form.Optional k) s
   optional-fit k l h =
       sym (ap (λ t. t && (leb (s .count) (k + 1) && s .good)) (le-leb k (s .count) l) ∙ ap (λ t. t && s .good) (le-leb (s .count) (k + 1) (omega arith)))
+
+  pub file-none : (k : ℕ) → s .count ≡ 0 → false ≡ scanFits (Form.File k) s
+  file-none k e = sym (ap (λ t. t && s .front) (ne-eqb (s .count) (k + 1) (λ q. omega arith)))
+
+  pub file-not : (k : ℕ) → (s .count - 1 ≡ k → ⊥) → false ≡ scanFits (Form.File k) s
+  file-not k n = sym (ap (λ t. t && s .front) (ne-eqb (s .count) (k + 1) (λ q. n (omega arith))))
+
+  pub file-fit : (k : ℕ) → (s .count ≡ 0 → ⊥) → s .count - 1 ≡ k → s .front ≡ scanFits (Form.File k) s
+  file-fit k n e = sym (ap (λ t. t && s .front) (eq-eqb (s .count) (k + 1) (omega (arith, n))))
 
   pub fit-cycle : 1 ≤ s .count → s .good ≡ scanFits Form.Cycle s
   fit-cycle h = sym (ap (λ t. t && s .good) (le-leb 1 (s .count) h))
@@ -152,27 +171,26 @@ pub same-in-front : {l m after : List ℕ} {n : ℕ} (bytes : List ℕ) → l �
 same-in-front {after = after} {n} bytes e p = subst (λ l. (n ≡ min (length l) (length bytes)) × (after ≡ inFront l bytes)) e p
 
 -- the words after the tag
-pub latencies-rest : (line : List ℕ) (end name tag : ℕ) → TextEnd line end → Passes (take end line) 0 name → Passes (take end line) name tag
+pub latencies-rest : (line : List ℕ) (end name tag : ℕ) → TextEnd line end → Passes (take end line) 0 1 name → Passes (take end line) name 1 tag
     → narrowed (wordsFrom (take end line) tag) ≡ latenciesIn line
 unfolding latenciesIn
 latencies-rest line end name tag t p q =
     ap narrowed (q .rest ∙ ap (drop 1) (p .rest) ∙ drop-drop 1 1 (wordsOf (take end line)) ∙ ap (λ x. drop 2 (wordsOf x)) (t .text))
 
 -- the words after the name
-pub tags-rest : (line : List ℕ) (end name : ℕ) → TextEnd line end → Passes (take end line) 0 name
+pub tags-rest : (line : List ℕ) (end name : ℕ) → TextEnd line end → Passes (take end line) 0 1 name
     → narrowed (wordsFrom (take end line) name) ≡ tagsIn line
 unfolding tagsIn
 tags-rest line end name t p = ap narrowed (p .rest ∙ ap (λ x. drop 1 (wordsOf x)) (t .text))
 
--- the word after the name
-pub file-word : (line : List ℕ) (end name from to : ℕ) → TextEnd line end → Passes (take end line) 0 name → Begins (take end line) name from
-    → to ≡ from + length (wordFrom (take end line) from) → part from to (take end line) ≡ fileIn line
-unfolding fileIn
-file-word line end name from to t p b e =
+-- a word
+pub word-read : (line : List ℕ) (end index before from to : ℕ) → TextEnd line end → Passes (take end line) 0 index before
+    → Begins (take end line) before from → to ≡ from + length (wordFrom (take end line) from) → part from to (take end line) ≡ wordIn line index
+unfolding wordIn
+word-read line end index before from to t p b e =
     let text : List ℕ = take end line in
-    word-part text from to e ∙ sym (begins-first b) ∙ ap (λ w. wordAt w 0) (p .rest) ∙ second (wordsOf text)
-    ∙ ap (λ x. wordAt (wordsOf x) 1) (t .text)
+    word-part text from to e ∙ sym (begins-first b) ∙ ap (λ w. wordAt w 0) (p .rest) ∙ here index (wordsOf text)
+    ∙ ap (λ x. wordAt (wordsOf x) index) (t .text)
   where
-    second : (words : List (List ℕ)) → wordAt (drop 1 words) 0 ≡ wordAt words 1
-    second [] = refl
-    second (w ∷ words) = refl
+    here : (i : ℕ) (words : List (List ℕ)) → wordAt (drop i words) 0 ≡ wordAt words i
+    here i words = getD-drop i words 0 [] ∙ ap (wordAt words) (omega arith)

@@ -2,27 +2,27 @@
 use mathlib.Core.Path.{_≡_, refl, sym, ap, _∙_}
 use mathlib.Core.Bool.{Bool, true, false, cond, _&&_}
 use mathlib.Core.List.{List, [], _∷_}
-use Prim.Native.Nat.{ℕ, zero, suc, _+_, _≤_, _<_}
+use Prim.Native.Nat.{ℕ, zero, suc, _+_, _-_, _≤_, _<_}
 use native.Mathlib.Omega.{arith}
 use borrow.Author.Tests.{eq-eqb, ne-eqb}
 use lib.Dec.{eqb}
-use lib.ListN.{length, getD}
+use lib.ListN.{length, getD, take}
 use Rattle.text.specs.Text.{value}
 use Rattle.command.specs.declared.scan.Scan.{Scan}
 use Rattle.command.specs.Lines.{isBlank, wordAt, isNumber, numberSaid, allNumbers}
-use Rattle.command.specs.Inner.{wordFrom, wordsFrom, Begins, noted, withWord, scanned}
+use Rattle.command.specs.Inner.{wordFrom, wordsFrom, Begins, noted, withWord, beforeLast, scanned}
 use Rattle.command.proofs.WordLaws.{part, word-part, word-some, words-end, words-here}
 
--- a scan by its five parts
-abbrev scan : Bool → ℕ → ℕ → ℕ → ℕ → Scan
-scan good count first second third = record { good = good; count = count; first = first; second = second; third = third }
+-- a scan by its six parts
+abbrev scan : Bool → Bool → ℕ → ℕ → ℕ → ℕ → Scan
+scan good front count first second third = record { good = good; front = front; count = count; first = first; second = second; third = third }
 
-same-scan : {g h : Bool} {m n a b d e x y : ℕ} → g ≡ h → m ≡ n → a ≡ b → d ≡ e → x ≡ y → scan g m a d x ≡ scan h n b e y
-same-scan p q r s t = λ i. scan (p i) (q i) (r i) (s i) (t i)
+same-scan : {g h j k : Bool} {m n a b d e x y : ℕ} → g ≡ h → j ≡ k → m ≡ n → a ≡ b → d ≡ e → x ≡ y → scan g j m a d x ≡ scan h k n b e y
+same-scan p f q r s t = λ i. scan (p i) (f i) (q i) (r i) (s i) (t i)
 
 -- no word yet
 abbrev pub noWords : Scan
-noWords = scan true 0 0 0 0
+noWords = scan true true 0 0 0 0
 
 -- more words
 abbrev pub scanFrom : Scan → List (List ℕ) → Scan
@@ -49,35 +49,58 @@ and-assoc : (a b d : Bool) → (a && b) && d ≡ a && (b && d)
 and-assoc true b d = refl
 and-assoc false b d = refl
 
+-- the words in front of the last, one by one
+front-one : (w : List ℕ) → allNumbers (beforeLast (w ∷ [])) ≡ true
+front-one w = all-none
+
+front-cons : (w v : List ℕ) (words : List (List ℕ)) → allNumbers (beforeLast (w ∷ v ∷ words)) ≡ isNumber w && allNumbers (beforeLast (v ∷ words))
+front-cons w v words =
+    let one : length (w ∷ v ∷ words) - 1 ≡ suc (length (v ∷ words) - 1) = omega arith in
+    ap (λ k. allNumbers (take k (w ∷ v ∷ words))) one ∙ all-cons w (beforeLast (v ∷ words))
+
+-- whether the words in front of the last are numbers, after more words
+abbrev frontAfter : Bool → Bool → List (List ℕ) → Bool
+frontAfter front good [] = front
+frontAfter front good (w ∷ words) = good && allNumbers (beforeLast (w ∷ words))
+
+front-step : (g : Bool) (w : List ℕ) (words : List (List ℕ)) → frontAfter g (g && isNumber w) words ≡ g && allNumbers (beforeLast (w ∷ words))
+front-step g w [] = sym (ap (λ t. g && t) (front-one w) ∙ and-one g)
+front-step g w (v ∷ words) =
+    and-assoc g (isNumber w) (allNumbers (beforeLast (v ∷ words))) ∙ ap (λ t. g && t) (sym (front-cons w v words))
+
 -- the first three numbers stay
-later : (g : Bool) (n a b d : ℕ) (words : List (List ℕ)) → 3 ≤ n → scanFrom (scan g n a b d) words ≡ scan (g && allNumbers words) (n + length words) a b d
-later g n a b d [] h = same-scan (sym (ap (λ t. g && t) all-none ∙ and-one g)) (omega arith) refl refl refl
-later g n a b d (w ∷ words) h =
+later : (g f : Bool) (n a b d : ℕ) (words : List (List ℕ)) → 3 ≤ n
+    → scanFrom (scan g f n a b d) words ≡ scan (g && allNumbers words) (frontAfter f g words) (n + length words) a b d
+later g f n a b d [] h = same-scan (sym (ap (λ t. g && t) all-none ∙ and-one g)) refl (omega arith) refl refl refl
+later g f n a b d (w ∷ words) h =
     let t₀ : eqb n 0 ≡ false = ne-eqb n 0 (λ e. omega arith) in
     let t₁ : eqb n 1 ≡ false = ne-eqb n 1 (λ e. omega arith) in
     let t₂ : eqb n 2 ≡ false = ne-eqb n 2 (λ e. omega arith) in
     ap (λ s. scanFrom s words)
-    (same-scan {g = g && isNumber w} {m = n + 1} refl refl (ap (λ t. cond t (numberSaid w) a) t₀) (ap (λ t. cond t (numberSaid w) b) t₁) (ap (λ t. cond t (numberSaid w) d) t₂))
-    ∙ later (g && isNumber w) (n + 1) a b d words (omega arith)
-    ∙ same-scan (and-assoc g (isNumber w) (allNumbers words) ∙ ap (λ t. g && t) (sym (all-cons w words))) (omega arith) refl refl refl
+    (same-scan {g = g && isNumber w} {j = g} {m = n + 1} refl refl refl (ap (λ t. cond t (numberSaid w) a) t₀) (ap (λ t. cond t (numberSaid w) b) t₁) (ap (λ t. cond t (numberSaid w) d) t₂))
+    ∙ later (g && isNumber w) g (n + 1) a b d words (omega arith)
+    ∙ same-scan (and-assoc g (isNumber w) (allNumbers words) ∙ ap (λ t. g && t) (sym (all-cons w words))) (front-step g w words) (omega arith) refl refl refl
 
 -- all words, one after the other
 pub scan-all : (words : List (List ℕ)) → scanFrom noWords words ≡ scanned words
-scan-all [] = same-scan (sym all-none) refl (sym number-none) (sym number-none) (sym number-none)
+scan-all [] = same-scan (sym all-none) (sym all-none) refl (sym number-none) (sym number-none) (sym number-none)
 scan-all (a ∷ []) =
-    same-scan (sym (all-cons a [] ∙ ap (λ t. isNumber a && t) all-none ∙ and-one (isNumber a))) refl refl (sym number-none) (sym number-none)
+    same-scan (sym (all-cons a [] ∙ ap (λ t. isNumber a && t) all-none ∙ and-one (isNumber a))) (sym (front-one a)) refl refl (sym number-none) (sym number-none)
 scan-all (a ∷ b ∷ []) =
     same-scan
     (sym (all-cons a (b ∷ []) ∙ ap (λ t. isNumber a && t) (all-cons b [] ∙ ap (λ t. isNumber b && t) all-none ∙ and-one (isNumber b))))
+    (sym (front-cons a b [] ∙ ap (λ t. isNumber a && t) (front-one b) ∙ and-one (isNumber a)))
     refl
     refl
     refl
     (sym number-none)
 scan-all (a ∷ b ∷ d ∷ words) =
-    later ((isNumber a && isNumber b) && isNumber d) 3 (numberSaid a) (numberSaid b) (numberSaid d) words (omega arith)
+    later ((isNumber a && isNumber b) && isNumber d) (isNumber a && isNumber b) 3 (numberSaid a) (numberSaid b) (numberSaid d) words (omega arith)
     ∙ same-scan
     (and-assoc (isNumber a && isNumber b) (isNumber d) (allNumbers words) ∙ and-assoc (isNumber a) (isNumber b) (isNumber d && allNumbers words)
     ∙ sym (all-cons a (b ∷ d ∷ words) ∙ ap (λ t. isNumber a && t) (all-cons b (d ∷ words) ∙ ap (λ t. isNumber b && t) (all-cons d words))))
+    (front-step (isNumber a && isNumber b) d words ∙ and-assoc (isNumber a) (isNumber b) (allNumbers (beforeLast (d ∷ words)))
+    ∙ sym (front-cons a b (d ∷ words) ∙ ap (λ t. isNumber a && t) (front-cons b d words)))
     (omega arith)
     refl
     refl
@@ -135,5 +158,5 @@ noted-other s word t e = ap (noted s false) e ∙ ap (λ b. noted s b (numberSai
     and-zero false = refl
 
 pub noted-parts : (s : Scan) (good : Bool) (n : ℕ) {a b d : ℕ} → a ≡ cond (eqb (s .count) 0) n (s .first) → b ≡ cond (eqb (s .count) 1) n (s .second)
-    → d ≡ cond (eqb (s .count) 2) n (s .third) → scan good (s .count + 1) a b d ≡ noted s good n
-noted-parts s good n p q r = same-scan refl refl p q r
+    → d ≡ cond (eqb (s .count) 2) n (s .third) → scan good (s .good) (s .count + 1) a b d ≡ noted s good n
+noted-parts s good n p q r = same-scan refl refl refl p q r

@@ -1,5 +1,5 @@
 -- The words of a text, and the text walked from an index on. Assumes nothing.
-use mathlib.Core.Path.{_≡_, refl, sym, ap, _∙_}
+use mathlib.Core.Path.{_≡_, refl, sym, ap, subst, _∙_}
 use mathlib.Core.Bool.{Bool, true, false, cond}
 use mathlib.Core.List.{List, [], _∷_, _++_}
 use Prim.Native.Nat.{ℕ, zero, suc, _+_, _-_, _≤_, _<_}
@@ -7,7 +7,7 @@ use native.Mathlib.Decide.{decLt}
 use native.Mathlib.Numerals.{add-one}
 use native.Mathlib.Omega.{arith}
 use lib.ListN.{length, getD, take, drop, length-drop, drop-of-length-le}
-use lib.Seq.{drop-cons, drop-drop}
+use lib.Seq.{drop-cons, drop-drop, drop-nil}
 use Rattle.words.proofs.Tests.{by-test}
 use Rattle.command.specs.Lines.{isBlank, onto, partsOf, filled, wordsOf, wordAt}
 use Rattle.command.specs.Inner.{wordFrom, wordsFrom, Begins, Passes}
@@ -210,7 +210,7 @@ begins-first {text} {from} {at} b = ap (λ w. wordAt w 0) (sym (b .same)) ∙ go
     go (yes h) = ap (λ w. wordAt w 0) (words-here text at (at + length (wordFrom text at)) refl h (b .here h))
     go (no h) = ap (λ w. wordAt w 0) (words-end text at (omega arith)) ∙ sym (word-none text at (omega arith))
 
-pub begins-rest : {text : List ℕ} {from at : ℕ} (end : ℕ) → Begins text from at → end ≡ at + length (wordFrom text at) → Passes text from end
+pub begins-rest : {text : List ℕ} {from at : ℕ} (end : ℕ) → Begins text from at → end ≡ at + length (wordFrom text at) → Passes text from 1 end
 begins-rest {text} {from} {at} end b e = record {
   inside = word-inside text at end e (b .inside);
   rest = go (decLt at (length text)) ∙ ap (drop 1) (b .same);
@@ -221,3 +221,35 @@ begins-rest {text} {from} {at} end b e = record {
     go (no h) =
         let none : length (wordFrom text at) ≡ 0 = ap length (word-none text at (omega arith)) in
         words-end text end (omega arith) ∙ sym (ap (drop 1) (words-end text at (omega arith)))
+
+-- Several words
+
+-- some of so many words are passed
+pub record Passing (text : List ℕ) (count at passed : ℕ) : Type 0 where
+  pub few : passed ≤ count
+  pub passes : Passes text 0 passed at
+
+pub passing-start : (text : List ℕ) (count : ℕ) → Passing text count 0 0
+passing-start text count = record { few = omega arith; passes = record { inside = omega arith; rest = refl } }
+
+pub passing-more : {text : List ℕ} {count at passed : ℕ} (end : ℕ) → Passing text count at passed → passed < count → Passes text at 1 end
+    → Passing text count end (passed + 1)
+passing-more {text} {count} {at} {passed} end p h q = record {
+  few = omega arith;
+  passes = record { inside = q .inside; rest = q .rest ∙ ap (drop 1) (p .passes .rest) ∙ drop-drop 1 passed (wordsOf text) };
+}
+
+pub passing-all : {text : List ℕ} {count at passed : ℕ} → Passing text count at passed → count ≤ passed → Passes text 0 count at
+passing-all {text} {count} {at} {passed} p h = let e : passed ≡ count = omega (arith, p .few) in subst (λ k. Passes text 0 k at) e (p .passes)
+
+-- at the end of the text there are no more
+pub passing-end : {text : List ℕ} {count at passed : ℕ} → Passing text count at passed → at ≡ length text → Passes text 0 count at
+passing-end {text} {count} {at} {passed} p e = record {
+  inside = p .passes .inside;
+  rest =
+      let none : wordsFrom text at ≡ [] = words-end text at (omega arith) in
+      let sum : count ≡ passed + (count - passed) = omega (arith, p .few) in
+      none
+      ∙ sym (ap (λ k. drop k (wordsOf text)) sum ∙ sym (drop-drop (count - passed) passed (wordsOf text))
+      ∙ ap (drop (count - passed)) (sym (p .passes .rest) ∙ none) ∙ drop-nil (count - passed));
+}

@@ -2,7 +2,7 @@
 use mathlib.Core.Path.{_≡_}
 use mathlib.Core.Bool.{Bool, false, cond, _&&_}
 use mathlib.Core.List.{List}
-use Prim.Native.Nat.{ℕ, _+_, _≤_, _<_}
+use Prim.Native.Nat.{ℕ, _+_, _-_, _≤_, _<_}
 use lib.Dec.{leb, eqb}
 use lib.ListN.{length, getD, take, drop}
 use Rattle.text.specs.Text.{value}
@@ -33,10 +33,10 @@ pub record Begins (text : List ℕ) (from at : ℕ) : Type 0 where
   pub same : wordsFrom text at ≡ wordsFrom text from
   pub here : at < length text → isBlank (getD text at 0) ≡ false
 
--- the first word from an index on, if there is one, ends at another
-pub record Passes (text : List ℕ) (from end : ℕ) : Type 0 where
+-- so many words from an index on, or all where there are fewer, end at another
+pub record Passes (text : List ℕ) (from count end : ℕ) : Type 0 where
   pub inside : end ≤ length text
-  pub rest : wordsFrom text end ≡ drop 1 (wordsFrom text from)
+  pub rest : wordsFrom text end ≡ drop count (wordsFrom text from)
 
 -- the number that a word says, if it says one
 abbrev pub numeral : List ℕ → Numeral
@@ -46,6 +46,7 @@ numeral word = cond (isNumber word) (Numeral.Number (value word)) Numeral.Other
 abbrev pub noted : Scan → Bool → ℕ → Scan
 noted s allGood number = record {
   good = allGood;
+  front = s .good;
   count = s .count + 1;
   first = cond (eqb (s .count) 0) number (s .first);
   second = cond (eqb (s .count) 1) number (s .second);
@@ -56,10 +57,15 @@ noted s allGood number = record {
 abbrev pub withWord : Scan → List ℕ → Scan
 withWord s word = noted s (s .good && isNumber word) (numberSaid word)
 
--- whether all words are numbers, how many they are, and the numbers that the first three say
+-- the words in front of the last
+abbrev pub beforeLast : List (List ℕ) → List (List ℕ)
+beforeLast words = take (length words - 1) words
+
+-- whether all words are numbers, whether those in front of the last are, how many they are, and the numbers that the first three say
 abbrev pub scanned : List (List ℕ) → Scan
 scanned words = record {
   good = allNumbers words;
+  front = allNumbers (beforeLast words);
   count = length words;
   first = numberSaid (wordAt words 0);
   second = numberSaid (wordAt words 1);
@@ -70,6 +76,6 @@ scanned words = record {
 abbrev pub scanFits : Form → Scan → Bool
 scanFits (Form.Numbers k) s = eqb (s .count) k && s .good
 scanFits (Form.Optional k) s = leb k (s .count) && (leb (s .count) (k + 1) && s .good)
+scanFits (Form.File k) s = eqb (s .count) (k + 1) && s .front
 scanFits Form.Cycle s = leb 1 (s .count) && s .good
-scanFits Form.File s = eqb (s .count) 1
 scanFits Form.List s = s .good

@@ -78,8 +78,8 @@ allNumbers (w ∷ words) = isNumber w && allNumbers words
 abbrev pub fits : Form → List (List ℕ) → Bool
 fits (Form.Numbers k) words = eqb (length words) k && allNumbers words
 fits (Form.Optional k) words = leb k (length words) && (leb (length words) (k + 1) && allNumbers words)
+fits (Form.File k) words = eqb (length words) (k + 1) && allNumbers (take k words)
 fits Form.Cycle words = leb 1 (length words) && allNumbers words
-fits Form.File words = eqb (length words) 1
 fits Form.List words = allNumbers words
 
 -- the command with the number of words after its name, and the numbers that the first three say
@@ -128,6 +128,7 @@ tagsIn line = narrowed (drop 1 (wordsOf (textOf line)))
 abbrev pub inFront : List ℕ → List ℕ → List ℕ
 inFront l bytes = take (length bytes) l ++ drop (length l) bytes
 
--- the file of a load or a save: the word after the name
-unfoldable pub fileIn : List ℕ → List ℕ
-fileIn line = wordAt (wordsOf (textOf line)) 1
+-- word i of a line, the name of its command being word 0; empty where there is none. The file of a load, a save, a record, a report or a ring is the
+-- last word of its line, word `count` of the request.
+unfoldable pub wordIn : List ℕ → ℕ → List ℕ
+wordIn line i = wordAt (wordsOf (textOf line)) i

@@ -6,7 +6,7 @@ ghost use mathlib.Core.Path.{_≡_};
 ghost use Prim.Native.Nat.{min, _≤_};
 ghost use lib.ListN.{length};
 ghost use Rattle.command_table.specs.declared.Named.the-variants.{Known};
-ghost use Rattle.command.specs.Lines.{named, said, meaning, wordsOf, latenciesIn, tagsIn, inFront, fileIn};
+ghost use Rattle.command.specs.Lines.{named, said, meaning, wordsOf, latenciesIn, tagsIn, inFront, wordIn};
 ghost use Rattle.command.specs.Inner.{wordsFrom, scanFits, TextEnd, Passes};
 use command_table::Entry;
 use command_table::Form;
@@ -50,6 +50,19 @@ fn is_optional(count: usize, words: Scan) -> bool
     words.good
 }
 
+// Whether there are so many numbers, and the name of a file after them.
+fn is_file(count: usize, words: Scan) -> bool
+    ensures { λ r. ⌜ r ≡ scanFits (Form.File count) words ⌝ }
+{
+    if words.count == 0 {
+        return false;
+    }
+    if words.count - 1 != count {
+        return false;
+    }
+    words.front
+}
+
 // Whether the words after the name, of which a scan tells, are what the command wants.
 fn is_fit(form: Form, words: Scan) -> bool
     ensures { λ r. ⌜ r ≡ scanFits form words ⌝ }
@@ -57,8 +70,8 @@ fn is_fit(form: Form, words: Scan) -> bool
     match form {
         Form::Numbers(count) => words.count == count && words.good,
         Form::Optional(count) => is_optional(count, words),
+        Form::File(count) => is_file(count, words),
         Form::Cycle => 1 <= words.count && words.good,
-        Form::File => words.count == 1,
         Form::List => words.good,
     }
 }
@@ -130,10 +143,26 @@ pub fn parse(line: &[u8]) -> Parsed
 // Where the first word from an index on ends.
 fn past_word(text: &[u8], from: usize) -> usize
     requires { ⌜ from ≤ length (now text) ⌝ }
-    ensures { λ r. ⌜ Passes (now (text .entry)) from r ⌝ }
+    ensures { λ r. ⌜ Passes (now (text .entry)) from 1 r ⌝ }
 {
     let start = scan::word_start(text, from);
     scan::word_end(text, start)
+}
+
+// Where the first words end, so many; the end of the text where there are fewer.
+fn past_words(text: &[u8], count: usize) -> usize
+    ensures { λ r. ⌜ Passes (now (text .entry)) 0 count r ⌝ }
+{
+    let mut at = 0;
+    let mut passed = 0;
+    while passed < count {
+        if at == text.len() {
+            return at;
+        }
+        at = past_word(text, at);
+        passed += 1;
+    }
+    at
 }
 
 // The latencies of a cycle that is judged, as bytes: 0 for a number that is too large for one. As many as there is room for are kept, and
@@ -160,14 +189,15 @@ pub fn tags(line: &[u8], list: &mut [u8]) -> usize
     scan::bytes_after(text, name_end, list)
 }
 
-// The name of the file that is loaded or saved: the word after the command's name.
-pub fn file_name<'a>(line: &'a [u8]) -> &'a [u8]
-    ensures { λ r. ⌜ now r ≡ fileIn (now (line .entry)) ⌝ }
+// Word `index` of a line, the name of its command being word 0; no bytes where there is none. The file of a command that wants one is word `count` of
+// its request.
+pub fn word<'a>(line: &'a [u8], index: usize) -> &'a [u8]
+    ensures { λ r. ⌜ now r ≡ wordIn (now (line .entry)) index ⌝ }
 {
     let end = text_end(line);
     let text = &line[..end];
-    let name_end = past_word(text, 0);
-    let from = scan::word_start(text, name_end);
+    let before = past_words(text, index);
+    let from = scan::word_start(text, before);
     let to = scan::word_end(text, from);
     &text[from..to]
 }

@@ -8,9 +8,11 @@ ghost use Rattle.words.specs.Bytes.{narrow};
 ghost use Rattle.command.specs.Lines.{isBlank, numberSaid, narrowed, inFront};
 ghost use Rattle.command.specs.Inner.{wordFrom, wordsFrom, Begins, numeral, noted, withWord, scanned};
 
-// Whether all words are numbers, how many they are, and the first three numbers, 0 where there is none.
+// Whether all words are numbers, whether those in front of the last are, how many they are, and the numbers that the first three say, 0 where one
+// says none.
 pub struct Scan {
     pub good: bool,
+    pub front: bool,
     pub count: usize,
     pub first: u32,
     pub second: u32,
@@ -104,6 +106,7 @@ fn note(words: Scan, good: bool, number: u32) -> Scan
     let count = words.count;
     Scan {
         good: good,
+        front: words.good,
         count: count + 1,
         first: at_place(count, 0, number, words.first),
         second: at_place(count, 1, number, words.second),
@@ -130,6 +133,7 @@ pub fn scan_words(text: &[u8], from: usize) -> Scan
 {
     let mut words = Scan {
         good: true,
+        front: true,
         count: 0,
         first: 0,
         second: 0,

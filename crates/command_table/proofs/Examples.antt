@@ -1,8 +1,8 @@
 -- Some names and usages, worked out by hand. Assumes nothing.
 use mathlib.Core.Path.{_≡_, refl}
-use Rattle.text.specs.Text.{ascii}
+use Rattle.text.specs.Text.{ascii, same}
 use Rattle.command_table.specs.declared.Named.the-variants as Named
-use Rattle.command_table.specs.Commands.{rowAt, nameAt, usageAt, entryAt, same, among, commandOf}
+use Rattle.command_table.specs.Commands.{rowAt, nameAt, usageAt, entryAt, among, commandOf}
 
 pub name-of-mark : nameAt 1 ≡ ascii "mark"
 unfolding nameAt rowAt
@@ -15,6 +15,10 @@ usage-of-judge = refl
 pub usage-of-loop : usageAt 21 ≡ ascii "loop Q Q .."
 unfolding usageAt rowAt
 usage-of-loop = refl
+
+pub usage-of-record : usageAt 22 ≡ ascii "record Q FILE"
+unfolding usageAt rowAt
+usage-of-record = refl
 
 pub mark-is-found : commandOf (ascii "mark") ≡ Named.Known (entryAt 1)
 unfolding commandOf among same nameAt rowAt

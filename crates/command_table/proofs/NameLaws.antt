@@ -10,7 +10,7 @@ use lib.Dec.{leb, ltb, eqb}
 use lib.ListN.{length, getD, take, drop, drop-of-length-le}
 use lib.Seq.{drop-cons}
 use Rattle.words.proofs.Tests.{cond-same}
-use Rattle.text.specs.Text.{putIn, putEnd}
+use Rattle.text.specs.Text.{putIn, putEnd, same}
 use Rattle.text.proofs.PutLaws.{placed-none}
 use Rattle.command_table.specs.declared.Form.{Form}
 use Rattle.command_table.specs.declared.Form.the-variants as Form
@@ -18,7 +18,7 @@ use Rattle.command_table.specs.declared.Verb.{Verb}
 use Rattle.command_table.specs.declared.Entry.{Entry}
 use Rattle.command_table.specs.declared.Named.{Named}
 use Rattle.command_table.specs.declared.Named.the-variants as Named
-use Rattle.command_table.specs.Commands.{rows, nameAt, entryAt, same, among, commandOf}
+use Rattle.command_table.specs.Commands.{rows, nameAt, entryAt, among, commandOf}
 use Rattle.command_table.specs.Inner.{formOf}
 
 -- Two texts
@@ -138,17 +138,17 @@ pub form-optional : (n : ℕ) → 16 ≤ n → n < 32 → Form.Optional (n - 16)
 unfolding formOf
 form-optional n h l = rw (le-ltb n 16 h, lt-ltb n 32 l)
 
-pub form-cycle : (n : ℕ) → n ≡ 32 → Form.Cycle ≡ formOf n
+pub form-file : (n : ℕ) → 32 ≤ n → n < 48 → Form.File (n - 32) ≡ formOf n
+unfolding formOf
+form-file n h l = rw (le-ltb n 16 (omega arith), le-ltb n 32 h, lt-ltb n 48 l)
+
+pub form-cycle : (n : ℕ) → n ≡ 48 → Form.Cycle ≡ formOf n
 unfolding formOf
 form-cycle n e = rw e
 
-pub form-file : (n : ℕ) → n ≡ 33 → Form.File ≡ formOf n
+pub form-list : (n : ℕ) → 48 ≤ n → (n ≡ 48 → ⊥) → Form.List ≡ formOf n
 unfolding formOf
-form-file n e = rw e
-
-pub form-list : (n : ℕ) → 32 ≤ n → (n ≡ 32 → ⊥) → (n ≡ 33 → ⊥) → Form.List ≡ formOf n
-unfolding formOf
-form-list n h c f = rw (le-ltb n 16 (omega arith), le-ltb n 32 h, ne-eqb n 32 c, ne-eqb n 33 f)
+form-list n h c = rw (le-ltb n 16 (omega arith), le-ltb n 32 (omega arith), le-ltb n 48 h, ne-eqb n 48 c)
 
 -- A text put
 

@@ -11,14 +11,14 @@ use lib.Dec.{leb, ltb, eqb}
 use lib.ListN.{length, getD, take, drop, replicate, length-append, length-drop, length-replicate, List·getD-map}
 use lib.Seq.{take-at, drop-at, drop-drop, getD-drop}
 use Rattle.words.proofs.Tests.{and-left, and-right, nowhere}
-use Rattle.text.specs.Text.{ascii}
+use Rattle.text.specs.Text.{ascii, same}
 use Rattle.command_table.specs.declared.Verb.{Verb}
 use Rattle.command_table.specs.declared.Verb.the-variants as Verb
 use Rattle.command_table.specs.declared.Form.{Form}
 use Rattle.command_table.specs.declared.Entry.{Entry}
 use Rattle.command_table.specs.declared.Named.{Named}
 use Rattle.command_table.specs.declared.Named.the-variants as Named
-use Rattle.command_table.specs.Commands.{Row, rows, noRow, rowAt, nameAt, usageAt, entryAt, same, among, commandOf}
+use Rattle.command_table.specs.Commands.{Row, rows, noRow, rowAt, nameAt, usageAt, entryAt, among, commandOf}
 use Rattle.command_table.specs.Inner.{formOf, formNumber, rowBytes, joined, tableBytes}
 
 -- A test of every row

@@ -1,14 +1,14 @@
 -- The commands of the console, one row for each: its name, what a designer is told to write after it, what comes after the name, and what it does.
-use mathlib.Core.Bool.{Bool, true, false, cond, _&&_}
+use mathlib.Core.Bool.{cond}
 use mathlib.Core.List.{List, [], _∷_, _++_}
 use Prim.Native.Nat.{ℕ, zero, suc}
 use Prim.Native.String.{String}
-use lib.Dec.{eqb}
 use lib.ListN.{length, getD}
-use Rattle.text.specs.Text.{ascii}
+use Rattle.text.specs.Text.{ascii, same}
 use Rattle.command_table.specs.declared.Act.the-variants as Act
 use Rattle.command_table.specs.declared.Ask.the-variants as Ask
 use Rattle.command_table.specs.declared.Show.the-variants as Show
+use Rattle.command_table.specs.declared.View.the-variants as View
 use Rattle.command_table.specs.declared.Verb.{Verb}
 use Rattle.command_table.specs.declared.Verb.the-variants as Verb
 use Rattle.command_table.specs.declared.Form.{Form}
@@ -46,12 +46,15 @@ rows =
     ∷ row "tick" "" (Form.Numbers 0) (Verb.Act Act.Tick)
     ∷ row "start" " Q" (Form.Numbers 1) (Verb.Act Act.Start)
     ∷ row "bank" "" (Form.Numbers 0) (Verb.Act Act.Bank)
-    ∷ row "load" " FILE" Form.File Verb.Load
-    ∷ row "save" " FILE" Form.File (Verb.Show Show.Save)
+    ∷ row "load" " FILE" (Form.File 0) Verb.Load
+    ∷ row "save" " FILE" (Form.File 0) (Verb.Show Show.Save)
     ∷ row "list" "" (Form.Numbers 0) (Verb.Show Show.List)
     ∷ row "table" " Q" (Form.Numbers 1) (Verb.Show Show.Table)
     ∷ row "diagram" " Q" (Form.Numbers 1) (Verb.Show Show.Diagram)
     ∷ row "loop" " Q Q .." Form.List (Verb.Show Show.Loop)
+    ∷ row "record" " Q FILE" (Form.File 1) (Verb.Show Show.Record)
+    ∷ row "report" " FILE" (Form.File 0) (Verb.View View.Report)
+    ∷ row "ring" " FILE" (Form.File 0) (Verb.View View.Ring)
     ∷ []
 
 -- beyond the last row: no name, and nothing to write
@@ -72,13 +75,6 @@ usageAt index = ascii (rowAt index .name) ++ ascii (rowAt index .wanted)
 
 abbrev pub entryAt : ℕ → Entry
 entryAt index = record { row = index; form = rowAt index .form; verb = rowAt index .verb }
-
--- two texts are the same, byte by byte
-unfoldable pub same : List ℕ → List ℕ → Bool
-same [] [] = true
-same [] (b ∷ y) = false
-same (a ∷ x) [] = false
-same (a ∷ x) (b ∷ y) = eqb a b && same x y
 
 -- the first command from an index on that has the name; so many are left
 unfoldable pub among : ℕ → ℕ → List ℕ → Named

@@ -12,14 +12,15 @@ use Rattle.command_table.specs.Commands.{Row, rows}
 -- what comes after a name, by a number, and the number
 unfoldable pub formOf : ℕ → Form
 formOf n =
-    cond (ltb n 16) (Form.Numbers n) (cond (ltb n 32) (Form.Optional (n - 16)) (cond (eqb n 32) Form.Cycle (cond (eqb n 33) Form.File Form.List)))
+    cond (ltb n 16) (Form.Numbers n)
+    (cond (ltb n 32) (Form.Optional (n - 16)) (cond (ltb n 48) (Form.File (n - 32)) (cond (eqb n 48) Form.Cycle Form.List)))
 
 abbrev pub formNumber : Form → ℕ
 formNumber (Form.Numbers k) = k
 formNumber (Form.Optional k) = 16 + k
-formNumber Form.Cycle = 32
-formNumber Form.File = 33
-formNumber Form.List = 34
+formNumber (Form.File k) = 32 + k
+formNumber Form.Cycle = 48
+formNumber Form.List = 49
 
 -- a row: the lengths of name and usage, the number of its form, the usage, and spaces up to 48 bytes
 abbrev pub rowBytes : Row → List ℕ

@@ -4,8 +4,8 @@
 ghost use mathlib.Core.Path.{_≡_};
 ghost use Prim.Native.Nat.{_<_};
 ghost use lib.ListN.{length};
-ghost use Rattle.text.specs.Text.{putIn, putEnd};
-ghost use Rattle.command_table.specs.Commands.{rows, rowAt, nameAt, usageAt, entryAt, same, commandOf};
+ghost use Rattle.text.specs.Text.{putIn, putEnd, same};
+ghost use Rattle.command_table.specs.Commands.{rows, rowAt, nameAt, usageAt, entryAt, commandOf};
 ghost use Rattle.command_table.specs.Inner.{tableBytes, formOf};
 
 // What changes or tells the unit and the bank of a session.
@@ -38,6 +38,13 @@ pub enum Show {
     Table,
     Diagram,
     Loop,
+    Record,
+}
+
+// What is shown of the file of a plan record; no unit is wanted.
+pub enum View {
+    Report,
+    Ring,
 }
 
 // What a command does. Fresh and load make a unit.
@@ -47,15 +54,16 @@ pub enum Verb {
     Act(Act),
     Ask(Ask),
     Show(Show),
+    View(View),
 }
 
-// What comes after the name of a command: so many numbers; so many, and one more that may be left out; a tag and the latencies of a cycle; the name
-// of a file; or a list of numbers, which may be empty.
+// What comes after the name of a command: so many numbers; so many, and one more that may be left out; so many, and then the name of a file; a tag and
+// the latencies of a cycle; or a list of numbers, which may be empty.
 pub enum Form {
     Numbers(usize),
     Optional(usize),
+    File(usize),
     Cycle,
-    File,
     List,
 }
 
@@ -73,12 +81,12 @@ pub enum Named {
 }
 
 // How many commands there are, and how many bytes a row has.
-const COUNT: usize = 22;
+const COUNT: usize = 25;
 
 const WIDTH: usize = 48;
 
 // A row: how many bytes the name has, how many the usage, a number for what comes after the name (so many numbers; 16 more where one more may
-// follow; 32 for a cycle, 33 for a file, 34 for a list), and the usage, with spaces after it.
+// follow, 32 more where a file follows; 48 for a cycle, 49 for a list), and the usage, with spaces after it.
 const TABLE: [u8; COUNT * WIDTH] = *b"\
 \x05\x0b\x03fresh P S C                                  \
 \x04\x0a\x03mark Q R C                                   \
@@ -92,16 +100,19 @@ const TABLE: [u8; COUNT * WIDTH] = *b"\
 \x05\x07\x01bound Q                                      \
 \x05\x07\x01upper Q                                      \
 \x08\x0a\x01constant Q                                   \
-\x05\x0e\x20judge Q L L ..                               \
+\x05\x0e\x30judge Q L L ..                               \
 \x04\x04\x00tick                                         \
 \x05\x07\x01start Q                                      \
 \x04\x04\x00bank                                         \
-\x04\x09\x21load FILE                                    \
-\x04\x09\x21save FILE                                    \
+\x04\x09\x20load FILE                                    \
+\x04\x09\x20save FILE                                    \
 \x04\x04\x00list                                         \
 \x05\x07\x01table Q                                      \
 \x07\x09\x01diagram Q                                    \
-\x04\x0b\x22loop Q Q ..                                  \
+\x04\x0b\x31loop Q Q ..                                  \
+\x06\x0d\x21record Q FILE                                \
+\x06\x0b\x20report FILE                                  \
+\x04\x09\x20ring FILE                                    \
 ";
 
 // What each command does, in the order of the rows.
@@ -128,6 +139,9 @@ const VERBS: [Verb; COUNT] = [
     Verb::Show(Show::Table),
     Verb::Show(Show::Diagram),
     Verb::Show(Show::Loop),
+    Verb::Show(Show::Record),
+    Verb::View(View::Report),
+    Verb::View(View::Ring),
 ];
 
 // The table as bytes.
@@ -171,11 +185,11 @@ fn form_of(number: u8) -> Form
     if number < 32 {
         return Form::Optional((number - 16) as usize);
     }
-    if number == 32 {
-        return Form::Cycle;
+    if number < 48 {
+        return Form::File((number - 32) as usize);
     }
-    if number == 33 {
-        return Form::File;
+    if number == 48 {
+        return Form::Cycle;
     }
     Form::List
 }

@@ -1,10 +1,19 @@
--- Lines that say what was expected, worked out by hand. Assumes nothing.
+-- Lines that say a command, and lines that say what was expected, worked out by hand. Assumes nothing.
 use mathlib.Core.Path.{_≡_, refl}
 use mathlib.Core.List.{[], _∷_, _++_}
-use Rattle.text.specs.Text.{ascii, digits, decimal}
-use Rattle.command_table.specs.Commands.{rowAt, usageAt}
+use Rattle.words.specs.Below.{joinBelow}
+use Rattle.text.specs.Text.{ascii, digits, decimal, spaced}
+use Rattle.command_table.specs.Commands.{rowAt, nameAt, usageAt}
 use Rattle.command.specs.declared.Trouble.the-variants as Trouble
-use Rattle.command_text.specs.Written.{troubleText}
+use Rattle.command_text.specs.Written.{fileLine, troubleText}
+
+pub a-file : fileLine 16 [] (ascii "a.unit") ≡ ascii "load a.unit"
+unfolding spaced joinBelow nameAt rowAt
+a-file = refl
+
+pub file-after-a-number : fileLine 22 (1 ∷ []) (ascii "plan") ≡ ascii "record 1 plan"
+unfolding spaced joinBelow decimal digits nameAt rowAt
+file-after-a-number = refl
 
 pub usage-of-mark : troubleText 12 (Trouble.Usage 1) ≡ ascii "line 12: expected mark Q R C" ++ (10 ∷ [])
 unfolding troubleText decimal digits usageAt rowAt

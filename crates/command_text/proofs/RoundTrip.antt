@@ -3,11 +3,12 @@ use mathlib.Core.Path.{_≡_, refl, sym, ap, _∙_}
 use mathlib.Core.Bool.{Bool, true, false, cond, not, _&&_}
 use mathlib.Core.List.{List, [], _∷_, _++_, map, append-assoc, append-nil}
 use Prim.Native.Nat.{ℕ, zero, suc, _+_, _-_, _^_, _≤_, _<_}
+use native.Mathlib.Numerals.{add-one}
 use native.Mathlib.Omega.{arith}
-use borrow.Author.Tests.{ne-eqb, eqb-false, not-true, leb-true}
+use borrow.Author.Tests.{eq-eqb, ne-eqb, eqb-false, not-true, leb-true}
 use lib.Dec.{eqb, leb}
-use lib.ListN.{length, getD, take, drop}
-use lib.Seq.{take-all, drop-at}
+use lib.ListN.{length, getD, take, drop, length-append}
+use lib.Seq.{take-all, take-at, drop-at, getD-at}
 use Rattle.words.specs.Below.{joinBelow}
 use Rattle.words.specs.Bytes.{narrow}
 use Rattle.words.proofs.Tests.{and-left, and-right, and-true, nowhere}
@@ -23,7 +24,7 @@ use Rattle.command.specs.declared.Trouble.the-variants as Trouble
 use Rattle.command.specs.declared.Request.{Request}
 use Rattle.command.specs.declared.Parsed.{Parsed}
 use Rattle.command.specs.declared.Parsed.the-variants as Parsed
-use Rattle.command.specs.Lines.{textOf, isBlank, partsOf, wordsOf, wordAt, isNumber, numberSaid, allNumbers, fits, requested, named, isComment, said, meaning, narrowed, latenciesIn, tagsIn, fileIn}
+use Rattle.command.specs.Lines.{textOf, isBlank, partsOf, wordsOf, wordAt, isNumber, numberSaid, allNumbers, fits, requested, named, isComment, said, meaning, narrowed, latenciesIn, tagsIn, wordIn}
 use Rattle.command.proofs.WordLaws.{first-byte, first-blank, first-none, words-none, words-blank, words-first}
 use Rattle.command.proofs.NumberLaws.{digits-each, number-is}
 use Rattle.command.proofs.ScanLaws.{all-cons, all-none, number-none}
@@ -110,11 +111,26 @@ digit-plain b h = rw (ne-eqb b 32 (λ e. omega arith), ne-eqb b 9 (λ e. omega a
 decimal-blankless : (n : ℕ) → blankless (decimal n) ≡ true
 decimal-blankless n = blankless-each (decimal n) (λ i h. digit-plain (getD (decimal n) i 0) (decimal-digits n i h .0))
 
+-- a word, numbers, and then what begins with a blank, or is empty
+words-spaced : (word numbers rest : List ℕ) → 1 ≤ length word → blankless word ≡ true → wordAt (partsOf rest) 0 ≡ []
+    → wordsOf (word ++ (spaced numbers ++ rest)) ≡ word ∷ (map decimal numbers ++ wordsOf rest)
+words-spaced word [] rest h e z = ap (λ x. wordsOf (word ++ (x ++ rest))) spaced-none ∙ words-before word rest h e z
+words-spaced word (n ∷ numbers) rest h e z =
+    ap (λ x. wordsOf (word ++ (x ++ rest))) (spaced-cons n numbers)
+    ∙ ap (λ x. wordsOf (word ++ (32 ∷ x))) (append-assoc (decimal n) (spaced numbers) rest)
+    ∙ words-then word (decimal n ++ (spaced numbers ++ rest)) h e
+    ∙ ap (λ x. word ∷ x) (words-spaced (decimal n) numbers rest (decimal-some n) (decimal-blankless n) z)
+
 words-numbers : (word numbers : List ℕ) → 1 ≤ length word → blankless word ≡ true → wordsOf (word ++ spaced numbers) ≡ word ∷ map decimal numbers
-words-numbers word [] h e = ap wordsOf (ap (λ x. word ++ x) spaced-none ∙ append-nil word) ∙ words-alone word h e
-words-numbers word (n ∷ numbers) h e =
-    ap (λ x. wordsOf (word ++ x)) (spaced-cons n numbers) ∙ words-then word (decimal n ++ spaced numbers) h e
-    ∙ ap (λ x. word ∷ x) (words-numbers (decimal n) numbers (decimal-some n) (decimal-blankless n))
+words-numbers word numbers h e =
+    ap (λ x. wordsOf (word ++ x)) (sym (append-nil (spaced numbers))) ∙ words-spaced word numbers [] h e first-none
+    ∙ ap (λ x. word ∷ x) (ap (λ x. map decimal numbers ++ x) words-none ∙ append-nil (map decimal numbers))
+
+words-file : (word numbers file : List ℕ) → 1 ≤ length word → blankless word ≡ true → 1 ≤ length file → blankless file ≡ true
+    → wordsOf (word ++ (spaced numbers ++ (32 ∷ file))) ≡ word ∷ (map decimal numbers ++ (file ∷ []))
+words-file word numbers file h e some plain =
+    words-spaced word numbers (32 ∷ file) h e (first-blank 32 file refl)
+    ∙ ap (λ x. word ∷ (map decimal numbers ++ x)) (words-blank 32 file refl ∙ words-alone file some plain)
 
 spaced-returnless : (numbers : List ℕ) → returnless (spaced numbers) ≡ true
 spaced-returnless [] = ap returnless spaced-none
@@ -144,6 +160,14 @@ number-at : (numbers : List ℕ) (i : ℕ) → Small numbers → numberSaid (wor
 number-at [] i s = number-none
 number-at (n ∷ numbers) zero s = decimal-number n (s 0 (omega arith)) .1
 number-at (n ∷ numbers) (suc i) s = number-at numbers i (small-rest n numbers s)
+
+-- the numbers that the words before a file and the file say
+number-before : (numbers file : List ℕ) (i : ℕ) → Small numbers
+    → numberSaid (wordAt (map decimal numbers ++ (file ∷ [])) i) ≡ getD (numbers ++ (numberSaid file ∷ [])) i 0
+number-before [] file zero s = refl
+number-before [] file (suc i) s = number-none
+number-before (n ∷ numbers) file zero s = decimal-number n (s 0 (omega arith)) .1
+number-before (n ∷ numbers) file (suc i) s = number-before numbers file i (small-rest n numbers s)
 
 count-decimal : (numbers : List ℕ) → length (map decimal numbers) ≡ length numbers
 count-decimal [] = refl
@@ -217,8 +241,8 @@ suits-fits (Form.Numbers k) numbers s e = and-true (ap (λ n. eqb n k) (count-de
 suits-fits (Form.Optional k) numbers s e =
     and-true (ap (leb k) (count-decimal numbers) ∙ and-left (leb k (length numbers)) (leb (length numbers) (k + 1)) e)
     (and-true (ap (λ n. leb n (k + 1)) (count-decimal numbers) ∙ and-right (leb k (length numbers)) (leb (length numbers) (k + 1)) e) (all-decimal numbers s))
+suits-fits (Form.File k) numbers s e = nowhere e
 suits-fits Form.Cycle numbers s e = and-true (ap (leb 1) (count-decimal numbers) ∙ e) (all-decimal numbers s)
-suits-fits Form.File numbers s e = nowhere e
 suits-fits Form.List numbers s e = all-decimal numbers s
 
 -- a command by its parts
@@ -250,23 +274,52 @@ pub tags-parsed : (row : ℕ) (tags : List ℕ) → row < length rows → ((i : 
 unfolding tagsIn
 tags-parsed row tags h s = bytes-from row h 1 tags ∙ narrow-decimal tags s
 
--- a command with a file is parsed again, and its file is the same
-pub file-parsed : (row : ℕ) (file : List ℕ) → row < length rows → rowAt row .form ≡ Form.File → 1 ≤ length file
+-- Lines with a file
+
+-- the words after the name
+abbrev fileWords : List ℕ → List ℕ → List (List ℕ)
+fileWords numbers file = map decimal numbers ++ (file ∷ [])
+
+file-count : (numbers file : List ℕ) → length (fileWords numbers file) ≡ length numbers + 1
+file-count numbers file = length-append (map decimal numbers) (file ∷ []) ∙ ap (λ n. n + 1) (count-decimal numbers)
+
+file-fits : (numbers file : List ℕ) → Small numbers → fits (Form.File (length numbers)) (fileWords numbers file) ≡ true
+file-fits numbers file s =
+    and-true (eq-eqb (length (fileWords numbers file)) (length numbers + 1) (file-count numbers file))
+    (ap allNumbers (take-at (map decimal numbers) (file ∷ []) (length numbers) (count-decimal numbers)) ∙ all-decimal numbers s)
+
+file-last : (name numbers file : List ℕ) → wordAt (name ∷ fileWords numbers file) (length numbers + 1) ≡ file
+file-last name numbers file =
+    ap (wordAt (name ∷ fileWords numbers file)) (add-one (length numbers))
+    ∙ getD-at (map decimal numbers) file [] [] (length numbers) (count-decimal numbers)
+
+-- a command with numbers and a file is parsed again, and its file is the same
+pub file-parsed : (row : ℕ) (numbers file : List ℕ) → row < length rows → rowAt row .form ≡ Form.File (length numbers)
+    → ((i : ℕ) → i < length numbers → getD numbers i 0 < 2 ^ 32) → 1 ≤ length file
     → ((i : ℕ) → i < length file → isBlank (getD file i 0) ≡ false) → ((i : ℕ) → i < length file → getD file i 0 ≡ 13 → ⊥)
-    → length (fileLine row file) ≤ 4096
-    → (meaning (fileLine row file) ≡ Parsed.Command (record { verb = rowAt row .verb; count = 1; first = numberSaid file; second = 0; third = 0 }))
-    × (fileIn (fileLine row file) ≡ file)
-unfolding fileIn
-file-parsed row file h f some each none l =
-    let words : wordsOf (fileLine row file) ≡ nameAt row ∷ file ∷ [] =
-    words-then (nameAt row) file (name-some row h) (letters-blankless (nameAt row) (letters row h))
-    ∙ ap (λ x. nameAt row ∷ x) (words-alone file some (blankless-each file each))
+    → length (fileLine row numbers file) ≤ 4096
+    → (meaning (fileLine row numbers file)
+    ≡ Parsed.Command (record {
+      verb = rowAt row .verb;
+      count = length numbers + 1;
+      first = getD (numbers ++ (numberSaid file ∷ [])) 0 0;
+      second = getD (numbers ++ (numberSaid file ∷ [])) 1 0;
+      third = getD (numbers ++ (numberSaid file ∷ [])) 2 0;
+    }))
+    × (wordIn (fileLine row numbers file) (length numbers + 1) ≡ file)
+unfolding wordIn
+file-parsed row numbers file h f s some each none l =
+    let rest : List ℕ = spaced numbers ++ (32 ∷ file) in
+    let plain : returnless rest ≡ true = returnless-join (spaced numbers) (32 ∷ file) (spaced-returnless numbers) (returnless-each file none) in
+    let words : wordsOf (fileLine row numbers file) ≡ nameAt row ∷ fileWords numbers file =
+    words-file (nameAt row) numbers file (name-some row h) (letters-blankless (nameAt row) (letters row h)) some (blankless-each file each)
     in
-    let plain : returnless (32 ∷ file) ≡ true = returnless-each file none in
-    let fit : fits (rowAt row .form) (file ∷ []) ≡ true = ap (λ x. fits x (file ∷ [])) f in
-    let text : textOf (fileLine row file) ≡ fileLine row file =
-    whole-text (fileLine row file) (returnless-join (nameAt row) (32 ∷ file) (letters-returnless (nameAt row) (letters row h)) plain)
+    let fit : fits (rowAt row .form) (fileWords numbers file) ≡ true = ap (λ x. fits x (fileWords numbers file)) f ∙ file-fits numbers file s in
+    let text : textOf (fileLine row numbers file) ≡ fileLine row numbers file =
+    whole-text (fileLine row numbers file) (returnless-join (nameAt row) rest (letters-returnless (nameAt row) (letters row h)) plain)
     in (
-      line-says row h (32 ∷ file) (file ∷ []) l plain words fit ∙ ap Parsed.Command (same-request (rowAt row .verb) refl refl number-none number-none),
-      ap (λ x. wordAt (wordsOf x) 1) text ∙ ap (λ w. wordAt w 1) words,
+      line-says row h rest (fileWords numbers file) l plain words fit
+          ∙ ap Parsed.Command
+          (same-request (rowAt row .verb) (file-count numbers file) (number-before numbers file 0 s) (number-before numbers file 1 s) (number-before numbers file 2 s)),
+      ap (λ x. wordAt (wordsOf x) (length numbers + 1)) text ∙ ap (λ w. wordAt w (length numbers + 1)) words ∙ file-last (nameAt row) numbers file,
     )

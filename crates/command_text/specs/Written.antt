@@ -17,16 +17,16 @@ use Rattle.command.specs.declared.Trouble.the-variants as Trouble
 abbrev pub numberLine : ℕ → List ℕ → List ℕ
 numberLine row numbers = nameAt row ++ spaced numbers
 
--- the name and the file after a space
-abbrev pub fileLine : ℕ → List ℕ → List ℕ
-fileLine row file = nameAt row ++ (32 ∷ file)
+-- the name, and after it the numbers in decimal and the file, each after a space
+abbrev pub fileLine : ℕ → List ℕ → List ℕ → List ℕ
+fileLine row numbers file = nameAt row ++ (spaced numbers ++ (32 ∷ file))
 
--- the numbers are what the command wants
+-- the numbers alone are what the command wants
 abbrev pub suits : Form → List ℕ → Bool
 suits (Form.Numbers k) numbers = eqb (length numbers) k
 suits (Form.Optional k) numbers = leb k (length numbers) && leb (length numbers) (k + 1)
+suits (Form.File k) numbers = false
 suits Form.Cycle numbers = leb 1 (length numbers)
-suits Form.File numbers = false
 suits Form.List numbers = true
 
 -- What was expected

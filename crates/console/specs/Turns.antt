@@ -89,16 +89,17 @@ actReply Act.Tick s r = answerLine (eventAsked s Event.Tick)
 actReply Act.Start s r = answerLine (eventAsked s (Event.Start (tag (one r))))
 actReply Act.Bank s r = bankLine (s .bank)
 
--- What a session with a unit answers to a command. The commands that make a unit, and those that write a file, list or draw, are answered elsewhere, and
--- here by nothing.
+-- What a session with a unit answers to a command. The commands that make a unit, and those that write or show a file, list or draw, are answered
+-- elsewhere, and here by nothing.
 unfoldable pub unitReply : Verb → Session → Request → List ℕ → List ℕ
 unitReply Verb.Fresh s r line = []
 unitReply Verb.Load s r line = []
 unitReply (Verb.Act a) s r line = actReply a s r
 unitReply (Verb.Ask a) s r line = question s (questionOf a r) line
 unitReply (Verb.Show a) s r line = []
+unitReply (Verb.View a) s r line = []
 
--- before the first fresh or load every other command is answered `no unit`
+-- before the first fresh or load every command that wants a unit is answered `no unit`
 unfoldable pub turnReply : Session → Request → List ℕ → List ℕ
 turnReply s r line = cond (s .present) (unitReply (r .verb) s r line) noUnit
 
@@ -128,6 +129,7 @@ UnitNext Verb.Load s r after = after ≡ s
 UnitNext (Verb.Act a) s r after = ActNext a s r after
 UnitNext (Verb.Ask a) s r after = after ≡ s
 UnitNext (Verb.Show a) s r after = after ≡ s
+UnitNext (Verb.View a) s r after = after ≡ s
 
 -- without a unit nothing changes
 abbrev pub Next : Bool → Verb → Session → Request → Session → Type 0

@@ -165,5 +165,6 @@ pub fn turn(session: Session, request: Request, line: &[u8], out: &mut [u8]) -> 
         Verb::Fresh => Reply { session, end: 0 },
         Verb::Load => Reply { session, end: 0 },
         Verb::Show(_) => Reply { session, end: 0 },
+        Verb::View(_) => Reply { session, end: 0 },
     }
 }

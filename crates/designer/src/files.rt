@@ -1,6 +1,7 @@
-// Unit files by name.
+// Files by name: units and plan records.
 ghost use Rattle.libc.specs.Io.{Ended};
 use unit::FunctionUnit;
+use unit::Tag;
 use unit_file::Written;
 
 // How many bytes of a file were read, if it can be read.
@@ -120,18 +121,30 @@ fn store(name: &[u8], area: &[u8], length: usize) -> bool {
     replace(name, &part[..end], &area[..length])
 }
 
-// Writes a unit's file, and answers whether the answer was said.
-pub fn save(u: FunctionUnit, name: &[u8]) -> bool {
-    let mut area = [0u8; 512];
-    let written = unit_writer::write(u, &mut area);
+// Writes what a writer put into an area to a file, and answers whether the answer was said.
+fn keep(name: &[u8], area: &[u8], written: Written) -> bool {
     match written {
         Written::Refused(why) => crate::say_refusal(why),
         Written::Length(length) => {
-            if store(name, &area, length as usize) {
+            if store(name, area, length as usize) {
                 io::write_all(1, b"ok\n")
             } else {
                 io::write_all(1, b"not written\n")
             }
         }
     }
+}
+
+// Writes a unit's file.
+pub fn save(u: FunctionUnit, name: &[u8]) -> bool {
+    let mut area = [0u8; 512];
+    let written = unit_writer::write(u, &mut area);
+    keep(name, &area, written)
+}
+
+// Writes the record of a function's plan. There is room for every record (`SearchRecorded`, crate record_text).
+pub fn save_record(u: FunctionUnit, tag: Tag, name: &[u8]) -> bool {
+    let mut area = [0u8; plan_record::LONGEST];
+    let written = record_text::write_plan(u, tag, &mut area);
+    keep(name, &area, written)
 }

@@ -10,6 +10,7 @@ use command::Request;
 use command::Trouble;
 use command_table::Show;
 use command_table::Verb;
+use command_table::View;
 use drawing::Drawn;
 use files::Found;
 use listing::Listed;
@@ -90,15 +91,16 @@ fn tell_loop(u: FunctionUnit, line: &[u8]) -> bool {
     say_front(&area, end)
 }
 
-// What leaves the session as it is: to save, to list, to draw, and to look for a loop.
+// What leaves the session as it is: to save the unit or the record of a plan, to list, to draw, and to look for a loop.
 fn show_unit(u: FunctionUnit, what: Show, request: Request, line: &[u8]) -> bool {
     let tag = Tag(words::byte(request.first));
     match what {
-        Show::Save => files::save(u, command::file_name(line)),
+        Show::Save => files::save(u, command::word(line, request.count)),
         Show::List => list(u),
         Show::Table => draw_table(u, tag),
         Show::Diagram => draw_diagram(u, tag),
         Show::Loop => tell_loop(u, line),
+        Show::Record => files::save_record(u, tag, command::word(line, request.count)),
     }
 }
 
@@ -160,12 +162,47 @@ fn load(session: Session, name: &[u8]) -> Answered {
     }
 }
 
+// What the report, or the loader, reads from a file.
+fn report(file: &[u8]) -> bool {
+    let mut area = io::buffer();
+    let end = record_text::report(file, &mut area);
+    say_front(&area, end)
+}
+
+fn ring(file: &[u8]) -> bool {
+    let mut area = io::large_buffer();
+    let end = record_text::ring(file, &mut area);
+    say_front(&area, end)
+}
+
+fn view_front(what: View, file: &[u8], count: usize) -> bool {
+    if file.len() < count {
+        return false;
+    }
+    match what {
+        View::Report => report(&file[..count]),
+        View::Ring => ring(&file[..count]),
+    }
+}
+
+// No record has more than 1,288 bytes, and of a longer file the first 1,289 tell as much as all (`FrontTells`, crate plan_record).
+fn view(session: Session, what: View, name: &[u8]) -> Answered {
+    let mut file = [0u8; 2048];
+    let found = files::load(name, &mut file);
+    let said = match found {
+        Found::Nothing => io::write_all(1, b"no file\n"),
+        Found::Bytes(count) => view_front(what, &file, count),
+    };
+    Answered { session, said }
+}
+
 fn obey(session: Session, request: Request, line: &[u8]) -> Answered {
     let verb = request.verb;
     match verb {
         Verb::Fresh => fresh(session, request),
-        Verb::Load => load(session, command::file_name(line)),
+        Verb::Load => load(session, command::word(line, request.count)),
         Verb::Show(what) => show(session, what, request, line),
+        Verb::View(what) => view(session, what, command::word(line, request.count)),
         _ => turn(session, request, line),
     }
 }

@@ -24,6 +24,14 @@ width-top cv h = eqb-true (bit cv (width cv - 1)) 1 (span-passes 32 (isSet cv) (
 pub width-above : (cv j : ℕ) → width cv ≤ j → j < 32 → isSet cv j ≡ false
 width-above cv j h l = not-passed (isSet cv j) (λ e. let k = span-above 32 (isSet cv) j l e in omega arith)
 
+-- a vector without a column 32 has a width of at most 31
+pub width-31 : (cv : ℕ) → cv < 2 ^ 31 → width cv ≤ 31
+width-31 cv h = go (decLt 31 (width cv))
+  where
+    go : Dec (31 < width cv) → width cv ≤ 31
+    go (yes l) = let z = bit-above cv 31 (width cv - 1) h (omega arith) in absurd (omega (arith, width-top cv (omega arith)))
+    go (no l) = omega arith
+
 -- a vector has no more bits than its width
 pub width-lt : (cv : ℕ) → cv < 2 ^ 32 → cv < 2 ^ width cv
 width-lt cv h = go (decLt cv (2 ^ width cv))

@@ -10,12 +10,11 @@ use lib.ListN.{length, getD}
 use lib.Seq.{getD-take}
 use borrow.Author.Tests.{lt-ltb, le-ltb, le-leb, lt-leb}
 use Rattle.words.proofs.Tests.{nowhere}
-use Rattle.words.proofs.BitLaws.{bit-above}
 use Rattle.diagram.specs.Diagram.{width, next, Permits, Reachable}
 use Rattle.diagram.specs.States.{states}
 use Rattle.diagram.specs.Cycles.{CycleFrom}
 use Rattle.diagram.specs.Work.{stateIn, enlistAnswer, Enlisted}
-use Rattle.diagram.proofs.WidthLaws.{width-top}
+use Rattle.diagram.proofs.WidthLaws.{width-31}
 use Rattle.diagram.proofs.StateLaws.{states-width}
 use Rattle.diagram.proofs.Listing.{list-extends, states-distinct, states-reached, states-closed}
 use Rattle.mean_cycle.specs.declared.Cycle.{Cycle}
@@ -27,16 +26,6 @@ use Rattle.mean_cycle.specs.Inner.{Listing}
 use Rattle.mean_cycle.proofs.Links.{decide}
 use Rattle.mean_cycle.proofs.Bounds.{walk-nodes}
 use Rattle.mean_cycle.proofs.Cycles.{ruled, spell, cycle-spell, total-spell, cycle-from, cycle-begins}
-
--- a vector without a column 32 has a width of at most 31
-width-31 : (cv : ℕ) → cv < 2 ^ 31 → width cv ≤ 31
-width-31 cv h =
-    decide
-    (decLe (width cv) 31)
-    (λ l. l)
-    (λ n.
-    let z = bit-above cv 31 (width cv - 1) h (omega arith) in
-    absurd (omega (arith, width-top cv (omega arith))))
 
 -- how many states there are, by what enlist answers
 abbrev size : ℕ → ℕ

@@ -125,21 +125,28 @@ plan-marks : (u : FunctionUnit) (p : Plan) → marked (withPlan u p) ≡ marked 
 unfolding marked
 plan-marks u p = refl
 
+-- what a search leaves of a sound unit is sound
+pub found-sound : (u : FunctionUnit) (q : ℕ) (after : FunctionUnit) → soundOf u ≡ true → Found u q after → soundOf after ≡ true
+found-sound u q after e f =
+    let d = sound-has u e in
+    let p = planOf q (f .cycle) in
+    ap soundOf (f .unit)
+    ∙ sound-of (withPlan u p) (record {
+      functions = d .functions;
+      segments = d .segments;
+      columns = d .columns;
+      plan = plan-sound q (length (f .cycle)) (f .best .latencies .nonempty) (f .few);
+      marks = inside-test (withPlan u p) (λ x y z m. inside-means u (d .marks) x y z (sym (ap (λ g. g x y z) (plan-marks u p)) ∙ m));
+    })
+
 found-kept : (u : FunctionUnit) (t : Sheet) (q : ℕ) (after : FunctionUnit) → Kept u t → Found u q after → Kept after (owing t q)
 found-kept u t q after k f =
-    let d = sound-has u (k .sound) in
     let cycle = f .cycle in
     let p = planOf q cycle in
     let e : take (length cycle) (cycle ++ replicate (256 - length cycle) 0) ≡ cycle = take-append-seam cycle (replicate (256 - length cycle) 0) in
     subst (λ (x : FunctionUnit). Kept x (owing t q)) (sym (f .unit))
     (record {
-      sound = sound-of (withPlan u p) (record {
-        functions = d .functions;
-        segments = d .segments;
-        columns = d .columns;
-        plan = plan-sound q (length cycle) (f .best .latencies .nonempty) (f .few);
-        marks = inside-test (withPlan u p) (λ x y z m. inside-means u (d .marks) x y z (sym (ap (λ g. g x y z) (plan-marks u p)) ∙ m));
-      });
+      sound = ap soundOf (sym (f .unit)) ∙ found-sound u q after (k .sound) f;
       words = record { count = k .words .count; small = k .words .small };
       functions = k .functions;
       segments = k .segments;

@@ -5,4 +5,5 @@ mod Examples
 mod HigherLaws
 pub mod PutLaws
 pub mod RowLaws
+pub mod SameLaws
 pub mod WroteLaws

@@ -1,5 +1,5 @@
--- Text as a list of bytes, numbers in decimal, the columns of a word, and text put into lent bytes from an index on.
-use mathlib.Core.Bool.{cond}
+-- Text as a list of bytes, texts compared, numbers in decimal, the columns of a word, and text put into lent bytes from an index on.
+use mathlib.Core.Bool.{Bool, true, false, cond, _&&_}
 use mathlib.Core.List.{List, [] as none, _∷_ as _then_, _++_, foldl}
 use Prim.Native.Nat.{ℕ, zero, suc, _+_, _-_, _*_, _/_, _%_}
 use Prim.Native.Char.{code}
@@ -15,6 +15,13 @@ use Rattle.words.specs.Below.{listBelow, joinBelow}
 abbrev pub ascii : String → List ℕ
 ascii [] = none
 ascii (c ∷ s) = code c then ascii s
+
+-- two texts are the same, byte by byte (`same-eq`, `same-of`, proofs/SameLaws.antt)
+unfoldable pub same : List ℕ → List ℕ → Bool
+same none none = true
+same none (b then y) = false
+same (a then x) none = false
+same (a then x) (b then y) = eqb a b && same x y
 
 -- the byte of one decimal digit
 abbrev pub digit : ℕ → ℕ

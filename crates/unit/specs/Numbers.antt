@@ -2,7 +2,7 @@
 use mathlib.Core.List.{List, [], _∷_}
 use Prim.Native.Nat.{ℕ}
 use Rattle.unit.specs.declared.Refusal.{Refusal}
-use Rattle.unit.specs.declared.Refusal.the-variants.{NotSound, NoSuchTag, NoSuchSegment, NoSuchColumn, ShortWork, ShortOutput, TooManyStates, NoPlan, BadCycle, NotGranted, BadLength, BadHeader, MarkBeyondColumns, BadLoop}
+use Rattle.unit.specs.declared.Refusal.the-variants.{NotSound, NoSuchTag, NoSuchSegment, NoSuchColumn, ShortWork, ShortOutput, TooManyStates, NoPlan, BadCycle, NotGranted, BadLength, BadHeader, MarkBeyondColumns, BadRecord, BadLoop}
 use Rattle.unit.specs.declared.Answer.{Answer}
 use Rattle.unit.specs.declared.Answer.the-variants.{Done, Refused}
 
@@ -31,6 +31,8 @@ numberOf BadLength = 11
 numberOf BadHeader = 12
 -- a mark of a file beyond the columns
 numberOf MarkBeyondColumns = 13
+-- a plan record, or a plan to be written, that no cycle of 1 to 256 latencies, each 1 to 32, gives; a plan of tag 0 to be written
+numberOf BadRecord = 15
 -- a loop of no tags, or of more than 8
 numberOf BadLoop = 17
 
@@ -38,7 +40,7 @@ numberOf BadLoop = 17
 abbrev pub refusals : List Refusal
 refusals =
     NotSound ∷ NoSuchTag ∷ NoSuchSegment ∷ NoSuchColumn ∷ ShortWork ∷ ShortOutput ∷ TooManyStates ∷ NoPlan ∷ BadCycle ∷ NotGranted ∷ BadLength
-    ∷ BadHeader ∷ MarkBeyondColumns ∷ BadLoop ∷ []
+    ∷ BadHeader ∷ MarkBeyondColumns ∷ BadRecord ∷ BadLoop ∷ []
 
 -- the number that an answer tells: 0 where the call was accepted
 abbrev pub numberIn : Answer → ℕ

@@ -47,6 +47,7 @@ pub enum Refusal {
     BadLength,
     BadHeader,
     MarkBeyondColumns,
+    BadRecord,
     BadLoop,
 }
 
@@ -79,6 +80,7 @@ fn number(why: Refusal) -> u8
         Refusal::BadLength => 11,
         Refusal::BadHeader => 12,
         Refusal::MarkBeyondColumns => 13,
+        Refusal::BadRecord => 15,
         Refusal::BadLoop => 17,
     }
 }

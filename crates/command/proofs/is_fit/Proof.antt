@@ -13,14 +13,17 @@ enum-known-form-2 c = search needs
 is-optional-requires : tie.Need-is-optional-requires
 is-optional-requires c κs = search needs
 
+enum-known-form-3 : tie.Need-enum-known-form-3
+enum-known-form-3 c = search needs
+
+is-file-requires : tie.Need-is-file-requires
+is-file-requires c κs = search needs
+
 enum-told : tie.Need-enum-told
 enum-told c = search needs
 
 enum-told-2 : tie.Need-enum-told-2
 enum-told-2 c = search needs
-
-enum-told-3 : tie.Need-enum-told-3
-enum-told-3 c = search needs
 
 returns : tie.Need-returns
 returns c = let f = c .before .before .before in rw (f .form .given .1) (fit-numbers (f .before .before .args .words) _ (c .if1 .taken))
@@ -32,16 +35,16 @@ returns-3 : tie.Need-returns-3
 returns-3 c = rw (c .before .before .form2 .given .1) (c .is-optional .ensures)
 
 returns-4 : tie.Need-returns-4
-returns-4 c = let e = c .before .before in rw (e .enum-told .given .1) (fit-cycle (e .before .before .args .words) (c .if2 .taken))
+returns-4 c = rw (c .before .before .form3 .given .1) (c .is-file .ensures)
 
 returns-5 : tie.Need-returns-5
-returns-5 c = let e = c .before .before in rw (e .enum-told .given .1) (fit-cycle-not (e .before .before .args .words) (c .if2 .left))
+returns-5 c = let e = c .before .before in rw (e .enum-told .given .1) (fit-cycle (e .before .before .args .words) (c .if2 .taken))
 
 returns-6 : tie.Need-returns-6
-returns-6 c = rw (c .before .enum-told2 .given .1)
+returns-6 c = let e = c .before .before in rw (e .enum-told .given .1) (fit-cycle-not (e .before .before .args .words) (c .if2 .left))
 
 returns-7 : tie.Need-returns-7
-returns-7 c = rw (c .enum-told3 .given .1)
+returns-7 c = rw (c .enum-told2 .given .1)
 
 pub is-fit-spec : {M : Type 1} → statement M
 is-fit-spec =
@@ -50,9 +53,10 @@ is-fit-spec =
     enum-known-form
     enum-known-form-2
     is-optional-requires
+    enum-known-form-3
+    is-file-requires
     enum-told
     enum-told-2
-    enum-told-3
     returns
     returns-2
     returns-3

@@ -4,7 +4,8 @@ use native.Mathlib.Omega.{arith}
 use borrow.Author.Needs.{needs}
 use mathlib.Core.Path.{ap, _∙_}
 use lib.ListN.{length}
-use Rattle.command_table.specs.Commands.{rows, same}
+use Rattle.text.specs.Text.{same}
+use Rattle.command_table.specs.Commands.{rows}
 use Rattle.command_table.proofs.NameLaws.{Passed, passed-start, passed-found, passed-more, passed-end}
 use Rattle.command_table.proofs.find_in.Statement.{statement}
 use Rattle.command_table.proofs.find_in.Tie as tie

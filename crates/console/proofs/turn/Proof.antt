@@ -39,6 +39,9 @@ enum-told-2 c = search needs
 enum-told-3 : tie.Need-enum-told-3
 enum-told-3 c = search needs
 
+enum-told-4 : tie.Need-enum-told-4
+enum-told-4 c = search needs
+
 same-length-2 : tie.Need-same-length-2
 same-length-2 c = search needs
 
@@ -65,6 +68,10 @@ returns-6 : tie.Need-returns-6
 unfolding unitReply UnitNext
 returns-6 c = turned-by (not-false _ (c .before .before .if1 .left)) (c .enum-told3 .given .1) gives-nothing
 
+returns-7 : tie.Need-returns-7
+unfolding unitReply UnitNext
+returns-7 c = turned-by (not-false _ (c .before .before .if1 .left)) (c .enum-told4 .given .1) gives-nothing
+
 pub turn-spec : {M : Type 1} → statement M
 turn-spec =
     tie.close
@@ -80,10 +87,12 @@ turn-spec =
     enum-told
     enum-told-2
     enum-told-3
+    enum-told-4
     same-length-2
     returns-2
     same-length-3
     returns-3
     returns-4
     returns-5
-    returns-6)
+    returns-6
+    returns-7)

@@ -25,7 +25,7 @@ returns : tie.Need-returns
 returns c =
     let n = c .before .before in
     let t = number-told _ _ (sym (n .numeral .given .1) ∙ n .before .before .number-of .ensures) in
-    c .note .ensures ∙ noted-number _ _ _ (t .0) (t .1)
+    c .note .ensures ∙ noted-number (n .before .before .before .before .args .words) _ _ (t .0) (t .1)
 
 returns-2 : tie.Need-returns-2
 returns-2 c =

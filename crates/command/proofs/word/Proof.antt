@@ -1,12 +1,11 @@
--- `command::file_name` meets its contract. Assumes nothing.
+-- `command::word` meets its contract. Assumes nothing.
 use mathlib.Core.Path.{sym}
-use native.Mathlib.Omega.{arith}
 use lib.Seq.{length-take-le}
 use Rattle.command.proofs.WordLaws.{word-inside}
-use Rattle.command.proofs.LineLaws.{file-word}
+use Rattle.command.proofs.LineLaws.{word-read}
 use borrow.Author.Needs.{needs}
-use Rattle.command.proofs.file_name.Statement.{statement}
-use Rattle.command.proofs.file_name.Tie as tie
+use Rattle.command.proofs.word.Statement.{statement}
+use Rattle.command.proofs.word.Tie as tie
 
 text-end-requires : tie.Need-text-end-requires
 text-end-requires c κs = search needs
@@ -14,8 +13,8 @@ text-end-requires c κs = search needs
 slice-aggregate-text : tie.Need-slice-aggregate-text
 slice-aggregate-text c = sym (length-take-le _ _ (c .before .text-end .ensures .inside))
 
-past-word-requires : tie.Need-past-word-requires
-past-word-requires c κs = search needs
+past-words-requires : tie.Need-past-words-requires
+past-words-requires c κs = search needs
 
 word-start-requires : tie.Need-word-start-requires
 word-start-requires c κs = search needs
@@ -37,15 +36,15 @@ returns c =
     let w = c .before in
     let s = w .before in
     let p = s .before in
-    file-word _ _ _ _ _ (p .before .before .text-end .ensures) (p .past-word .ensures) (s .word-start .ensures) (w .word-end .ensures)
+    word-read _ _ _ _ _ _ (p .before .before .text-end .ensures) (p .past-words .ensures) (s .word-start .ensures) (w .word-end .ensures)
 
-pub file-name-spec : {M : Type 1} → statement M
-file-name-spec =
+pub word-spec : {M : Type 1} → statement M
+word-spec =
     tie.close
     (tie.spec
     text-end-requires
     slice-aggregate-text
-    past-word-requires
+    past-words-requires
     word-start-requires
     word-end-requires
     sub-result

@@ -1,0 +1,5 @@
+pub mod Record
+pub mod Read
+pub mod Write
+pub mod Claims
+pub mod Inner

@@ -1,0 +1,4 @@
+mod RecordLaws
+mod LineLaws
+pub mod Claims
+mod Examples

@@ -1,0 +1,4 @@
+pub mod Plans
+pub mod Lines
+pub mod Claims
+pub mod Inner
