@@ -28,7 +28,7 @@ use Rattle.plan_record.specs.declared.Shown.the-variants as Shown
 use Rattle.plan_record.specs.Record.{Recordable, recordable, starts, ringOf, ringBit, recordOf}
 use Rattle.plan_record.specs.Read.{listIn, isRecord, reportAnswer, reportList, loadAnswer, loadRing, intervalsBelow, listFromRing}
 use Rattle.plan_record.specs.Write.{Holds, cycleIn, holdsCycle, writable, writeRefusal, writeAnswer, writeOut}
-use Rattle.plan_record.specs.Claims.{RingMeans, NoLonger, GivenBytes, Accepted, Shows, Refused15, AcceptedExactly, EitherView, ReadWritten, SameShown, FrontTells, GivenPlan, WriterAt, PlanExactly, TagUntested, ReadBack, WrittenRead}
+use Rattle.plan_record.specs.Claims.{RingMeans, NoLonger, GivenBytes, Accepted, Shows, Refused15, AcceptedExactly, EitherView, ReadWritten, SameShown, FrontTells, GivenPlan, HoldsExactly, WriterAt, PlanExactly, TagUntested, ReadBack, WrittenRead}
 use Rattle.plan_record.proofs.CycleLaws.{recordable-of, total-most, sum-all, sum-rises}
 use Rattle.plan_record.proofs.RingLaws.{StartOf, start-has, start-of, ring-bit, ring-means}
 use Rattle.plan_record.proofs.RecordLaws.{record-length, record-count, record-sum, record-list, record-ring, record-is, is-record}
@@ -241,6 +241,9 @@ given-holds p g =
     (and-true (eq-eqb (p .count) (length (cycleIn p)) (h .count ∙ ap length (sym front)))
     (and-true (eq-eqb (p .sum) (total (cycleIn p)) (h .sum ∙ ap total (sym front)))
     (same-of _ _ (h .latencies ∙ ap₂ (λ (x : List ℕ) (n : ℕ). x ++ replicate (256 - n) 0) (sym front) (sym (h .count))))))
+
+pub holds-exactly : HoldsExactly
+holds-exactly p = (holds-given p, given-holds p)
 
 -- the answer, where the plan is not writable, has no room, or has
 module _ (p : Plan) (room : ℕ) where

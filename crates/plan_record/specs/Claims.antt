@@ -2,6 +2,7 @@
 -- All are proved (proofs/Claims.antt). Each goes by what the calls answer and leave.
 use Prim.Native.Nat.{ℕ, _≤_}
 use mathlib.Core.Path.{_≡_}
+use mathlib.Core.Bool.{true}
 use mathlib.Core.Logic.{_⊎_, _↔_}
 use mathlib.Core.List.{List, []}
 use lib.ListN.{length, take}
@@ -14,7 +15,7 @@ use Rattle.plan_record.specs.declared.Shown.{Shown}
 use Rattle.plan_record.specs.declared.Shown.the-variants as Shown
 use Rattle.plan_record.specs.Record.{Recordable, ringOf, IsRing, recordOf}
 use Rattle.plan_record.specs.Read.{reportAnswer, reportList, loadAnswer, loadRing, ringFromList, listFromRing}
-use Rattle.plan_record.specs.Write.{Holds, cycleIn, writeAnswer, writeOut}
+use Rattle.plan_record.specs.Write.{Holds, cycleIn, holdsCycle, writeAnswer, writeOut}
 
 -- The bytes
 
@@ -100,7 +101,11 @@ pub record GivenPlan (p : Plan) : Type 0 where
   pub recordable : Recordable cycle
   pub holds : Holds p cycle
 
--- its refusals are 15 and 6 alone: 15 for exactly the plans that no such cycle gives and those of tag 0, and 6 never where 1,288 bytes are lent
+-- the test of a plan passes for exactly these
+abbrev pub HoldsExactly : Type 0
+HoldsExactly = (p : Plan) → (holdsCycle p ≡ true) ↔ GivenPlan p
+
+-- the writer's refusals are 15 and 6 alone: 15 for exactly the plans that no such cycle gives and those of tag 0, and 6 never where 1,288 bytes are lent
 pub record WriterAt (p : Plan) (room : ℕ) : Type 0 where
   pub numbers : (why : Refusal) → writeAnswer p room ≡ Written.Refused why → (why ≡ BadRecord) ⊎ (why ≡ ShortOutput)
   pub fifteen : (writeAnswer p room ≡ Written.Refused BadRecord) ↔ ((p .tag ≡ 0) ⊎ (GivenPlan p → ⊥))
