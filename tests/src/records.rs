@@ -1,12 +1,12 @@
 //! Plan records: the bytes that the record of a cycle has, whether bytes are a record, and what its two readers show. Sentences in quotation
-//! marks are the paper's.
+//! marks are the request's.
 //!
 //! Whether bytes are a record is found by two ways: field by field (`wrongs`), and by writing the list that stands in them again
 //! (`written_again`). `records_check.rs` compares them.
 
 use crate::model::*;
 
-/// "15: a record, or a plan to be written, that no cycle of 1 to 256 latencies, each 1 to 32, gives."
+/// "a record, or a plan to be written, its bytes past K included, that no cycle of 1 to 256 latencies, each 1 to 32, gives, or a plan of tag 0"
 pub const NO_RECORD: u32 = 15;
 pub const LONGEST_LATENCY: u8 = 32;
 /// "The list follows from byte 8"

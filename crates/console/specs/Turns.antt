@@ -99,7 +99,7 @@ unitReply (Verb.Ask a) s r line = question s (questionOf a r) line
 unitReply (Verb.Show a) s r line = []
 unitReply (Verb.View a) s r line = []
 
--- before the first fresh or load every command that wants a unit is answered `no unit`
+-- before the first fresh or load whatever is asked here is answered `no unit`
 unfoldable pub turnReply : Session → Request → List ℕ → List ℕ
 turnReply s r line = cond (s .present) (unitReply (r .verb) s r line) noUnit
 

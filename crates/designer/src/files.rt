@@ -142,9 +142,9 @@ pub fn save(u: FunctionUnit, name: &[u8]) -> bool {
     keep(name, &area, written)
 }
 
-// Writes the record of a function's plan. There is room for every record (`SearchRecorded`, crate record_text).
+// Writes the record of a function's plan. There is room for every record (`NoLonger`, crate plan_record).
 pub fn save_record(u: FunctionUnit, tag: Tag, name: &[u8]) -> bool {
-    let mut area = [0u8; plan_record::LONGEST];
+    let mut area = plan_record::area();
     let written = record_text::write_plan(u, tag, &mut area);
     keep(name, &area, written)
 }

@@ -15,9 +15,9 @@ use Rattle.unit.specs.declared.Refusal.the-variants.{BadRecord, ShortOutput}
 use Rattle.unit_file.specs.declared.Written.the-variants as Written
 use Rattle.plan_record.specs.declared.Shown.{Shown}
 use Rattle.plan_record.specs.declared.Shown.the-variants as Shown
-use Rattle.plan_record.specs.Record.{Recordable, recordable, starts, ringByte, ringOf, IsRing, recordOf}
+use Rattle.plan_record.specs.Record.{Recordable, recordable, starts, ringByte, ringOf, IsRing, recordOf, longestRecord}
 use Rattle.plan_record.specs.Read.{isRecord, recordAnswer, reportAnswer, reportList, loadAnswer, loadRing, intervalsBelow, listFromRing, ringFromList}
-use Rattle.plan_record.specs.Write.{holdsCycle, writable, writeRefusal, writeAnswer}
+use Rattle.plan_record.specs.Write.{holdsCycle, writable, writeRefusal, writeAnswer, writeOut}
 use Rattle.plan_record.specs.Claims.{GivenBytes, SameShown, GivenPlan}
 use Rattle.plan_record.proofs.RecordLaws.{record-length}
 use Rattle.plan_record.proofs.Claims.{given, tested, given-holds, no-longer, accepted-exactly}
@@ -137,15 +137,15 @@ slow-recordable = record {
   most = λ i h. let e = getD-replicate {A = ℕ} 256 i 32 0 (omega arith) in omega arith;
 }
 
-pub longest : length (recordOf slow) ≡ 1288
-longest = record-length slow ∙ refl
+pub slow-length : length (recordOf slow) ≡ longestRecord
+slow-length = record-length slow ∙ refl
 
 -- 1,288 bytes tell less than all: with a byte after it the longest record is none
 pub front-less : SameShown (take 1288 (recordOf slow ++ (0 ∷ []))) (recordOf slow ++ (0 ∷ [])) → ⊥
 front-less s =
-    let here : take 1288 (recordOf slow ++ (0 ∷ [])) ≡ recordOf slow = take-at (recordOf slow) (0 ∷ []) 1288 longest in
+    let here : take 1288 (recordOf slow ++ (0 ∷ [])) ≡ recordOf slow = take-at (recordOf slow) (0 ∷ []) 1288 slow-length in
     let is = accepted-exactly (recordOf slow) .shown (record { cycle = slow; recordable = slow-recordable; gives = refl }) .count in
-    let more : length (recordOf slow ++ (0 ∷ [])) ≡ 1289 = length-append (recordOf slow) (0 ∷ []) ∙ omega (arith, longest) in
+    let more : length (recordOf slow ++ (0 ∷ [])) ≡ 1289 = length-append (recordOf slow) (0 ∷ []) ∙ omega (arith, slow-length) in
     let none =
     accepted-exactly (recordOf slow ++ (0 ∷ [])) .refused (λ g. omega (arith, more, ap length (g .gives), no-longer (g .cycle) (g .recordable))) .report
     in
@@ -166,6 +166,16 @@ plan tag count sum past = record { tag = tag; count = count; sum = sum; latencie
 pub written : (writeAnswer (plan 1 2 7 0) 11 ≡ Written.Length 11) × (writeAnswer (plan 1 2 7 0) 10 ≡ Written.Refused ShortOutput)
 unfolding writeAnswer writeRefusal writable holdsCycle recordable recordOf ringOf ringByte starts listBelow wordBelow someBelow same
 written = (refl, refl)
+
+-- the bytes after the record stay as before
+pub left : writeOut (plan 1 2 7 0) (replicate 13 9) ≡ bytes ++ (9 ∷ 9 ∷ [])
+unfolding writeOut writeRefusal writable holdsCycle recordable recordOf ringOf ringByte starts listBelow wordBelow someBelow same
+left = refl
+
+-- of the tags 0 alone is told apart: no plan, and its bytes are not written
+pub tag-0 : (writeAnswer (plan 4 2 7 0) 11 ≡ Written.Length 11) × (writeAnswer (plan 0 2 7 0) 11 ≡ Written.Refused BadRecord) × (writeOut (plan 0 2 7 0) (replicate 13 9) ≡ replicate 13 9)
+unfolding writeAnswer writeOut writeRefusal writable holdsCycle recordable recordOf ringOf ringByte starts listBelow wordBelow someBelow same
+tag-0 = (refl, refl, refl)
 
 -- 15 is tried before 6: tag 0, and no plan at all, without any room
 pub first-15 : (writeAnswer (plan 0 2 7 0) 0 ≡ Written.Refused BadRecord) × (writeAnswer (plan 1 2 8 0) 0 ≡ Written.Refused BadRecord)

@@ -1,6 +1,6 @@
 -- What the record promises as a whole: which bytes and which plans are accepted, that either view gives the other, and that what is written is read.
 -- All are proved (proofs/Claims.antt). Each goes by what the calls answer and leave.
-use Prim.Native.Nat.{ℕ, _≤_}
+use Prim.Native.Nat.{ℕ, _≤_, _<_}
 use mathlib.Core.Path.{_≡_}
 use mathlib.Core.Bool.{true}
 use mathlib.Core.Logic.{_⊎_, _↔_}
@@ -13,7 +13,7 @@ use Rattle.unit_file.specs.declared.Written.the-variants as Written
 use Rattle.collision.specs.Pipeline.{total}
 use Rattle.plan_record.specs.declared.Shown.{Shown}
 use Rattle.plan_record.specs.declared.Shown.the-variants as Shown
-use Rattle.plan_record.specs.Record.{Recordable, ringOf, IsRing, recordOf}
+use Rattle.plan_record.specs.Record.{Recordable, ringOf, IsRing, recordOf, longestRecord}
 use Rattle.plan_record.specs.Read.{reportAnswer, reportList, loadAnswer, loadRing, ringFromList, listFromRing}
 use Rattle.plan_record.specs.Write.{Holds, cycleIn, holdsCycle, writeAnswer, writeOut}
 
@@ -23,9 +23,9 @@ use Rattle.plan_record.specs.Write.{Holds, cycleIn, holdsCycle, writeAns
 abbrev pub RingMeans : Type 0
 RingMeans = (l : List ℕ) → Recordable l → IsRing l (ringOf l)
 
--- no record has more than 8 + 256 + 1,024 bytes
+-- the room that always suffices
 abbrev pub NoLonger : Type 0
-NoLonger = (l : List ℕ) → Recordable l → length (recordOf l) ≤ 1288
+NoLonger = (l : List ℕ) → Recordable l → length (recordOf l) ≤ longestRecord
 
 -- Which bytes the readers accept, and what they show
 
@@ -83,7 +83,7 @@ EitherView =
 abbrev pub ReadWritten : Type 0
 ReadWritten = (bytes : List ℕ) → Accepted (reportAnswer bytes) → recordOf (reportList bytes) ≡ bytes
 
--- of more bytes than a record can have, the first 1,289 tell as much as all
+-- of more bytes than a record can have, one more than it can have tell as much as all
 pub record SameShown (a b : List ℕ) : Type 0 where
   pub report : reportAnswer a ≡ reportAnswer b
   pub list : reportList a ≡ reportList b
@@ -91,7 +91,7 @@ pub record SameShown (a b : List ℕ) : Type 0 where
   pub ring : loadRing a ≡ loadRing b
 
 abbrev pub FrontTells : Type 0
-FrontTells = (bytes : List ℕ) (n : ℕ) → 1289 ≤ n → SameShown (take n bytes) bytes
+FrontTells = (bytes : List ℕ) (n : ℕ) → longestRecord < n → SameShown (take n bytes) bytes
 
 -- Which plans the writer takes
 
@@ -105,11 +105,11 @@ pub record GivenPlan (p : Plan) : Type 0 where
 abbrev pub HoldsExactly : Type 0
 HoldsExactly = (p : Plan) → (holdsCycle p ≡ true) ↔ GivenPlan p
 
--- the writer's refusals are 15 and 6 alone: 15 for exactly the plans that no such cycle gives and those of tag 0, and 6 never where 1,288 bytes are lent
+-- the writer's refusals are 15 and 6 alone: 15 for exactly the plans that no such cycle gives and those of tag 0, and 6 never where there is room for the longest record
 pub record WriterAt (p : Plan) (room : ℕ) : Type 0 where
   pub numbers : (why : Refusal) → writeAnswer p room ≡ Written.Refused why → (why ≡ BadRecord) ⊎ (why ≡ ShortOutput)
   pub fifteen : (writeAnswer p room ≡ Written.Refused BadRecord) ↔ ((p .tag ≡ 0) ⊎ (GivenPlan p → ⊥))
-  pub suffices : 1288 ≤ room → writeAnswer p room ≡ Written.Refused ShortOutput → ⊥
+  pub suffices : longestRecord ≤ room → writeAnswer p room ≡ Written.Refused ShortOutput → ⊥
 
 abbrev pub PlanExactly : Type 0
 PlanExactly = (p : Plan) (room : ℕ) → WriterAt p room

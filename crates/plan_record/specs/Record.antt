@@ -57,7 +57,7 @@ pub record SumBelow (l : List ℕ) (i : ℕ) : Type 0 where
   pub sum : i ≡ total (take several l)
   pub below : i < total l
 
--- bit i is 0 exactly when i is 0 or such a sum; the bits after S are spare, and 1
+-- bit i is 0 exactly when i is 0 or such a sum; the bits from S on are spare, and 1
 pub record IsRing (l ring : List ℕ) : Type 0 where
   pub size : length ring ≡ ringLength (total l)
   pub bits : (i : ℕ) → i < total l → (ringBit ring i ≡ false) ↔ ((i ≡ 0) ⊎ SumBelow l i)
@@ -71,3 +71,7 @@ fields K S = bytes16 K ++ (bytes16 S ++ (bytes16 8 ++ bytes16 (8 + K)))
 
 unfoldable pub recordOf : List ℕ → List ℕ
 recordOf l = fields (length l) (total l) ++ (l ++ ringOf l)
+
+-- no record has more than 8 + 256 + 1,024 bytes (`NoLonger`, specs/Claims.antt)
+abbrev pub longestRecord : ℕ
+longestRecord = 1288

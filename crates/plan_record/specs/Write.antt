@@ -27,7 +27,7 @@ abbrev pub cycleIn : Plan → List ℕ
 cycleIn p = take (p .count) (p .latencies)
 
 -- the plan is what some cycle of 1 to 256 latencies, each 1 to 32, gives: that of its first K bytes, S being their sum and its bytes past K being 0
--- (`PlanExactly`, specs/Claims.antt)
+-- (`HoldsExactly`, specs/Claims.antt)
 unfoldable pub holdsCycle : Plan → Bool
 holdsCycle p =
     recordable (cycleIn p)

@@ -8,7 +8,7 @@ ghost use lib.ListN.{length, replicate};
 ghost use Rattle.words.specs.Below.{listBelow};
 ghost use Rattle.text.specs.Text.{same, placed};
 ghost use Rattle.collision.specs.Pipeline.{total};
-ghost use Rattle.plan_record.specs.Record.{Recordable, recordable, ringByte, fields, recordOf};
+ghost use Rattle.plan_record.specs.Record.{Recordable, recordable, ringByte, fields, recordOf, longestRecord};
 ghost use Rattle.plan_record.specs.Read.{isRecord, reportAnswer, reportList, loadAnswer, loadRing};
 ghost use Rattle.plan_record.specs.Write.{cycleIn, holdsCycle, writable, writeAnswer, writeOut};
 ghost use Rattle.plan_record.specs.Inner.{Reached, Made, Field, Writable};
@@ -18,6 +18,13 @@ use unit_file::Written;
 
 // No record has more bytes.
 pub const LONGEST: usize = 1288;
+
+// Zeros, room for every record.
+pub fn area() -> [u8; LONGEST]
+    ensures { λ r. ⌜ r ≡ replicate longestRecord 0 ⌝ }
+{
+    [0; LONGEST]
+}
 
 // A number of a record: K for the report, S for the loader.
 pub enum Shown {
@@ -77,7 +84,8 @@ fn ring_byte(list: &[u8], j: usize, index: usize, next: usize) -> Turned
     let mut start = next;
     let mut bit: u32 = 0;
     while bit < 8 {
-        if starts_here(list.len(), passed, start, 8 * j + bit as usize) {
+        let here = 8 * j + bit as usize;
+        if starts_here(list.len(), passed, start, here) {
             start += list[passed] as usize;
             passed += 1;
         } else {
@@ -85,8 +93,9 @@ fn ring_byte(list: &[u8], j: usize, index: usize, next: usize) -> Turned
         }
         bit += 1;
     }
+    let made = byte as u8;
     Turned {
-        byte: byte as u8,
+        byte: made,
         index: passed,
         next: start,
     }

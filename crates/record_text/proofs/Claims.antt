@@ -29,7 +29,7 @@ use Rattle.collision.proofs.VectorLaws.{marked-bounded, vector-lt}
 use Rattle.diagram.specs.Diagram.{longest, Walk}
 use Rattle.diagram.specs.Diagram.Walk.{stay, step}
 use Rattle.diagram.proofs.WidthLaws.{width-31}
-use Rattle.plan_record.specs.Record.{Recordable, recordOf}
+use Rattle.plan_record.specs.Record.{Recordable, recordOf, longestRecord}
 use Rattle.plan_record.specs.Write.{cycleIn, writeRefusal, writeAnswer, writeOut}
 use Rattle.plan_record.specs.Claims.{Shows, GivenPlan}
 use Rattle.plan_record.proofs.Claims.{plan-exactly, written-read}
@@ -53,13 +53,14 @@ best-recordable u q cycle few b = record {
   most = λ i h. omega (arith, walk-most (b .diagram .closed) i h, width-31 (vectorWord (marked u) q) (vector-lt (marked u) (marked-bounded u) q));
 }
 
-planned : (q : ℕ) (cycle : List ℕ) → Recordable cycle → GivenPlan (planOf q cycle)
+-- the plan of a cycle holds it
+pub planned : (q : ℕ) (cycle : List ℕ) → Recordable cycle → GivenPlan (planOf q cycle)
 planned q cycle r = record { cycle = cycle; recordable = r; holds = record { count = refl; sum = refl; latencies = refl } }
 
 -- The writer takes its plan
 
 -- an answer that is no refusal of the writer's is the record's length
-taken : (p : Plan) (room : ℕ) → (p .tag ≡ 0 → ⊥) → GivenPlan p → 1288 ≤ room → writeAnswer p room ≡ Written.Length (length (recordOf (cycleIn p)))
+taken : (p : Plan) (room : ℕ) → (p .tag ≡ 0 → ⊥) → GivenPlan p → longestRecord ≤ room → writeAnswer p room ≡ Written.Length (length (recordOf (cycleIn p)))
 unfolding writeAnswer
 taken p room n g h = go (writeRefusal p room) refl
   where
@@ -94,7 +95,7 @@ module _ (u : FunctionUnit) (q : ℕ) (sound : soundOf u ≡ true) (member : ins
 
 -- The claim
 
-searched : (u after : FunctionUnit) (q : ℕ) → tagAnswer u q ≡ Done → Found u q after → (bytes : List ℕ) → 1288 ≤ length bytes → RecordedBest u q after bytes
+searched : (u after : FunctionUnit) (q : ℕ) → tagAnswer u q ≡ Done → Found u q after → (bytes : List ℕ) → longestRecord ≤ length bytes → RecordedBest u q after bytes
 searched u after q t f bytes room = record {
   size = length (recordOf (cycleIn p));
   written = writer-answer after q sound member own some (length bytes) ∙ answer;

@@ -1,10 +1,20 @@
--- The lines of a record, worked out by hand. Assumes nothing.
+-- The lines of a record, and the record of a function's plan, worked out by hand. Assumes nothing.
 use mathlib.Core.Path.{_≡_, refl}
 use mathlib.Core.List.{[], _∷_}
+use Prim.Native.Nat.{ℕ}
+use lib.ListN.{replicate}
 use Rattle.words.specs.Below.{someBelow, wordBelow, listBelow, joinBelow}
 use Rattle.text.specs.Text.{ascii, digits, decimal, spaced, same}
+use Rattle.unit.specs.declared.FunctionUnit.{FunctionUnit}
+use Rattle.unit.specs.declared.Refusal.the-variants.{NoSuchTag, NoPlan}
+use Rattle.unit.specs.Unit.{marked, marksInside, soundOf}
+use Rattle.unit.specs.Calls.{tagAnswer}
+use Rattle.unit_file.specs.declared.Written.the-variants as Written
 use Rattle.plan_record.specs.Record.{recordable, starts, ringByte, ringOf, recordOf}
 use Rattle.plan_record.specs.Read.{isRecord, recordAnswer, reportAnswer, reportList, loadAnswer, loadRing}
+use Rattle.plan_record.specs.Write.{holdsCycle, writable, writeRefusal}
+use Rattle.planner.specs.Plans.{readAnswer}
+use Rattle.record_text.specs.Plans.{planRecordRefusal, planRecordAnswer, planRecordOut}
 use Rattle.record_text.specs.Lines.{bitsText, reportLine, loadLine}
 
 -- the record of 3 4
@@ -24,3 +34,37 @@ report-of-none = refl
 pub ring-of-none : loadLine [] ≡ ascii "refused 15\n"
 unfolding loadLine loadAnswer recordAnswer isRecord recordable someBelow decimal digits
 ring-of-none = refl
+
+-- A unit of two functions without marks, with the plan 3 4 of function 1, or with none
+
+abbrev planned : ℕ → FunctionUnit
+planned tag = record {
+  functions = 2;
+  segments = 1;
+  columns = 1;
+  marks = replicate 128 0;
+  plan = record { tag = tag; count = 2; sum = 7; latencies = 3 ∷ 4 ∷ replicate 254 0 };
+}
+
+-- the plan is function 1's, and not function 2's; there is no function 9, and of it 8 says nothing
+pub of-1 : planRecordAnswer (planned 1) 1 11 ≡ Written.Length 11
+unfolding planRecordAnswer planRecordRefusal tagAnswer readAnswer soundOf marksInside marked writeRefusal writable holdsCycle recordable recordOf ringOf ringByte starts listBelow wordBelow someBelow same
+of-1 = refl
+
+pub of-2 : planRecordAnswer (planned 1) 2 11 ≡ Written.Refused NoPlan
+unfolding planRecordAnswer planRecordRefusal tagAnswer readAnswer soundOf marksInside marked someBelow
+of-2 = refl
+
+pub of-9 : planRecordAnswer (planned 1) 9 11 ≡ Written.Refused NoSuchTag
+unfolding planRecordAnswer planRecordRefusal tagAnswer soundOf marksInside marked someBelow
+of-9 = refl
+
+-- a plan that was dropped, whatever its other fields hold
+pub of-none : planRecordAnswer (planned 0) 1 11 ≡ Written.Refused NoPlan
+unfolding planRecordAnswer planRecordRefusal tagAnswer readAnswer soundOf marksInside marked someBelow
+of-none = refl
+
+-- the bytes after the record stay as before
+pub left : planRecordOut (planned 1) 1 (replicate 12 9) ≡ 2 ∷ 0 ∷ 7 ∷ 0 ∷ 8 ∷ 0 ∷ 10 ∷ 0 ∷ 3 ∷ 4 ∷ 246 ∷ 9 ∷ []
+unfolding planRecordOut planRecordRefusal tagAnswer readAnswer soundOf marksInside marked writeRefusal writable holdsCycle recordable recordOf ringOf ringByte starts listBelow wordBelow someBelow same
+left = refl

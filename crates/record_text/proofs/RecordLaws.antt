@@ -18,8 +18,8 @@ use Rattle.plan_record.specs.Record.{recordOf}
 use Rattle.plan_record.specs.Write.{cycleIn, writeRefusal, writeAnswer, writeOut}
 use Rattle.planner.specs.declared.Handed.{Handed}
 use Rattle.planner.specs.Plans.{readAnswer, handing, readOf}
-use Rattle.record_text.specs.Plans.{planRecordRefusal, planRecordAnswer, planRecordOut}
-use Rattle.record_text.specs.Inner.{taggedRefusal, heldRefusal, Recorded}
+use Rattle.record_text.specs.Plans.{taggedRefusal, heldRefusal, planRecordRefusal, planRecordAnswer, planRecordOut}
+use Rattle.record_text.specs.Inner.{Recorded}
 
 -- the same answer in other words
 recorded-as : {a b : Answer} {p : Plan} {before after : List ℕ} {r : Written} → a ≡ b → Recorded a p before after r → Recorded b p before after r

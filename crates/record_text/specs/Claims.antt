@@ -11,6 +11,7 @@ use Rattle.unit.specs.declared.Answer.the-variants.{Done}
 use Rattle.unit.specs.Unit.{marked}
 use Rattle.unit.specs.Calls.{tagAnswer}
 use Rattle.unit_file.specs.declared.Written.the-variants as Written
+use Rattle.plan_record.specs.Record.{longestRecord}
 use Rattle.plan_record.specs.Claims.{Shows}
 use Rattle.planner.specs.Plans.{Best, SearchPromise}
 use Rattle.record_text.specs.Plans.{planRecordAnswer, planRecordOut}
@@ -23,11 +24,11 @@ pub record RecordedBest (u : FunctionUnit) (q : ℕ) (after : FunctionUnit) (byt
   pub best : Best 1 (marked u) q cycle
   pub shown : Shows (take size (planRecordOut after q bytes)) cycle
 
--- after an accepted search of a function its plan is never refused where 1,288 bytes are lent
+-- after an accepted search of a function its plan is never refused where there is room for the longest record
 abbrev pub SearchRecorded : Type 0
 SearchRecorded =
     (u after : FunctionUnit) (q : ℕ) (before words : List ℕ) (answer : Answer) → SearchPromise u q before words answer after → answer ≡ Done
-    → (bytes : List ℕ) → 1288 ≤ length bytes → RecordedBest u q after bytes
+    → (bytes : List ℕ) → longestRecord ≤ length bytes → RecordedBest u q after bytes
 
 -- of a function of the unit, 8 says that the unit's plan is not its own, and nothing else does
 abbrev pub EightExactly : Type 0

@@ -19,7 +19,7 @@ numberOf ShortWork = 5
 numberOf ShortOutput = 6
 -- more than 256 states
 numberOf TooManyStates = 7
--- read without a plan
+-- a read, or the record of a function, without a plan
 numberOf NoPlan = 8
 -- an empty list of latencies, one above 256, or a latency 0
 numberOf BadCycle = 9

@@ -17,14 +17,14 @@ abbrev μ-loop : tie.MeasureT-loop
 loop-holds : tie.Need-loop-holds Inv-loop μ-loop
 loop-holds c = (c .before .pre .0, turn-first _ _ _ _ (c .before .pre .1))
 
-mul-starts-here : tie.Need-mul-starts-here Inv-loop μ-loop
-mul-starts-here c = search needs
+mul-here : tie.Need-mul-here Inv-loop μ-loop
+mul-here c = search needs
 
-cast-starts-here : tie.Need-cast-starts-here Inv-loop μ-loop
-cast-starts-here c = search needs
+cast-here : tie.Need-cast-here Inv-loop μ-loop
+cast-here c = search needs
 
-add-starts-here : tie.Need-add-starts-here Inv-loop μ-loop
-add-starts-here c = search needs
+add-here : tie.Need-add-here Inv-loop μ-loop
+add-here c = search needs
 
 starts-here-requires : tie.Need-starts-here-requires Inv-loop μ-loop
 starts-here-requires c κs = search needs
@@ -77,8 +77,8 @@ loop-again c =
           (c .if1 .came),
     )
 
-cast-t18 : tie.Need-cast-t18 Inv-loop μ-loop
-cast-t18 c = let h = turn-small _ _ (c .before .loop .bit) _ _ _ (c .before .loop .inv .1) (c .loop-test .left) in omega arith
+cast-made : tie.Need-cast-made Inv-loop μ-loop
+cast-made c = let h = turn-small _ _ (c .before .loop .bit) _ _ _ (c .before .loop .inv .1) (c .loop-test .left) in omega arith
 
 returns : tie.Need-returns Inv-loop μ-loop
 returns c =
@@ -95,9 +95,9 @@ ring-byte-spec =
     Inv-loop
     μ-loop
     loop-holds
-    mul-starts-here
-    cast-starts-here
-    add-starts-here
+    mul-here
+    cast-here
+    add-here
     starts-here-requires
     shared-slice-read-start
     cast-start
@@ -107,5 +107,5 @@ ring-byte-spec =
     add-bit
     loop-less
     loop-again
-    cast-t18
+    cast-made
     returns)
