@@ -14,7 +14,6 @@ use lib.Seq.{take-all, take-length, take-append-seam, length-take-le, drop-cons,
 use Rattle.words.proofs.Tests.{nowhere, and-true, not-passed}
 use Rattle.text.proofs.SameLaws.{same-of}
 use Rattle.unit.specs.declared.Plan.{Plan}
-use Rattle.unit.specs.declared.Refusal.{Refusal}
 use Rattle.unit.specs.declared.Refusal.the-variants.{BadRecord, ShortOutput}
 use Rattle.unit.specs.declared.Answer.the-variants.{Refused}
 use Rattle.unit.specs.Numbers.{numberOf}
@@ -32,7 +31,7 @@ use Rattle.plan_record.specs.Claims.{RingMeans, NoLonger, GivenBytes, Ac
 use Rattle.plan_record.proofs.CycleLaws.{recordable-of, total-most, sum-all, sum-rises}
 use Rattle.plan_record.proofs.RingLaws.{StartOf, start-has, start-of, ring-bit, ring-means}
 use Rattle.plan_record.proofs.RecordLaws.{record-length, record-count, record-sum, record-list, record-ring, record-is, is-record}
-use Rattle.plan_record.proofs.ReadLaws.{report-refused, load-refused, list-refused, ring-refused, report-shown, load-shown, list-is, ring-is}
+use Rattle.plan_record.proofs.ReadLaws.{number-shown, number-not, report-refused, load-refused, list-refused, ring-refused, report-shown, load-shown, list-is, ring-is}
 use Rattle.plan_record.proofs.PlanLaws.{held, writable-held, writable-tag, writable-holds}
 
 -- The bytes
@@ -68,16 +67,9 @@ module _ (bytes : List ℕ) where
   accepted-by : (shown : Shown) → (isRecord bytes ≡ false → shown ≡ Shown.Refused BadRecord) → Accepted shown → isRecord bytes ≡ true
   accepted-by shown f a = go (isRecord bytes) refl
     where
-      number-not : {n : ℕ} {why : Refusal} → Shown.Number n ≡ Shown.Refused why → ⊥
-      number-not e = nowhere (ap is-number (sym e))
-        where
-          is-number : Shown → Bool
-          is-number (Shown.Number n) = true
-          is-number (Shown.Refused why) = false
-
       go : (b : Bool) → isRecord bytes ≡ b → isRecord bytes ≡ true
       go true e = e
-      go false e = absurd (number-not (sym (a .shows) ∙ f e))
+      go false e = number-not (sym (a .shows) ∙ f e)
 
   by-report : Accepted (reportAnswer bytes) → isRecord bytes ≡ true
   by-report = accepted-by (reportAnswer bytes) (λ e. sym (report-refused bytes e))
@@ -208,8 +200,8 @@ either-view bytes K S ek es =
     let g = given bytes b in
     let l = g .cycle in
     let s = shown-given bytes g in
-    let count : K ≡ length l = number-of (sym ek ∙ s .count) in
-    let sum : S ≡ total l = number-of (sym es ∙ s .sum) in
+    let count : K ≡ length l = number-shown (sym ek ∙ s .count) in
+    let sum : S ≡ total l = number-shown (sym es ∙ s .sum) in
     let from : listFromRing S (loadRing bytes) ≡ l = ap₂ listFromRing sum (s .ring) ∙ list-from-ring l (g .recordable) in
     let front : take K (reportList bytes) ≡ l = ap₂ take count (s .list) ∙ take-length l in
     record {
@@ -218,13 +210,6 @@ either-view bytes K S ek es =
       ring-worked = s .ring ∙ ap ringOf (sym front);
       sum-worked = sum ∙ ap total (sym front);
     }
-  where
-    number-of : {m n : ℕ} → Shown.Number m ≡ Shown.Number n → m ≡ n
-    number-of e = ap shown-number e
-      where
-        shown-number : Shown → ℕ
-        shown-number (Shown.Number n) = n
-        shown-number (Shown.Refused why) = 0
 
 -- Which plans
 

@@ -1,5 +1,5 @@
 -- Records worked out by hand, and what is none. Assumes nothing.
-use Prim.Native.Nat.{ℕ}
+use Prim.Native.Nat.{ℕ, _≤_}
 use mathlib.Core.Path.{_≡_, refl, sym, ap, _∙_}
 use mathlib.Core.Bool.{false}
 use mathlib.Core.Logic.{inl}
@@ -13,12 +13,12 @@ use Rattle.text.specs.Text.{same}
 use Rattle.unit.specs.declared.Plan.{Plan}
 use Rattle.unit.specs.declared.Refusal.the-variants.{BadRecord, ShortOutput}
 use Rattle.unit_file.specs.declared.Written.the-variants as Written
-use Rattle.plan_record.specs.declared.Shown.{Shown}
 use Rattle.plan_record.specs.declared.Shown.the-variants as Shown
 use Rattle.plan_record.specs.Record.{Recordable, recordable, starts, ringByte, ringOf, IsRing, recordOf, longestRecord}
 use Rattle.plan_record.specs.Read.{isRecord, recordAnswer, reportAnswer, reportList, loadAnswer, loadRing, intervalsBelow, listFromRing, ringFromList}
 use Rattle.plan_record.specs.Write.{holdsCycle, writable, writeRefusal, writeAnswer, writeOut}
-use Rattle.plan_record.specs.Claims.{GivenBytes, SameShown, GivenPlan}
+use Rattle.plan_record.specs.Claims.{GivenBytes, SameShown, GivenPlan, ReadBack}
+use Rattle.plan_record.proofs.ReadLaws.{number-not}
 use Rattle.plan_record.proofs.RecordLaws.{record-length}
 use Rattle.plan_record.proofs.Claims.{given, tested, given-holds, no-longer, accepted-exactly}
 
@@ -149,12 +149,18 @@ front-less s =
     let none =
     accepted-exactly (recordOf slow ++ (0 ∷ [])) .refused (λ g. omega (arith, more, ap length (g .gives), no-longer (g .cycle) (g .recordable))) .report
     in
-    let z : _≡_ {A = ℕ} 256 0 = ap shown (sym is ∙ ap reportAnswer (sym here) ∙ s .report ∙ none) in
-    omega arith
-  where
-    shown : Shown → ℕ
-    shown (Shown.Number n) = n
-    shown (Shown.Refused why) = 0
+    number-not (sym is ∙ ap reportAnswer (sym here) ∙ s .report ∙ none)
+
+-- a list of 257 latencies has a longer one, and is no cycle that a record holds
+pub too-long : length (recordOf (replicate 257 32)) ≤ longestRecord → ⊥
+too-long h = let n : length (recordOf (replicate 257 32)) ≡ 1293 = record-length (replicate 257 32) ∙ refl in omega arith
+
+-- bytes that are refused are not the record of what is read from them
+pub not-written : recordOf (reportList []) ≡ [] → ⊥
+not-written e =
+    let none = accepted-exactly [] .refused no-bytes .list in
+    let n : _≡_ {A = ℕ} (length (recordOf [])) 0 = ap (λ (l : List ℕ). length (recordOf l)) (sym none) ∙ ap length e in
+    omega (arith, record-length [])
 
 -- Plans
 
@@ -167,10 +173,20 @@ pub written : (writeAnswer (plan 1 2 7 0) 11 ≡ Written.Length 11) × (writeAns
 unfolding writeAnswer writeRefusal writable holdsCycle recordable recordOf ringOf ringByte starts listBelow wordBelow someBelow same
 written = (refl, refl)
 
+no-nine : isRecord (bytes ++ (9 ∷ [])) ≡ false
+unfolding isRecord recordable recordOf ringOf ringByte starts listBelow wordBelow someBelow same
+no-nine = refl
+
 -- the bytes after the record stay as before
 pub left : writeOut (plan 1 2 7 0) (replicate 13 9) ≡ bytes ++ (9 ∷ 9 ∷ [])
 unfolding writeOut writeRefusal writable holdsCycle recordable recordOf ringOf ringByte starts listBelow wordBelow someBelow same
 left = refl
+
+-- with one of them behind it what was written is no record
+pub not-read-back : ReadBack (plan 1 2 7 0) (take 12 (writeOut (plan 1 2 7 0) (replicate 13 9))) → ⊥
+not-read-back r =
+    no-given (bytes ++ (9 ∷ [])) no-nine
+    (accepted-exactly (bytes ++ (9 ∷ [])) .report .0 (record { number = 2; shows = ap (λ (b : List ℕ). reportAnswer (take 12 b)) (sym left) ∙ r .shows .count }))
 
 -- of the tags 0 alone is told apart: no plan, and its bytes are not written
 pub tag-0 : (writeAnswer (plan 4 2 7 0) 11 ≡ Written.Length 11) × (writeAnswer (plan 0 2 7 0) 11 ≡ Written.Refused BadRecord) × (writeOut (plan 0 2 7 0) (replicate 13 9) ≡ replicate 13 9)

@@ -1,22 +1,38 @@
 -- What the two readers show. Assumes nothing.
 use Prim.Native.Nat.{ℕ, _+_, _-_, _≤_}
 use mathlib.Core.Path.{_≡_, sym, ap, _∙_}
-use mathlib.Core.Bool.{true, false}
+use mathlib.Core.Bool.{Bool, true, false}
 use mathlib.Core.List.{List, []}
 use native.Mathlib.Omega.{arith}
 use lib.ListN.{length, take, drop, length-drop}
 use lib.Seq.{take-all}
+use Rattle.words.proofs.Tests.{nowhere}
+use Rattle.unit.specs.declared.Refusal.{Refusal}
 use Rattle.unit.specs.declared.Refusal.the-variants.{BadRecord}
 use Rattle.unit.specs.declared.Answer.the-variants.{Done, Refused}
-use Rattle.unit.proofs.Laws.{check-ok}
+use Rattle.plan_record.specs.declared.Shown.{Shown}
 use Rattle.plan_record.specs.declared.Shown.the-variants as Shown
 use Rattle.plan_record.specs.Read.{countIn, sumIn, listIn, ringIn, isRecord, recordAnswer, reportAnswer, reportList, loadAnswer, loadRing}
 
-pub accepted : (b : List ℕ) → recordAnswer b ≡ Done → isRecord b ≡ true
-unfolding recordAnswer
-accepted b e = check-ok (isRecord b) BadRecord Done e
+-- A number that is shown is one number, and no refusal
 
-pub accepts : (b : List ℕ) → isRecord b ≡ true → recordAnswer b ≡ Done
+abbrev number-in : Shown → ℕ
+number-in (Shown.Number n) = n
+number-in (Shown.Refused why) = 0
+
+abbrev is-number : Shown → Bool
+is-number (Shown.Number n) = true
+is-number (Shown.Refused why) = false
+
+pub number-shown : {m n : ℕ} → Shown.Number m ≡ Shown.Number n → m ≡ n
+number-shown e = ap number-in e
+
+pub number-not : {A : Type 0} {n : ℕ} {why : Refusal} → Shown.Number n ≡ Shown.Refused why → A
+number-not e = nowhere (ap is-number (sym e))
+
+-- By the test
+
+accepts : (b : List ℕ) → isRecord b ≡ true → recordAnswer b ≡ Done
 unfolding recordAnswer
 accepts b e = rw e
 

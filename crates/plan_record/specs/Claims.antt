@@ -54,6 +54,7 @@ pub record Refused15 (bytes : List ℕ) : Type 0 where
   pub load : loadAnswer bytes ≡ Shown.Refused BadRecord
   pub ring : loadRing bytes ≡ []
 
+-- each accepts where some cycle gives the bytes, and shows that cycle; else each refuses
 pub record ReadAlike (bytes : List ℕ) : Type 0 where
   pub report : Accepted (reportAnswer bytes) ↔ GivenBytes bytes
   pub load : Accepted (loadAnswer bytes) ↔ GivenBytes bytes
@@ -83,13 +84,14 @@ EitherView =
 abbrev pub ReadWritten : Type 0
 ReadWritten = (bytes : List ℕ) → Accepted (reportAnswer bytes) → recordOf (reportList bytes) ≡ bytes
 
--- of more bytes than a record can have, one more than it can have tell as much as all
+-- both readers show the same of the one and of the other
 pub record SameShown (a b : List ℕ) : Type 0 where
   pub report : reportAnswer a ≡ reportAnswer b
   pub list : reportList a ≡ reportList b
   pub load : loadAnswer a ≡ loadAnswer b
   pub ring : loadRing a ≡ loadRing b
 
+-- of more bytes than a record can have, one more than it can have tell as much as all
 abbrev pub FrontTells : Type 0
 FrontTells = (bytes : List ℕ) (n : ℕ) → longestRecord < n → SameShown (take n bytes) bytes
 
@@ -134,5 +136,6 @@ pub record ReadBack (p : Plan) (written : List ℕ) : Type 0 where
   pub shows : Shows written (cycleIn p)
   pub holds : Holds p (reportList written)
 
+-- what was written, as many bytes as the writer tells, is read
 abbrev pub WrittenRead : Type 0
 WrittenRead = (p : Plan) (bytes : List ℕ) (n : ℕ) → writeAnswer p (length bytes) ≡ Written.Length n → ReadBack p (take n (writeOut p bytes))

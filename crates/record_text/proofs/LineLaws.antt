@@ -20,6 +20,7 @@ use Rattle.plan_record.specs.Record.{ringBit}
 use Rattle.plan_record.specs.Read.{reportAnswer, reportList, loadAnswer, loadRing}
 use Rattle.plan_record.proofs.CycleLaws.{total-most}
 use Rattle.plan_record.proofs.RingLaws.{ring-length}
+use Rattle.plan_record.proofs.ReadLaws.{number-shown}
 use Rattle.plan_record.proofs.Claims.{accepted-exactly}
 use Rattle.record_text.specs.Lines.{listLine, bitText, bitsText, ringLine, shownLine, reportLine, loadLine}
 
@@ -31,15 +32,11 @@ list-few file K e =
     let g = a .report .0 (record { number = K; shows = e }) in
     omega (arith, ap length (a .shown g .list), g .recordable .few)
 
-abbrev shown-number : Shown → ℕ
-shown-number (Shown.Number n) = n
-shown-number (Shown.Refused why) = 0
-
 pub ring-fits : (file : List ℕ) (S : ℕ) → loadAnswer file ≡ Shown.Number S → (S ≤ 8192) × (S ≤ 8 * length (loadRing file))
 ring-fits file S e =
     let a = accepted-exactly file in
     let g = a .load .0 (record { number = S; shows = e }) in
-    let sum : S ≡ total (g .cycle) = ap shown-number (sym e ∙ a .shown g .sum) in
+    let sum : S ≡ total (g .cycle) = number-shown (sym e ∙ a .shown g .sum) in
     let size = ap length (a .shown g .ring) ∙ ring-length (g .cycle) in
     (omega (arith, total-most (g .cycle) (g .recordable)), omega arith)
 
