@@ -2,6 +2,8 @@
 
 #![allow(dead_code)]
 
+mod charts;
+mod charts_check;
 mod facts;
 mod loops;
 mod loops_check;
@@ -17,7 +19,8 @@ mod units;
 
 fn main() {
     let checked = model_check::run().and_then(|units| loops_check::run().map(|_| units));
-    match checked.and_then(|units| records_check::run().map(|_| units)) {
+    let checked = checked.and_then(|units| records_check::run().map(|_| units));
+    match checked.and_then(|units| charts_check::run().map(|_| units)) {
         Ok(units) => println!("model: agrees with the paper's tables and, on {units} random units, with itself"),
         Err(why) => {
             println!("model: {why}");

@@ -1,7 +1,8 @@
 //! The program's output held against the answers that were worked out before: byte by byte, but for the best cycles and loops, of which the
-//! paper leaves free which one is handed out. A plan that was shown once is known from then on, and the records that were written of it have
-//! to be its own.
+//! paper leaves free which one is handed out. A plan that was shown once is known from then on, and the records that were written of it and
+//! the charts that were drawn of it have to be its own.
 
+use crate::charts;
 use crate::console_folder::{File, Folder};
 use crate::console_model::*;
 use crate::console_program::Ending;
@@ -41,7 +42,7 @@ pub struct Counts {
 }
 
 /// The refusals and the words that each command can answer with. Besides, each can be told what was expected.
-const ANSWERS: [(&str, &[u32], &[&str]); 25] = [
+const ANSWERS: [(&str, &[u32], &[&str]); 26] = [
     ("fresh", &[1], &["ok"]),
     ("mark", &[2, 3, 4], &["ok", "no unit"]),
     ("unmark", &[2, 3, 4], &["ok", "no unit"]),
@@ -67,6 +68,7 @@ const ANSWERS: [(&str, &[u32], &[&str]); 25] = [
     ("record", &[2, 8], &["ok", "not written", "no unit"]),
     ("report", &[15], &["ok", "no file"]),
     ("ring", &[15], &["ok", "no file"]),
+    ("simulate", &[2, 6, 8], &["ok", "no unit"]),
 ];
 
 const OTHERS: [(Sort, &str); 4] = [
@@ -145,6 +147,8 @@ struct Reader<'a> {
     at: usize,
     /// The plans that were shown, by the number of their search.
     plans: HashMap<usize, Vec<u8>>,
+    /// The charts of plans that were not shown yet, by the number of the search: how many units, and the starts in them.
+    charts: HashMap<usize, Vec<(u32, Vec<u32>)>>,
     yard: Yard,
     counts: &'a mut Counts,
 }
@@ -186,6 +190,7 @@ impl Reader<'_> {
                 let cycle = self.ring()?;
                 self.plan(planned.search, &planned.drawn, cycle)
             }
+            Part::Chart(chart) => self.chart(chart),
         }
     }
 
@@ -298,11 +303,64 @@ impl Reader<'_> {
         if cycle.latencies.len() > 1 {
             self.counts.meet("a plan of two or more latencies");
         }
+        for (units, starts) in self.charts.remove(&search).unwrap_or_default() {
+            if charts::starts_of(&cycle.latencies, units) != starts {
+                return Err(format!("a chart of the plan had its starts in units {starts:?} of {units} before"));
+            }
+        }
         let known = self.plans.entry(search).or_insert_with(|| cycle.latencies.clone());
         if *known != cycle.latencies {
             return Err(format!("the plan was {} before", cycle_text(known)));
         }
         Ok(())
+    }
+
+    /// The chart of a plan that was shown is known. Of another one the starts are read, and the chart has to be theirs: a best cycle could
+    /// have them, those of earlier charts go with them, and the plan has them when it is shown.
+    fn chart(&mut self, chart: &Chart) -> Result<(), String> {
+        let search = chart.planned.search;
+        let starts = match self.plans.get(&search) {
+            Some(latencies) => charts::starts_of(latencies, chart.units),
+            None => self.starts(chart)?,
+        };
+        let text = chart.text_of(&starts)?;
+        self.take(&text)?;
+        let rows: Vec<&str> = text.lines().skip(2).map(|line| &line[charts::FIELD..][..chart.units as usize]).collect();
+        let turns = self.plans.get(&search).map(|latencies| (latencies.len(), chart.units / sum_of(latencies), sum_of(latencies)));
+        let cases = [
+            (chart.units > 0 && turns.is_some_and(|(_, turns, _)| turns == 0), "a chart found: less than a turn"),
+            (turns.is_some_and(|(_, _, sum)| sum == chart.units), "a chart found: just a turn"),
+            (turns.is_some_and(|(_, turns, _)| turns > 2), "a chart found: three turns or more"),
+            (turns.is_some_and(|(count, turns, _)| count > 1 && turns > 2), "a chart found: three turns or more of two or more latencies"),
+            (starts.len() > 26, "a chart found: 27 tasks or more"),
+            (starts.len() > 52, "a chart found: 53 tasks or more"),
+            (chart.units > 40 && rows.iter().any(|row| !row.contains(|cell| cell != '.')), "a chart found: a segment that is never busy"),
+            (chart.units > 40 && rows.iter().any(|row| !row.contains('.')), "a chart found: a segment that is always busy"),
+        ];
+        cases.into_iter().filter(|(holds, _)| *holds).for_each(|(_, what)| self.counts.meet(what));
+        Ok(())
+    }
+
+    /// The starts of a chart whose plan was not shown yet.
+    fn starts(&mut self, chart: &Chart) -> Result<Vec<u32>, String> {
+        let Chart { planned: Planned { search, drawn }, units, .. } = chart;
+        let begin = self.at;
+        self.take(&charts::head(*units))?;
+        let starts = charts::starts_in(self.rest_of_line())?;
+        if self.rest_of_line().len() != *units as usize {
+            return Err(format!("{} cells", self.rest_of_line().len()));
+        }
+        self.at = begin;
+        if !drawn.may_start(&starts, *units, &mut self.yard) {
+            return Err("starts that no best cycle has".to_string());
+        }
+        let earlier = self.charts.entry(*search).or_default();
+        let up_to = |starts: &[u32], units: u32| starts.iter().copied().filter(|start| *start <= units).collect::<Vec<u32>>();
+        if earlier.iter().any(|(other, others)| up_to(&starts, *other) != up_to(others, *units)) {
+            return Err("other starts than in a chart of the plan before".to_string());
+        }
+        earlier.push((*units, starts.clone()));
+        Ok(starts)
     }
 
     /// A loop is shown once, and any of the best will do.
@@ -376,7 +434,7 @@ fn around(arcs: &[(usize, u32)], diagram: &Diagram) -> Option<Vec<u8>> {
 
 /// Compares a run with its script. The counts are those of the lines that agree.
 pub fn check(script: &Script, run: &Run, counts: &mut Counts) -> Result<(), Difference> {
-    let mut reader = Reader { output: &run.output, at: 0, plans: HashMap::new(), yard: Yard::new(), counts };
+    let mut reader = Reader { output: &run.output, at: 0, plans: HashMap::new(), charts: HashMap::new(), yard: Yard::new(), counts };
     for (place, line) in (1..).zip(&script.lines) {
         let begin = reader.at;
         for part in &line.answer.parts {
@@ -454,6 +512,13 @@ fn expected_text(answer: &Answer, plans: &HashMap<usize, Vec<u8>>) -> String {
             Part::Ring(planned) => {
                 let ring = |latencies: &Vec<u8>| records::ring_text(sum_of(latencies) as usize, &records::ring_of(latencies));
                 text += &plans.get(&planned.search).map_or("<sum and ring of a best cycle>".to_string(), ring);
+            }
+            Part::Chart(chart) => {
+                let free = || {
+                    let rows = (1..=chart.segments).map(|segment| format!("{segment:<8}<with a best cycle>\n"));
+                    format!("{}<of a best cycle>\n{}", charts::head(chart.units), rows.collect::<String>())
+                };
+                text += &plans.get(&chart.planned.search).map_or_else(free, |latencies| chart.text(latencies));
             }
             Part::Drawing(search, tag, drawn) => {
                 let course = plans.get(search).and_then(|latencies| drawn.graph.course(latencies)).unwrap_or_default();

@@ -5,7 +5,7 @@ use crate::console_folder::{File, Folder};
 use crate::console_model::Console;
 use crate::console_program::Ending;
 use crate::console_script::{Feed, Line, Script};
-use crate::{loops_check, model_check, records_check};
+use crate::{charts_check, loops_check, model_check, records_check};
 
 /// A session as it is to be seen: after `>` what is typed. The paper's Fig. 1 and Fig. 2, its tables "No marks" and "Marks 1 11", loops
 /// over them and over a table whose second function no loop names, and the lines of the console's description.
@@ -571,6 +571,207 @@ plan 2 cycle 1 sum 1
 count 2 list 3 4
 ";
 
+/// Charts: forms and refusals; Fig. 1's function, whose best cycle is 3 4 and with one more mark 2 7; both of Fig. 2's, whose best cycle
+/// is 1 4; and a function that starts in every unit, with all letters. For one segment 49,271 units have room, and for 16 segments 8,192.
+const CHARTS: &str = "\
+>simulate 1 9
+no unit
+>simulate 0 4294967295
+no unit
+>simulate
+line 3: expected simulate Q UNITS
+>simulate 1
+line 4: expected simulate Q UNITS
+>simulate 1 9 9
+line 5: expected simulate Q UNITS
+>simulate 1 x
+line 6: expected simulate Q UNITS
+>simulate 1 -1
+line 7: expected simulate Q UNITS
+>simulate 1 4294967296
+line 8: expected simulate Q UNITS
+>simulate 4294967296 1
+line 9: expected simulate Q UNITS
+>simulates 1 9
+line 10: expected a command
+>Simulate 1 9
+line 11: expected a command
+>fresh 2 5 9
+ok
+>mark 1 1 1
+ok
+>mark 1 1 9
+ok
+>mark 1 2 2
+ok
+>mark 1 2 3
+ok
+>mark 1 2 8
+ok
+>mark 1 3 4
+ok
+>mark 1 4 5
+ok
+>mark 1 4 6
+ok
+>mark 1 5 7
+ok
+>mark 1 5 8
+ok
+>simulate 1 21
+refused 8
+>simulate 1 4294967295
+refused 8
+>simulate 3 4294967295
+refused 2
+>search 1
+ok
+>start 1
+ok
+>simulate 1 21
+unit    123456789012345678901
+starts  A..B...C..D...E..F...
+1       A..B...CA.DB..EC.FD.. busy 10/21
+2       .AA.BB.ACCBDD.CEEDFF. busy 16/21
+3       ...A..B...C..D...E..F busy  6/21
+4       ....AA.BB..CC.DD..EE. busy 10/21
+5       ......AA.BB..CC.DD..E busy  9/21
+>bank
+177 0 0 0
+>read
+plan 1 cycle 3 4 sum 7
+>\tsimulate\t01  009 \r
+unit    123456789
+starts  A..B...C.
+1       A..B...CA busy 4/9
+2       .AA.BB.AC busy 6/9
+3       ...A..B.. busy 2/9
+4       ....AA.BB busy 4/9
+5       ......AA. busy 2/9
+>simulate 1 0
+unit   \u{20}
+starts \u{20}
+1        busy 0/0
+2        busy 0/0
+3        busy 0/0
+4        busy 0/0
+5        busy 0/0
+>simulate 1 1
+unit    1
+starts  A
+1       A busy 1/1
+2       . busy 0/1
+3       . busy 0/1
+4       . busy 0/1
+5       . busy 0/1
+>simulate 2 9
+refused 8
+>simulate 0 9
+refused 2
+>simulate 3 9
+refused 2
+>simulate 257 9
+refused 2
+>simulate 257 4294967295
+refused 2
+>simulate 2 4294967295
+refused 8
+>simulate 1 4294967295
+refused 6
+>simulate 1 65557
+refused 6
+>read
+plan 1 cycle 3 4 sum 7
+>bank
+177 0 0 0
+>mark 1 3 8
+ok
+>simulate 1 9
+refused 8
+>search 1
+ok
+>simulate 1 12
+unit    123456789012
+starts  A.B......C.D
+1       A.B.....ACBD busy  6/12
+2       .AABB..A.BCC busy  8/12
+3       ...A.B.A.B.. busy  4/12
+4       ....AABB.... busy  4/12
+5       ......AABB.. busy  4/12
+>search 2
+ok
+>simulate 1 9
+refused 8
+>simulate 2 3
+unit    123
+starts  ABC
+1       ... busy 0/3
+2       ... busy 0/3
+3       ... busy 0/3
+4       ... busy 0/3
+5       ... busy 0/3
+>fresh 2 3 5
+ok
+>mark 1 1 1
+ok
+>mark 1 1 4
+ok
+>mark 1 2 2
+ok
+>mark 1 3 3
+ok
+>mark 1 3 5
+ok
+>mark 2 1 2
+ok
+>mark 2 1 5
+ok
+>mark 2 2 4
+ok
+>mark 2 3 1
+ok
+>mark 2 3 3
+ok
+>search 1
+ok
+>simulate 1 12
+unit    123456789012
+starts  AB...CD...EF
+1       AB.ABCD.CDEF busy 10/12
+2       .AB...CD...E busy  5/12
+3       ..ABAB.CDCD. busy  8/12
+>search 2
+ok
+>simulate 2 12
+unit    123456789012
+starts  AB...CD...EF
+1       .AB.ABCD.CDE busy  9/12
+2       ...AB...CD.. busy  4/12
+3       ABAB.CDCD.EF busy 10/12
+>fresh 1 1 1
+ok
+>mark 1 1 1
+ok
+>search 1
+ok
+>simulate 1 60
+unit    123456789012345678901234567890123456789012345678901234567890
+starts  ABCDEFGHIJKLMNOPQRSTUVWXYZabcdefghijklmnopqrstuvwxyzABCDEFGH
+1       ABCDEFGHIJKLMNOPQRSTUVWXYZabcdefghijklmnopqrstuvwxyzABCDEFGH busy 60/60
+>simulate 1 49272
+refused 6
+>simulate 2 49272
+refused 2
+>fresh 1 16 1
+ok
+>search 1
+ok
+>simulate 1 8193
+refused 6
+>read
+plan 1 cycle 1 sum 1
+";
+
 /// The paper's record, the same with a byte more, and with its spare bit 0; a unit file; and a file of no bytes.
 const RECORD_FILES: [(&str, &[u8]); 5] = [
     ("paper", &[0x02, 0x00, 0x07, 0x00, 0x08, 0x00, 0x0A, 0x00, 0x03, 0x04, 0xF6]),
@@ -625,7 +826,8 @@ pub fn examples() -> Result<(), String> {
     session("the examples", EXAMPLES, Folder::default(), &[])?;
     let mut before = Folder::default();
     put_files(&mut before, &RECORD_FILES);
-    session("the examples of records", RECORDS, before, &FOUND_RECORDS)
+    session("the examples of records", RECORDS, before, &FOUND_RECORDS)?;
+    session("the examples of charts", CHARTS, Folder::default(), &[])
 }
 
 /// The model against the paper's tables and its own definitions, and against the examples.
@@ -633,5 +835,6 @@ pub fn check_model() -> Result<(), String> {
     model_check::run()?;
     loops_check::run()?;
     records_check::run()?;
+    charts_check::run()?;
     examples()
 }

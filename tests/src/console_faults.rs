@@ -1,10 +1,11 @@
 //! Consoles with one fault each, as a program could have it. The scripts have to show every one of them: an output that is wrong shows that
 //! the comparison works, a console that is wrong shows that the lines reach the fault.
 
+use crate::charts;
 use crate::console_folder::{Content, File, Folder, Shelf, PART};
 use crate::console_model::*;
 use crate::console_script::LINES;
-use crate::console_words::one_turn;
+use crate::console_words::{one_turn, Draw};
 use crate::loops::Loops;
 use crate::model::*;
 use crate::records;
@@ -24,7 +25,7 @@ impl Faulty {
         Faulty { console, skipped: 0 }
     }
 
-    fn answer(&mut self, line: &[u8], place: usize) -> Answer {
+    pub fn answer(&mut self, line: &[u8], place: usize) -> Answer {
         self.console.answer(line, place)
     }
 
@@ -183,6 +184,35 @@ impl Faulty {
         self.console.shelf.files.insert(name.to_vec(), File::Bytes(bytes));
         let answer = self.answer(line, place);
         self.console.shelf.files.extend(old.map(|file| (name.to_vec(), file)));
+        answer
+    }
+
+    /// With other units, where the line asks for a chart.
+    fn with_units(&mut self, line: &[u8], place: usize, change: impl Fn(u32) -> u32) -> Answer {
+        self.with_words(line, place, |words| {
+            if let (true, [_, _, units]) = (words[0] == b"simulate", &mut words[..]) {
+                if let Some(number) = number(units) {
+                    *units = change(number).to_string().into_bytes();
+                }
+            }
+        })
+    }
+
+    /// With another chart, where there is one, from the marks of the unit.
+    fn with_chart(&mut self, line: &[u8], place: usize, change: impl Fn(&Unit, &mut Chart)) -> Answer {
+        let mut answer = self.answer(line, place);
+        if let ([Part::Chart(chart)], Some(unit)) = (&mut answer.parts[..], &self.console.unit) {
+            change(unit, chart);
+        }
+        answer
+    }
+
+    /// With a refusal in place of a chart in this special case.
+    fn refusing(&mut self, line: &[u8], place: usize, what: &str, number: u32) -> Answer {
+        let mut answer = self.answer(line, place);
+        if answer.met.contains(&what) {
+            answer.parts = vec![Part::Text(format!("refused {number}\n"))];
+        }
         answer
     }
 
@@ -1028,6 +1058,376 @@ pub const FAULTS: &[(&str, Fault)] = &[
         }
         answer
     }),
+    // charts
+    ("a chart is of the plan, whichever function is asked for", |it, line, place| {
+        let (plan, functions) = (it.console.plan, it.console.unit.as_ref().map_or(0, |unit| unit.functions));
+        it.with_words(line, place, |words| {
+            if let (true, [_, tag, _], Some(plan)) = (words[0] == b"simulate", &mut words[..], plan) {
+                if number(tag).is_some_and(|tag| (1..=functions).contains(&tag)) {
+                    *tag = plan.tag.to_string().into_bytes();
+                }
+            }
+        })
+    }),
+    ("a chart is of the plan that an edit dropped", |it, line, place| {
+        it.in_case(line, place, "a chart after an edit dropped the plan", "unit    \nstarts  \n")
+    }),
+    ("a chart searches where there is no plan", |it, line, place| {
+        let answer = it.answer(line, place);
+        if !is(&answer, "simulate", "refused 8") || it.console.plan.is_some() {
+            return answer;
+        }
+        let search = [b"search ", words_of(line)[1]].concat();
+        it.answer(&search, place);
+        it.answer(line, place)
+    }),
+    ("a chart searches where another function has the plan", |it, line, place| {
+        let answer = it.answer(line, place);
+        if !is(&answer, "simulate", "refused 8") || it.console.plan.is_none() {
+            return answer;
+        }
+        let search = [b"search ", words_of(line)[1]].concat();
+        it.answer(&search, place);
+        it.answer(line, place)
+    }),
+    ("a chart wants its plan shown before", |it, line, place| it.refusing(line, place, "a chart of a plan that was not shown before", 8)),
+    ("simulate: 8 comes before 2", |it, line, place| it.refusing(line, place, "a chart refused by 2 and not by 8", 8)),
+    ("simulate: 6 comes before 2", |it, line, place| it.refusing(line, place, "a chart refused by 2 and not by 6", 6)),
+    ("simulate: 6 comes before 8", |it, line, place| it.refusing(line, place, "a chart refused by 8 and not by 6", 6)),
+    ("simulate: an unknown function is refused by 8 beside a plan", |it, line, place| {
+        it.refusing(line, place, "a chart refused by 2 beside a plan", 8)
+    }),
+    ("simulate: a plan of a tag's lowest byte is taken", |it, line, place| {
+        let plan = it.console.plan;
+        it.with_words(line, place, |words| {
+            if let (true, [_, tag, _], Some(plan)) = (words[0] == b"simulate", &mut words[..], plan) {
+                if number(tag).is_some_and(|tag| tag % 256 == plan.tag) {
+                    *tag = plan.tag.to_string().into_bytes();
+                }
+            }
+        })
+    }),
+    ("simulate: no unit comes after refused 2", |it, line, place| {
+        it.instead(line, place, |answer, _| is(answer, "simulate", "no unit").then(|| "refused 2\n".to_string()))
+    }),
+    ("simulate: no units are refused", |it, line, place| it.refusing(line, place, "a chart of no units", 6)),
+    ("simulate: no units are not what was expected", |it, line, place| {
+        it.with_words(line, place, |words| {
+            if words[0] == b"simulate" && words.len() == 3 && number(&words[2]) == Some(0) {
+                words.push(b"x".to_vec());
+            }
+        })
+    }),
+    ("simulate: no units are taken for one", |it, line, place| it.with_units(line, place, |units| units.max(1))),
+    ("simulate: the units are taken modulo 256", |it, line, place| it.with_units(line, place, |units| units % 256)),
+    ("simulate: the units are taken modulo 65,536", |it, line, place| it.with_units(line, place, |units| units % 65_536)),
+    ("simulate: one unit more", |it, line, place| it.with_units(line, place, |units| units.saturating_add(1))),
+    ("simulate: Q and UNITS are exchanged", |it, line, place| {
+        it.with_words(line, place, |words| {
+            if words[0] == b"simulate" && words.len() == 3 {
+                words.swap(1, 2);
+            }
+        })
+    }),
+    ("simulate: 8,192 units are the most", |it, line, place| it.refusing(line, place, "a chart of more than 8,192 units", 6)),
+    ("simulate: 8,191 units are the most", |it, line, place| it.refusing(line, place, "a chart of 8,192 units", 6)),
+    ("simulate: 147,857 bytes are the most", |it, line, place| it.refusing(line, place, "a chart of 147,858 bytes", 6)),
+    ("simulate: the longest chart has no room", |it, line, place| it.refusing(line, place, "the longest chart with room", 6)),
+    ("simulate: the shortest chart without room has some", |it, line, place| {
+        let segments = it.console.unit.as_ref().map_or(1, |unit| unit.segments);
+        let most = charts::most_units(segments);
+        it.with_units(line, place, |units| if units == most + 1 { most } else { units })
+    }),
+    ("simulate: a chart without room is cut", |it, line, place| {
+        let segments = it.console.unit.as_ref().map_or(1, |unit| unit.segments);
+        it.with_units(line, place, |units| units.min(charts::most_units(segments)))
+    }),
+    ("simulate: the length of a chart has 32 bits", |it, line, place| {
+        it.in_case(line, place, "a chart whose length has room in 32 bits", "unit    \nstarts  \n")
+    }),
+    ("simulate: the marks are those of function 1", |it, line, place| {
+        it.with_chart(line, place, |unit, chart| chart.planned.drawn.spots = unit.spots(1).into())
+    }),
+    ("simulate: the marks are those of the last function", |it, line, place| {
+        it.with_chart(line, place, |unit, chart| chart.planned.drawn.spots = unit.spots(unit.functions).into())
+    }),
+    ("simulate: segments after the last marked one are left out", |it, line, place| {
+        it.with_chart(line, place, |_, chart| {
+            chart.segments = chart.planned.drawn.spots.iter().map(|spot| spot.0).max().unwrap_or(chart.segments);
+        })
+    }),
+    ("a chart drops the plan", |it, line, place| it.after(line, place, &["simulate"], ok, drop_plan)),
+    ("a refused chart drops the plan", |it, line, place| it.after(line, place, &["simulate"], refused, drop_plan)),
+    ("a chart empties the bank", |it, line, place| it.after(line, place, &["simulate"], ok, empty)),
+    ("a refused chart empties the bank", |it, line, place| it.after(line, place, &["simulate"], refused, empty)),
+    ("a chart takes a time unit", |it, line, place| it.after(line, place, &["simulate"], ok, |console| console.bank.tick())),
+    ("a chart starts its function", |it, line, place| {
+        let answer = it.answer(line, place);
+        if is(&answer, "simulate", "ok") {
+            let start = [b"start ", words_of(line)[1]].concat();
+            it.answer(&start, place);
+        }
+        answer
+    }),
+    ("a chart leaves an empty bank with one start", |it, line, place| {
+        let answer = it.answer(line, place);
+        if is(&answer, "simulate", "ok") {
+            empty(&mut it.console);
+            let start = [b"start ", words_of(line)[1]].concat();
+            it.answer(&start, place);
+        }
+        answer
+    }),
+    ("a chart takes a mark away", |it, line, place| it.after(line, place, &["simulate"], ok, take_mark)),
+    ("a chart makes a new plan", |it, line, place| {
+        let answer = it.answer(line, place);
+        if is(&answer, "simulate", "ok") {
+            let search = [b"search ", words_of(line)[1]].concat();
+            it.answer(&search, place);
+        }
+        answer
+    }),
+];
+
+/// A chart drawn in another way, also of wrong starts or marks and with wrong letters: where two tasks meet, the later one is shown.
+fn sketch(chart: &Chart, starts: &[u32], spots: &[Spot], letter: impl Fn(usize) -> char) -> String {
+    let (units, width) = (chart.units as usize, chart.units.to_string().len());
+    let mut rows = vec![vec!['.'; units]; chart.segments as usize + 1];
+    for (task, start) in starts.iter().enumerate() {
+        // the starts are the first row
+        let cells = spots.iter().map(|&(segment, column)| (segment, start + column - 1)).chain([(0, *start)]);
+        for (row, unit) in cells.filter(|cell| cell.1 <= chart.units) {
+            rows[row as usize][unit as usize - 1] = letter(task);
+        }
+    }
+    let mut text = charts::head(chart.units);
+    for (segment, row) in rows.iter().enumerate() {
+        text.extend(row);
+        text += "\n";
+        if segment > 0 {
+            text.pop();
+            text += &format!(" busy {:>width$}/{units}\n", row.iter().filter(|cell| **cell != '.').count());
+        }
+        if segment < rows.len() - 1 {
+            text += &format!("{:<8}", segment + 1);
+        }
+    }
+    text
+}
+
+/// The right chart, where the marks are the plan's.
+pub fn sketched(chart: &Chart, latencies: &[u8]) -> String {
+    started(chart, &charts::starts_of(latencies, chart.units))
+}
+
+/// With other starts.
+fn started(chart: &Chart, starts: &[u32]) -> String {
+    sketch(chart, starts, &chart.planned.drawn.spots, charts::letter)
+}
+
+/// With other marks, where they are inside the chart.
+fn marked(chart: &Chart, latencies: &[u8], change: impl Fn(Spot) -> Option<Spot>) -> String {
+    let spots: Vec<Spot> = chart.planned.drawn.spots.iter().copied().filter_map(change).collect();
+    sketch(chart, &charts::starts_of(latencies, chart.units), &spots, charts::letter)
+}
+
+/// With other letters.
+fn lettered(chart: &Chart, latencies: &[u8], letter: impl Fn(usize) -> char) -> String {
+    sketch(chart, &charts::starts_of(latencies, chart.units), &chart.planned.drawn.spots, letter)
+}
+
+/// With other lines of the segments, from their front and their busy units.
+fn rowed(chart: &Chart, latencies: &[u8], change: impl Fn(&str, usize) -> String) -> String {
+    let text = chart.text(latencies);
+    let line = |line: &str| match line.split_once(" busy ") {
+        Some((front, busy)) => change(front, busy.split_once('/').expect("two numbers").0.trim().parse().expect("a number")) + "\n",
+        None => format!("{line}\n"),
+    };
+    text.lines().map(line).collect()
+}
+
+/// With another number of busy units.
+fn counted(chart: &Chart, latencies: &[u8], change: impl Fn(usize) -> usize) -> String {
+    let width = chart.units.to_string().len();
+    rowed(chart, latencies, |front, busy| format!("{front} busy {:>width$}/{}", change(busy), chart.units))
+}
+
+/// With a field of another text in front of the cells.
+fn fielded(chart: &Chart, latencies: &[u8], change: impl Fn(&str) -> String) -> String {
+    let text = chart.text(latencies);
+    text.lines().map(|line| line.split_at(charts::FIELD)).map(|(field, cells)| change(field) + cells + "\n").collect()
+}
+
+/// With the cells of the line `unit` changed.
+fn numbered(chart: &Chart, latencies: &[u8], digit: impl Fn(u32) -> u32) -> String {
+    let text = chart.text(latencies);
+    let digits: String = (1..=chart.units).map(|unit| digit(unit).to_string()).collect();
+    format!("unit    {digits}{}", &text[charts::FIELD + chart.units as usize..])
+}
+
+/// The same cycle with its last latency changed.
+fn last_changed(chart: &Chart, latencies: &[u8], change: impl Fn(u8) -> u8) -> String {
+    let mut other = latencies.to_vec();
+    if let Some(last) = other.last_mut() {
+        *last = change(*last).max(1);
+    }
+    started(chart, &charts::starts_of(&other, chart.units))
+}
+
+/// The same for how a chart is drawn.
+pub const CHART_FAULTS: &[(&str, Draw)] = &[
+    ("the position is 0 after S", |chart, latencies| last_changed(chart, latencies, |last| last + 1)),
+    ("the position is 0 after S - 2", |chart, latencies| last_changed(chart, latencies, |last| last - 1)),
+    ("the ring is played once", |chart, latencies| {
+        let sum = sum_of(latencies);
+        started(chart, &charts::starts_of(latencies, chart.units.min(sum)))
+    }),
+    ("the ring is played twice", |chart, latencies| {
+        let sum = sum_of(latencies);
+        started(chart, &charts::starts_of(latencies, chart.units.min(2 * sum)))
+    }),
+    ("tasks start where the bits are 1", |chart, latencies| {
+        let starts = charts::starts_of(latencies, chart.units);
+        started(chart, &(1..=chart.units).filter(|unit| !starts.contains(unit)).collect::<Vec<u32>>())
+    }),
+    ("a task starts at the first bit that is 1 too", |chart, latencies| {
+        let mut starts = charts::starts_of(latencies, chart.units);
+        if let Some(unit) = (1..=chart.units).find(|unit| !starts.contains(unit)) {
+            starts.push(unit);
+            starts.sort();
+        }
+        started(chart, &starts)
+    }),
+    ("the first unit is a tick", |chart, latencies| {
+        let starts = charts::starts_of(latencies, chart.units.saturating_sub(1));
+        started(chart, &starts.iter().map(|start| start + 1).collect::<Vec<u32>>())
+    }),
+    ("the latencies are taken backwards", |chart, latencies| {
+        let other: Vec<u8> = latencies.iter().rev().copied().collect();
+        chart.text(&other)
+    }),
+    ("the cycle is begun at its second latency", |chart, latencies| {
+        let mut other = latencies.to_vec();
+        other.rotate_left(1);
+        chart.text(&other)
+    }),
+    ("the cycle is the greedy one", |chart, _| chart.text(&chart.planned.drawn.graph.greedy)),
+    ("the cycle is n + 1", |chart, _| chart.text(&[chart.planned.drawn.graph.diagram.states[0].len() as u8 + 1])),
+    ("after Z comes A again", |chart, latencies| lettered(chart, latencies, |task| charts::letter(task % 26))),
+    ("after Z comes [", |chart, latencies| {
+        lettered(chart, latencies, |task| if task < 52 { (b'A' + task as u8) as char } else { charts::letter(task) })
+    }),
+    ("after z comes {", |chart, latencies| {
+        lettered(chart, latencies, |task| if task % 53 == 52 { '{' } else { charts::letter(task % 53) })
+    }),
+    ("after z comes a again", |chart, latencies| {
+        lettered(chart, latencies, |task| if task < 52 { charts::letter(task) } else { charts::letter(26 + task % 26) })
+    }),
+    ("a to z come first", |chart, latencies| lettered(chart, latencies, |task| charts::letter(task + 26))),
+    ("the first task is B", |chart, latencies| lettered(chart, latencies, |task| charts::letter(task + 1))),
+    ("tasks are counted modulo 256", |chart, latencies| lettered(chart, latencies, |task| charts::letter(task % 256))),
+    ("a mark is shown one unit late", |chart, latencies| marked(chart, latencies, |(segment, column)| Some((segment, column + 1)))),
+    ("a mark is shown one unit early", |chart, latencies| {
+        marked(chart, latencies, |(segment, column)| (column > 1).then(|| (segment, column - 1)))
+    }),
+    ("segment 1 is shown one unit late", |chart, latencies| {
+        marked(chart, latencies, |(segment, column)| Some((segment, column + (segment == 1) as u32)))
+    }),
+    ("the last segment is shown one unit late", |chart, latencies| {
+        marked(chart, latencies, |(segment, column)| Some((segment, column + (segment == chart.segments) as u32)))
+    }),
+    ("segments are shown in reverse", |chart, latencies| {
+        marked(chart, latencies, |(segment, column)| Some((chart.segments + 1 - segment, column)))
+    }),
+    ("column 1 is not shown", |chart, latencies| marked(chart, latencies, |spot| (spot.1 > 1).then_some(spot))),
+    ("column 32 is not shown", |chart, latencies| marked(chart, latencies, |spot| (spot.1 < 32).then_some(spot))),
+    ("the last marked column is not shown", |chart, latencies| {
+        let last = chart.planned.drawn.spots.iter().map(|spot| spot.1).max();
+        marked(chart, latencies, |spot| (Some(spot.1) < last).then_some(spot))
+    }),
+    ("segment 16 is not shown", |chart, latencies| marked(chart, latencies, |spot| (spot.0 < 16).then_some(spot))),
+    ("a task is shown for as long as the longest latency", |chart, latencies| {
+        let longest = latencies.iter().copied().max().map(u32::from);
+        marked(chart, latencies, |spot| (Some(spot.1) <= longest).then_some(spot))
+    }),
+    ("a task is shown for one turn", |chart, latencies| {
+        let sum = sum_of(latencies);
+        marked(chart, latencies, |spot| (spot.1 <= sum).then_some(spot))
+    }),
+    ("the first task alone is shown", |chart, latencies| started(chart, &charts::starts_of(latencies, chart.units.min(1)))),
+    ("busy: one more", |chart, latencies| counted(chart, latencies, |busy| busy + 1)),
+    ("busy: one less", |chart, latencies| counted(chart, latencies, |busy| busy.saturating_sub(1))),
+    ("busy: idle units are counted", |chart, latencies| counted(chart, latencies, |busy| chart.units as usize - busy)),
+    ("busy: starts are counted", |chart, latencies| {
+        let starts = charts::starts_of(latencies, chart.units).len();
+        counted(chart, latencies, |_| starts)
+    }),
+    ("busy: modulo 256", |chart, latencies| counted(chart, latencies, |busy| busy % 256)),
+    ("busy: the last unit is left out", |chart, latencies| {
+        let width = chart.units.to_string().len();
+        rowed(chart, latencies, |front, busy| {
+            let is_last = chart.units > 0 && !front.ends_with('.');
+            format!("{front} busy {:>width$}/{}", busy - is_last as usize, chart.units)
+        })
+    }),
+    ("busy: not right-aligned", |chart, latencies| rowed(chart, latencies, |front, busy| format!("{front} busy {busy}/{}", chart.units))),
+    ("busy: left-aligned", |chart, latencies| {
+        let width = chart.units.to_string().len();
+        rowed(chart, latencies, |front, busy| format!("{front} busy {busy:<width$}/{}", chart.units))
+    }),
+    ("busy: zeros in front", |chart, latencies| {
+        let width = chart.units.to_string().len();
+        rowed(chart, latencies, |front, busy| format!("{front} busy {busy:0>width$}/{}", chart.units))
+    }),
+    ("busy: two bytes wide", |chart, latencies| rowed(chart, latencies, |front, busy| format!("{front} busy {busy:>2}/{}", chart.units))),
+    ("busy: as wide as one unit more", |chart, latencies| {
+        let width = (chart.units + 1).to_string().len();
+        rowed(chart, latencies, |front, busy| format!("{front} busy {busy:>width$}/{}", chart.units))
+    }),
+    ("busy: as wide as one unit less", |chart, latencies| {
+        let width = chart.units.saturating_sub(1).to_string().len();
+        rowed(chart, latencies, |front, busy| format!("{front} busy {busy:>width$}/{}", chart.units))
+    }),
+    ("busy: without the units", |chart, latencies| rowed(chart, latencies, |front, busy| format!("{front} busy {busy}"))),
+    ("busy: in percent", |chart, latencies| {
+        rowed(chart, latencies, |front, busy| format!("{front} busy {}%", 100 * busy / chart.units.max(1) as usize))
+    }),
+    ("the units are numbered from 0", |chart, latencies| numbered(chart, latencies, |unit| (unit - 1) % 10)),
+    ("after unit 9 comes 1", |chart, latencies| numbered(chart, latencies, |unit| (unit - 1) % 9 + 1)),
+    ("the units' numbers have 8 bits", |chart, latencies| numbered(chart, latencies, |unit| unit % 256 % 10)),
+    ("idle cells are spaces", |chart, latencies| chart.text(latencies).replace('.', " ")),
+    ("spaces at a line's end are left out", |chart, latencies| {
+        chart.text(latencies).lines().map(|line| format!("{}\n", line.trim_end())).collect()
+    }),
+    ("a chart of no units is empty", |chart, latencies| if chart.units == 0 { String::new() } else { chart.text(latencies) }),
+    ("no newline at a chart's end", |chart, latencies| chart.text(latencies).trim_end_matches('\n').to_string()),
+    ("the field has 7 bytes", |chart, latencies| fielded(chart, latencies, |field| field[..charts::FIELD - 1].to_string())),
+    ("the field is right-aligned", |chart, latencies| fielded(chart, latencies, |field| format!("{:>8}", field.trim_end()))),
+    ("segments are numbered from 0", |chart, latencies| {
+        fielded(chart, latencies, |field| match field.trim_end().parse::<u32>() {
+            Ok(segment) => format!("{:<8}", segment - 1),
+            Err(_) => field.to_string(),
+        })
+    }),
+    ("a number of two digits makes the field longer", |chart, latencies| {
+        fielded(chart, latencies, |field| match field.trim_end().parse::<u32>() {
+            Ok(segment) if segment > 9 => format!("{field} "),
+            _ => field.to_string(),
+        })
+    }),
+    ("a number of two digits is shown by its last one", |chart, latencies| {
+        fielded(chart, latencies, |field| match field.trim_end().parse::<u32>() {
+            Ok(segment) => format!("{:<8}", segment % 10),
+            Err(_) => field.to_string(),
+        })
+    }),
+    ("the line of the starts is left out", |chart, latencies| {
+        chart.text(latencies).split_inclusive('\n').filter(|line| !line.starts_with("starts")).collect()
+    }),
+    ("one unit too few is shown", |chart, latencies| Chart { units: chart.units.saturating_sub(1), ..chart.clone() }.text(latencies)),
+    ("255 units at most are shown", |chart, latencies| Chart { units: chart.units.min(255), ..chart.clone() }.text(latencies)),
+    ("8,191 units at most are shown", |chart, latencies| Chart { units: chart.units.min(8_191), ..chart.clone() }.text(latencies)),
+    ("a task starts nowhere after 8,192 units", |chart, latencies| started(chart, &charts::starts_of(latencies, chart.units.min(8_192)))),
 ];
 
 /// The same for what stands in the folder of the script about records.

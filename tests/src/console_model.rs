@@ -3,6 +3,7 @@
 //! A line is taken apart by the standard library's `split` and its answer is put together from `model.rs`. Of a plan only the number of
 //! the search that made it is known here: which best cycle it holds is free, and is seen when the program first shows it.
 
+use crate::charts;
 use crate::console_folder::{Content, Shelf};
 use crate::loops::*;
 use crate::model::*;
@@ -17,7 +18,7 @@ pub const LONGEST_LINE: usize = 4_096;
 
 /// Each command with what it wants after its name: `FILE` is a file's name, which may be any word, `L L ..` and `Q Q ..` are any number of
 /// numbers, none too, and all else is a number.
-pub const COMMANDS: [(&str, &str); 25] = [
+pub const COMMANDS: [(&str, &str); 26] = [
     ("fresh", " P S C"),
     ("mark", " Q R C"),
     ("unmark", " Q R C"),
@@ -43,6 +44,7 @@ pub const COMMANDS: [(&str, &str); 25] = [
     ("record", " Q FILE"),
     ("report", " FILE"),
     ("ring", " FILE"),
+    ("simulate", " Q UNITS"),
 ];
 
 /// A special case of the two readers of a record, `report` and `ring`.
@@ -60,12 +62,18 @@ pub struct Graph {
     pub diagram: Diagram,
     pub greedy: Vec<u8>,
     least: OnceCell<(i64, i64)>,
+    best_arcs: OnceCell<Arcs>,
 }
 
 impl Graph {
     /// The least average of a cycle, as a sum and a count.
     pub fn least(&self) -> (i64, i64) {
         *self.least.get_or_init(|| self.diagram.least_average())
+    }
+
+    /// The arcs that best cycles run along.
+    pub fn best_arcs(&self) -> &Arcs {
+        self.best_arcs.get_or_init(|| tight_arcs(&self.diagram.arcs, self.least()))
     }
 
     /// The arcs that a cycle runs along, each as a state and a latency. It is one cycle at most: the state after many turns is made by the
@@ -91,6 +99,37 @@ impl Graph {
                 (line, from, latency)
             })
         })
+    }
+}
+
+/// The arcs that best cycles run along, where the least average is this one, and every cycle of them is a best one: heights such that no arc
+/// rises by more than what it costs above the least average, and of the arcs those that rise by just that.
+pub fn tight_arcs(arcs: &Arcs, (sum, count): (i64, i64)) -> Arcs {
+    let cost = |latency: u32| count * latency as i64 - sum;
+    let mut heights = vec![0i64; arcs.len()];
+    let mut settled = false;
+    while !settled {
+        settled = true;
+        for (from, leading) in arcs.iter().enumerate() {
+            for &(latency, to) in leading {
+                if heights[from] + cost(latency) < heights[to] {
+                    heights[to] = heights[from] + cost(latency);
+                    settled = false;
+                }
+            }
+        }
+    }
+    let is_tight = |from: usize, (latency, to): (u32, usize)| heights[from] + cost(latency) == heights[to];
+    let on_tight = |(from, leading): (usize, &Vec<(u32, usize)>)| leading.iter().copied().filter(|arc| is_tight(from, *arc)).collect();
+    let mut tight: Arcs = arcs.iter().enumerate().map(on_tight).collect();
+    // arcs to states that lead no further are left out, until every walk can go on
+    loop {
+        let ends: Vec<bool> = tight.iter().map(|leading| leading.is_empty()).collect();
+        let before: usize = tight.iter().map(|leading| leading.len()).sum();
+        tight.iter_mut().for_each(|leading| leading.retain(|arc| !ends[arc.1]));
+        if tight.iter().map(|leading| leading.len()).sum::<usize>() == before {
+            return tight;
+        }
     }
 }
 
@@ -148,6 +187,57 @@ impl Drawn {
         }
         Ok(())
     }
+
+    /// Whether a best cycle could have just these starts in the first so many time units. Of a cycle that is longer than that it is asked
+    /// that the latencies seen run along best arcs, that others lead from there back to where they began without a state that occurs twice,
+    /// and that no rotation seen to come before it does.
+    pub fn may_start(&self, starts: &[u32], units: u32, yard: &mut Yard) -> bool {
+        let seen: Option<Vec<u8>> = starts.windows(2).map(|pair| u8::try_from(pair[1] - pair[0]).ok()).collect();
+        let (Some(seen), Some(last)) = (seen, starts.last()) else { return units == 0 };
+        if starts[0] != 1 {
+            return false;
+        }
+        let mut is_whole = |count: usize| {
+            let cycle = Cycle { latencies: seen[..count].to_vec(), sum: sum_of(&seen[..count]) };
+            charts::starts_of(&cycle.latencies, units) == starts && self.check_best(&cycle, yard).is_ok()
+        };
+        if (1..=seen.len().min(MOST_LATENCIES)).any(&mut is_whole) {
+            return true;
+        }
+        let is_first = (1..seen.len()).all(|turn| seen[turn..] >= seen[..seen.len() - turn]);
+        is_first && (0..self.graph.diagram.states.len()).any(|begin| self.leads_back(begin, &seen, units - last + 1))
+    }
+
+    /// Whether a cycle of best arcs with no state twice may begin at this state with these latencies, and then one that is not below `next`.
+    fn leads_back(&self, begin: usize, latencies: &[u8], next: u32) -> bool {
+        let arcs = self.graph.best_arcs();
+        let mut met = vec![false; arcs.len()];
+        let mut state = begin;
+        for &latency in latencies {
+            if std::mem::replace(&mut met[state], true) {
+                return false;
+            }
+            match arcs[state].iter().find(|arc| arc.0 == latency as u32) {
+                Some(arc) => state = arc.1,
+                None => return false,
+            }
+        }
+        if std::mem::replace(&mut met[state], true) {
+            return false;
+        }
+        // no latency is below the first one
+        let least = latencies.first().map_or(next, |first| *first as u32);
+        let mut open: Vec<usize> = arcs[state].iter().filter(|arc| arc.0 >= least.max(next)).map(|arc| arc.1).collect();
+        while let Some(state) = open.pop() {
+            if state == begin {
+                return true;
+            }
+            if !std::mem::replace(&mut met[state], true) {
+                open.extend(arcs[state].iter().filter(|arc| arc.0 >= least).map(|arc| arc.1));
+            }
+        }
+        false
+    }
 }
 
 /// The plan that a search made, by the number of the search, and its function.
@@ -176,6 +266,26 @@ impl Planned {
     fn more_than_record(&self) -> usize {
         let states = self.drawn.graph.diagram.states.len();
         records::LIST + states + states * LONGEST_LATENCY as usize / 8 + 1
+    }
+}
+
+/// A chart of a plan.
+#[derive(Clone)]
+pub struct Chart {
+    pub planned: Planned,
+    pub segments: u32,
+    pub units: u32,
+}
+
+impl Chart {
+    /// The chart of tasks that start in these units. Two tasks that meet are an error.
+    pub fn text_of(&self, starts: &[u32]) -> Result<String, String> {
+        charts::text(&self.planned.drawn.spots, self.segments, self.units, starts)
+    }
+
+    /// The chart where the plan has these latencies.
+    pub fn text(&self, latencies: &[u8]) -> String {
+        self.text_of(&charts::starts_of(latencies, self.units)).expect("a best cycle never collides")
     }
 }
 
@@ -214,7 +324,7 @@ impl Book {
         let function = self.function(unit, tag);
         let make = |vector: &Vec<bool>| {
             let diagram = diagram(vector, MOST_STATES)?;
-            Some(Rc::new(Graph { greedy: diagram.greedy(), diagram, least: OnceCell::new() }))
+            Some(Rc::new(Graph { greedy: diagram.greedy(), diagram, least: OnceCell::new(), best_arcs: OnceCell::new() }))
         };
         let graph = self.graphs.entry(function.vector.clone()).or_insert_with_key(make).clone()?;
         Some(Drawn { spots: function.spots.clone(), graph })
@@ -275,6 +385,8 @@ pub enum Part {
     List(Planned),
     /// What `ring` shows of it, after `sum`.
     Ring(Planned),
+    /// The whole chart.
+    Chart(Chart),
 }
 
 /// What sort of answer a line got: a command's, which begins with its name, or that of a line that is none.
@@ -302,6 +414,7 @@ impl Answer {
             Part::Text(text) => text.matches('\n').count(),
             Part::Plan(..) | Part::Best(_) | Part::Loop(_) | Part::List(_) | Part::Ring(_) => 0,
             Part::Drawing(_, _, drawn) => drawn.graph.arc_lines().count() + 2,
+            Part::Chart(chart) => chart.segments as usize + 2,
         };
         self.parts.iter().map(height).sum()
     }
@@ -394,6 +507,8 @@ pub struct Console<S: Shelf> {
     found: Bank,
     /// The searches whose plans were shown.
     shown: HashSet<usize>,
+    /// The searches whose plans had a chart before they were shown.
+    charted: HashSet<usize>,
     /// Whether the last edit dropped a plan and no search was accepted since then.
     dropped: bool,
 }
@@ -417,6 +532,8 @@ enum Before {
     Shown,
     /// A file was refused by them, or there was none.
     NotShown,
+    Charted,
+    RefusedChart,
     Bad,
     Other,
 }
@@ -429,8 +546,8 @@ impl<S: Shelf> Console<S> {
     pub fn new(shelf: S) -> Console<S> {
         let book = Book { functions: HashMap::new(), graphs: HashMap::new(), lists: HashMap::new(), yard: Yard::new() };
         let (bank, found, before) = (empty_bank(), empty_bank(), Before::Other);
-        let (met, shown) = (Vec::new(), HashSet::new());
-        Console { book, unit: None, plan: None, searches: 0, bank, shelf, met, before, found, shown, dropped: false }
+        let (met, shown, charted) = (Vec::new(), HashSet::new(), HashSet::new());
+        Console { book, unit: None, plan: None, searches: 0, bank, shelf, met, before, found, shown, charted, dropped: false }
     }
 
     /// A console as a new process has it, which knows of the same functions and lists.
@@ -567,6 +684,7 @@ impl<S: Shelf> Console<S> {
                 Ok(said(if written { "ok" } else { "not written" }.to_string()))
             }
             ("record", &[tag]) => self.record(unit, tag, file),
+            ("simulate", &[tag, units]) => self.simulate(unit, tag, units),
             // all others have a tag first
             (_, &[tag, ref others @ ..]) => {
                 unit.check_tag(tag)?;
@@ -605,6 +723,26 @@ impl<S: Shelf> Console<S> {
         self.met_if(written && !self.shown.contains(&search), "a record of a plan that was not read before");
         self.met_if(written && number(file).is_some(), "a record to a file whose name is a number");
         Ok(said(if written { "ok" } else { "not written" }.to_string()))
+    }
+
+    /// `refused 2` and `refused 8` as for a record, then `refused 6` where the chart has no room. "The session stays as it is".
+    fn simulate(&mut self, unit: &Unit, tag: u32, units: u32) -> Reply<Vec<Part>> {
+        self.meet_chart(unit, tag, units);
+        unit.check_tag(tag)?;
+        let Plan { search, .. } = self.plan.filter(|plan| plan.tag == tag).ok_or(8u32)?;
+        self.meet_length(unit.segments, units);
+        if charts::length(unit.segments, units) > charts::ROOM {
+            return Err(charts::NO_ROOM);
+        }
+        let is_known = self.shown.contains(&search);
+        self.met.push(if is_known { "a chart of a plan that was shown before" } else { "a chart of a plan that was not shown before" });
+        self.met_if(unit.segments > 9, "a chart of 10 segments or more");
+        self.met_if(unit.columns == MOST_COLUMNS, "a chart of a unit of 32 columns");
+        if !is_known && units > 0 {
+            self.charted.insert(search);
+        }
+        let drawn = self.book.drawn(unit, tag).expect("a search that was accepted");
+        Ok(vec![Part::Chart(Chart { planned: Planned { search, drawn }, segments: unit.segments, units })])
     }
 
     /// What a reader shows of a file: `report` K and the list, `ring` S and the ring.
@@ -879,6 +1017,9 @@ impl<S: Shelf> Console<S> {
             self.met_if(number(first).is_none() && number(file).is_some(), "a record with its number after the file");
             self.met_if(number(first).is_some() && large(file), "a record to a file whose name is a number above 4294967295");
         }
+        if let [b"simulate", tag, units] = words {
+            self.met_if(number(tag).is_some() && large(units), "a chart of more than 4294967295 units");
+        }
     }
 
     fn meet_edit(&mut self, name: &str, stood: bool) {
@@ -925,6 +1066,41 @@ impl<S: Shelf> Console<S> {
         self.met_if(tag == 0, "a record of a tag 0");
         self.met_if(tag == unit.functions + 1, "a record of a tag after the last");
         self.met_if(tag > 255 && plan == Some(tag % 256), "a record of a tag that would do without its higher bytes");
+    }
+
+    /// A chart that is asked for, good or bad.
+    fn meet_chart(&mut self, unit: &Unit, tag: u32, units: u32) {
+        let good = unit.check_tag(tag).is_ok();
+        let plan = self.plan.map(|plan| plan.tag);
+        let no_room = charts::length(unit.segments, units) > charts::ROOM;
+        self.met_if(good && plan.is_none(), "a chart without a plan");
+        self.met_if(good && plan.is_none() && self.dropped, "a chart after an edit dropped the plan");
+        self.met_if(good && plan.is_some_and(|other| other != tag), "a chart of a function beside another one's plan");
+        self.met_if(good && plan != Some(tag) && no_room, "a chart refused by 8 and not by 6");
+        self.met_if(!good && plan.is_none(), "a chart refused by 2 and not by 8");
+        self.met_if(!good && plan.is_some(), "a chart refused by 2 beside a plan");
+        self.met_if(!good && no_room, "a chart refused by 2 and not by 6");
+        self.met_if(tag == 0, "a chart of a tag 0");
+        self.met_if(tag == unit.functions + 1, "a chart of a tag after the last");
+        self.met_if(tag > 255 && plan == Some(tag % 256), "a chart of a tag that would do without its higher bytes");
+    }
+
+    /// How long the chart of a plan is to be, with room or without.
+    fn meet_length(&mut self, segments: u32, units: u32) {
+        let length = charts::length(segments, units);
+        let (has_room, most) = (length <= charts::ROOM, charts::most_units(segments));
+        self.met_if(units == 0, "a chart of no units");
+        self.met_if(units == 1, "a chart of one unit");
+        self.met_if([9, 99, 999].contains(&units), "a chart whose units have a digit less than one unit more");
+        self.met_if([10, 100, 1_000].contains(&units), "a chart whose units have a digit more than one unit less");
+        self.met_if(units == 8_192 && has_room, "a chart of 8,192 units");
+        self.met_if(units > 8_192 && has_room, "a chart of more than 8,192 units");
+        self.met_if(length == charts::ROOM, "a chart of 147,858 bytes");
+        self.met_if(units == most, "the longest chart with room");
+        self.met_if(units == most + 1, "the shortest chart without room");
+        self.met_if(units == u32::MAX, "a chart of 4294967295 units");
+        self.met_if(units > 65_535 && charts::length(segments, units % 65_536) <= charts::ROOM, "a chart whose units have room in 16 bits");
+        self.met_if(!has_room && length % (1 << 32) <= charts::ROOM, "a chart whose length has room in 32 bits");
     }
 
     fn met_view(&mut self, name: &str, holds: bool, what: [&'static str; 2]) {
@@ -1002,6 +1178,8 @@ impl<S: Shelf> Console<S> {
             ("record", "not written") => Before::NotWritten,
             ("report" | "ring", "ok") => Before::Shown,
             ("report" | "ring", "refused 15" | "no file") => Before::NotShown,
+            ("simulate", "ok") => Before::Charted,
+            ("simulate", "refused 2" | "refused 6" | "refused 8") => Before::RefusedChart,
             // what only looks leaves what was done before in place
             ("read" | "bank" | "diagram" | "vector" | "bound" | "upper" | "constant" | "row" | "list" | "table", _) => before,
             (_, "expected") => Before::Bad,
@@ -1023,12 +1201,15 @@ impl<S: Shelf> Console<S> {
             Before::NotWritten => "a plan kept by a record that was not written",
             Before::Shown => "a plan kept by a record that is shown",
             Before::NotShown => "a plan kept by a file that is no record",
+            Before::Charted => "a plan kept by a chart",
+            Before::RefusedChart => "a plan kept by a refused chart",
             Before::Bad => "a plan kept by a line that is no command",
             _ => "a plan",
         };
         self.met.push(kept);
         let is_known = !self.shown.insert(search);
         self.met_if(is_known, "a plan shown again");
+        self.met_if(!is_known && self.charted.contains(&search), "a plan shown after its chart");
     }
 
     fn meet_bank(&mut self) {
@@ -1051,6 +1232,8 @@ impl<S: Shelf> Console<S> {
             Before::NotWritten => "a bank kept by a record that was not written",
             Before::Shown => "a bank kept by a record that is shown",
             Before::NotShown => "a bank kept by a file that is no record",
+            Before::Charted => "a bank kept by a chart",
+            Before::RefusedChart => "a bank kept by a refused chart",
             Before::Bad => "a bank kept by a line that is no command",
             _ => "a bank in use",
         };
@@ -1128,6 +1311,7 @@ pub const WANTED: &[&str] = &[
     "a save where a file has its name with `.part`",
     "a plan",
     "a plan shown again",
+    "a plan shown after its chart",
     "a plan better than greedy",
     "a plan in place of another function's",
     "a plan dropped by a new unit",
@@ -1143,6 +1327,8 @@ pub const WANTED: &[&str] = &[
     "a plan kept by a record that was not written",
     "a plan kept by a record that is shown",
     "a plan kept by a file that is no record",
+    "a plan kept by a chart",
+    "a plan kept by a refused chart",
     "a plan kept by a line that is no command",
     "a plan with a sum above 255",
     "a plan of two or more latencies",
@@ -1295,6 +1481,41 @@ pub const WANTED: &[&str] = &[
     "ring: 15 for a spare bit",
     "report: 15 for several things",
     "ring: 15 for several things",
+    "a chart without a plan",
+    "a chart after an edit dropped the plan",
+    "a chart of a function beside another one's plan",
+    "a chart refused by 2 and not by 6",
+    "a chart refused by 2 and not by 8",
+    "a chart refused by 2 beside a plan",
+    "a chart refused by 8 and not by 6",
+    "a chart of a tag 0",
+    "a chart of a tag after the last",
+    "a chart of a tag that would do without its higher bytes",
+    "a chart of a plan that was shown before",
+    "a chart of a plan that was not shown before",
+    "a chart of no units",
+    "a chart of one unit",
+    "a chart whose units have a digit less than one unit more",
+    "a chart whose units have a digit more than one unit less",
+    "a chart of 8,192 units",
+    "a chart of more than 8,192 units",
+    "a chart of 147,858 bytes",
+    "the longest chart with room",
+    "the shortest chart without room",
+    "a chart of 4294967295 units",
+    "a chart of more than 4294967295 units",
+    "a chart whose units have room in 16 bits",
+    "a chart whose length has room in 32 bits",
+    "a chart of 10 segments or more",
+    "a chart of a unit of 32 columns",
+    "a chart found: less than a turn",
+    "a chart found: just a turn",
+    "a chart found: three turns or more",
+    "a chart found: three turns or more of two or more latencies",
+    "a chart found: 27 tasks or more",
+    "a chart found: 53 tasks or more",
+    "a chart found: a segment that is never busy",
+    "a chart found: a segment that is always busy",
     "no plan after a loop",
     "a bank in use",
     "a bank emptied",
@@ -1318,6 +1539,8 @@ pub const WANTED: &[&str] = &[
     "a bank kept by a record that was not written",
     "a bank kept by a record that is shown",
     "a bank kept by a file that is no record",
+    "a bank kept by a chart",
+    "a bank kept by a refused chart",
     "a bank kept by a line that is no command",
     "an input of no bytes",
     "an input that comes byte by byte",

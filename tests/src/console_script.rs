@@ -1,5 +1,6 @@
 //! Scripts for the console, good lines and bad ones, made from fixed seeds. Each line has its answer before the program is run.
 
+use crate::charts;
 use crate::console_folder::{has_devices, File, Folder, FULL, INNER, NULL, PART};
 use crate::console_model::*;
 use crate::loops::MOST_TAGS;
@@ -327,7 +328,7 @@ const NO_NUMBERS: [&[u8]; 23] = [
     b"Q",
     b"1/1",
 ];
-const NO_COMMANDS: [&[u8]; 31] = [
+const NO_COMMANDS: [&[u8]; 34] = [
     b"help",
     b"quit",
     b"exit",
@@ -357,6 +358,9 @@ const NO_COMMANDS: [&[u8]; 31] = [
     b"repor record0",
     b"rings record0",
     b"rin record0",
+    b"simulates 1 9",
+    b"simulat 1 9",
+    b"simulate1 9",
     b"\xef\xbb\xbftick",
     b"line 1: expected a command",
 ];
@@ -415,7 +419,7 @@ const BARE_LINES: [&[u8]; 22] = [
     b"\0",
 ];
 /// In how many forms long lines come.
-const LONG_FORMS: u64 = 37;
+const LONG_FORMS: u64 = 39;
 /// Lengths of lines: around the limit, around multiples of it, and far above it.
 const LENGTHS: [usize; 21] = [
     4_095, 4_095, 4_096, 4_096, 4_096, 4_097, 4_097, 4_098, 5_000, 8_190, 8_191, 8_192, 8_193, 8_194, 12_288, 12_289, 16_384, 65_535,
@@ -784,6 +788,49 @@ impl Writer {
         }
     }
 
+    /// Mostly of the function that has a plan, where one has.
+    fn simulate(&mut self) -> Vec<u8> {
+        let tag = match self.console.plan {
+            Some(plan) if self.random.chance(3, 4) => self.digits(plan.tag),
+            Some(plan) if self.random.chance(1, 4) => (self.random.pick(&[256, 65_536, 1 << 24]) + plan.tag).to_string(),
+            _ if self.random.chance(1, 4) => self.bad_tag(),
+            _ => self.tag(),
+        };
+        let units = self.units();
+        match self.random.below(80) {
+            // the other way about, or one number alone
+            0 => format!("simulate {units} {tag}"),
+            1 => format!("simulate {tag}"),
+            _ => format!("simulate {tag} {units}"),
+        }
+        .into_bytes()
+    }
+
+    /// How many units a chart is to have: mostly not many.
+    fn units(&mut self) -> String {
+        let (_, segments, _) = self.counts();
+        let some = self.random.between(0, 199);
+        let units = match self.random.below(100) {
+            0..=3 => 0,
+            4..=6 => 1,
+            7..=24 => self.random.between(2, 20),
+            25..=30 => self.random.pick(&[9, 10, 99, 100, 999, 1_000]),
+            31 => self.random.pick(&[8_191, 8_192, 8_193]),
+            32 => charts::most_units(segments) + self.random.between(0, 2) - 1,
+            // without room: their last bits have some, or the last bits of the chart's length do
+            33 | 34 => self.random.pick(&[1 << 16, 1 << 17, 1 << 24, 1 << 31, u32::MAX - 65_535]) + some,
+            35 => {
+                let turns = self.random.between(1, segments + 2) as u64;
+                ((turns << 32) / (segments as u64 + 2)).min(u32::MAX as u64) as u32
+            }
+            36 | 37 => return self.random.pick(&MANY).to_string(),
+            38 => return self.random.pick(&TOO_MANY).to_string(),
+            39 => return format!("{}", (1u64 << 32) + some as u64),
+            _ => some,
+        };
+        self.digits(units)
+    }
+
     fn view(&mut self) -> Vec<u8> {
         let reader: &[u8] = self.random.pick(&[b"report ", b"ring "]);
         [reader, &self.view_name()].concat()
@@ -818,7 +865,7 @@ impl Writer {
     }
 
     fn command(&mut self) -> Vec<u8> {
-        match self.random.below(126) {
+        match self.random.below(131) {
             0..=22 => self.mark(),
             23..=29 => self.unmark(),
             30..=38 => self.about("search"),
@@ -847,7 +894,8 @@ impl Writer {
             }
             110..=115 => self.loop_over(),
             116..=120 => self.record(),
-            _ => self.view(),
+            121..=125 => self.view(),
+            _ => self.simulate(),
         }
     }
 
@@ -1017,6 +1065,7 @@ impl Writer {
                 let begin = if form == 34 { format!("record {tag}") } else { self.random.pick(&["report", "ring"]).to_string() };
                 self.long_name_line(&begin, &name, length)
             }
+            37 => filled(format!("simulate {tag} "), "21".to_string()),
             // blanks in place of what is missing: in front, between, at the end
             _ => {
                 let mut blank = || self.random.pick(&[b' ', b' ', b'\t']);
@@ -1033,6 +1082,7 @@ impl Writer {
                     29 => long("save".to_string(), "again1".to_string()),
                     32 => long(format!("loop {tag}"), tag.to_string()),
                     36 => long(format!("record {tag}"), "plan1".to_string()),
+                    38 => long(format!("simulate {tag}"), "9".to_string()),
                     _ => long(format!("\tvector {tag}"), "x".to_string()),
                 }
             }
@@ -1077,7 +1127,7 @@ impl Writer {
     fn search_and_read(&mut self) {
         let tag = self.good_tag();
         self.put(format!("search {tag}"));
-        match self.random.below(24) {
+        match self.random.below(26) {
             0 => {
                 let line = self.refused_fresh();
                 self.put(line);
@@ -1127,16 +1177,24 @@ impl Writer {
                 let line = self.view();
                 self.put(line);
             }
+            20 | 21 => {
+                let line = self.simulate();
+                self.put(line);
+            }
             _ => {}
         }
         self.put("read");
-        match self.random.below(6) {
+        match self.random.below(7) {
             0 | 1 => self.draw(tag),
             2 => {
                 let other = self.good_tag();
                 self.draw(other);
             }
             3 => self.put("read"),
+            4 => {
+                let line = self.simulate();
+                self.put(line);
+            }
             _ => {}
         }
     }
@@ -1238,6 +1296,77 @@ impl Writer {
         }
     }
 
+    /// Charts of a plan, or of what was one, and what is to be as it was before them.
+    fn charts(&mut self) {
+        let tag = self.good_tag();
+        if self.random.chance(5, 6) {
+            self.put(format!("search {tag}"));
+        }
+        match self.random.below(16) {
+            0 => {
+                let line = self.mark();
+                self.put(line);
+            }
+            // edits that leave the table as it is
+            1 => {
+                if let Some(Mark { tag, segment, column }) = self.standing() {
+                    self.put(format!("mark {tag} {segment} {column}"));
+                }
+            }
+            2 => {
+                let line = [b"un", &self.mark()[..]].concat();
+                self.put(line);
+            }
+            3 => {
+                let other = self.good_tag();
+                self.put(format!("search {other}"));
+            }
+            4 | 5 => self.put("read"),
+            6 => self.put("tick"),
+            7 => {
+                let line = self.between_starts();
+                self.put(line);
+            }
+            8 | 9 => self.put(format!("start {tag}")),
+            _ => {}
+        }
+        for _ in 0..self.random.between(1, 3) {
+            let units = self.units();
+            self.put(format!("simulate {tag} {units}"));
+            let line = match self.random.below(8) {
+                0 | 1 => b"read".to_vec(),
+                2 | 3 => b"bank".to_vec(),
+                4 => format!("start {tag}").into_bytes(),
+                5 => format!("table {tag}").into_bytes(),
+                _ => self.simulate(),
+            };
+            self.put(line);
+        }
+        // one turn of a plan, or a few
+        if let (Some(plan), true) = (self.console.plan, self.random.chance(1, 2)) {
+            let sum = self.console.drawn(plan.tag).map_or(1, |drawn| drawn.graph.least().0 as u32);
+            let turns = self.random.pick(&[1, 1, 2, 3, 7]);
+            self.put(format!("simulate {} {}", plan.tag, turns * sum.min(500)));
+        }
+        if self.random.chance(1, 2) {
+            self.put("read");
+        }
+    }
+
+    /// A chart of the plan of each hard diagram, the longest that has room, and one of many turns, before the plan is shown and after.
+    fn hard_charts(&mut self) {
+        let names: Vec<String> = (0..units::HARD.len()).map(good_name).chain([list_name(loops_check::HARD.len() - 1)]).collect();
+        for (place, name) in names.into_iter().enumerate() {
+            self.put(format!("load {name}"));
+            let tag = self.standing().map_or(1, |mark| mark.tag);
+            self.put(format!("search {tag}"));
+            let (first, second) = (self.random.pick(&[8_192, 3_000, 1_500, 700, 300]), self.random.between(100, 900));
+            self.put(format!("simulate {tag} {}", if place == 0 { 8_192 } else { first }));
+            self.put("read");
+            self.put(format!("simulate {tag} {second}"));
+        }
+    }
+
     /// A record of the plan of each hard diagram, and of a plan of the longest latency.
     fn hard_records(&mut self) {
         let names: Vec<String> = (0..units::HARD.len()).map(good_name).chain([list_name(loops_check::HARD.len() - 1)]).collect();
@@ -1298,7 +1427,7 @@ impl Writer {
         let (functions, segments, columns) = self.counts();
         let tag = self.good_tag();
         let edit = self.random.pick(&["mark", "unmark"]);
-        match self.random.below(34) {
+        match self.random.below(38) {
             0 => self.refused_fresh(),
             1 => format!("load {}", damaged_name(self.random.below(DAMAGED_FILES as u64) as usize)).into_bytes(),
             2 => self.fresh(),
@@ -1324,6 +1453,7 @@ impl Writer {
             25..=27 => self.loop_over(),
             28..=30 => self.record(),
             31 | 32 => self.view(),
+            33..=36 => self.simulate(),
             _ => b"tick".to_vec(),
         }
     }
@@ -1415,13 +1545,14 @@ impl Writer {
             if self.console.unit.as_ref().is_some_and(|unit| unit.marks.len() < 3) && self.random.chance(1, 3) {
                 self.marks();
             }
-            match self.random.below(66) {
+            match self.random.below(67) {
                 0..=5 => self.search_and_read(),
                 6 => self.questions(),
                 7 => self.events(),
                 8 => self.save_and_load(),
                 9 => self.loops(),
                 10 | 11 => self.records(),
+                12 => self.charts(),
                 _ => self.some_line(),
             }
         }
@@ -1431,7 +1562,7 @@ impl Writer {
     fn no_unit(&mut self, count: usize) {
         let end = (self.lines.len() + count).min(self.most);
         for (name, wants) in COMMANDS {
-            let words = wants.replace("FILE", "missing").replace(" L L ..", " 1 1").replace(" Q Q ..", " 1 1");
+            let words = wants.replace("FILE", "missing").replace("UNITS", "9").replace(" L L ..", " 1 1").replace(" Q Q ..", " 1 1");
             let words = words.replace(['P', 'S', 'Q', 'R', 'C'], "0");
             self.put(format!("{name}{words}"));
             self.put(format!("{name}{words} 1 x"));
@@ -1489,6 +1620,7 @@ fn sessions(lines: usize, before: &Folder, console: Console<Folder>) -> (Script,
     }
     writer.hard_loops();
     writer.hard_records();
+    writer.hard_charts();
     while !writer.full() {
         writer.session();
     }
@@ -1587,7 +1719,7 @@ pub fn scripts(lines: usize) -> Vec<Script> {
     let command = format!("vector {}1", "0".repeat(LONGEST_LINE - 8));
     let returned = format!("vector {}1\r", "0".repeat(LONGEST_LINE - 9));
     let too_long = format!("{command}\r");
-    let lasts: [&[u8]; 29] = [
+    let lasts: [&[u8]; 32] = [
         b"",
         b"table 1",
         b"tick",
@@ -1610,6 +1742,9 @@ pub fn scripts(lines: usize) -> Vec<Script> {
         b"record 1 out",
         b"record 1 out\r",
         b"report out ",
+        b"simulate 1 12",
+        b"simulate 1 12 \r",
+        b"simulate 1 0",
         command.as_bytes(),
         returned.as_bytes(),
         too_long.as_bytes(),

@@ -7,6 +7,8 @@
 
 #![allow(dead_code)]
 
+mod charts;
+mod charts_check;
 mod console_check;
 mod console_examples;
 mod console_faults;
@@ -30,13 +32,13 @@ mod tally;
 mod units;
 
 use console_check::{check, Counts, Difference, Run};
-use console_faults::{Fault, Faulty, FAULTS, RECORD_FAULTS};
+use console_faults::{sketched, Fault, Faulty, CHART_FAULTS, FAULTS, RECORD_FAULTS};
 use console_folder::{store, Content, File, Folder, Shelf, HEAD, PART};
 use console_model::*;
 use console_outside::{cases, Outcome, Program};
 use console_program::{Ending, Place};
 use console_script::{scripts, Feed, Line, Script, LINES, RECORDS};
-use console_words::{one_turn, plan_drawing, Filler, Finder};
+use console_words::{one_turn, plan_drawing, Draw, Filler, Finder};
 use loops::Loops;
 use model::*;
 use random::{seed_of, Random};
@@ -122,7 +124,7 @@ fn stand_in(store: Store, fetch: Fetch, unwritten: Unwritten) -> io::Result<()> 
     let mut input = io::stdin().lock();
     // each answer is written by itself
     let mut output = fs::File::from(io::stdout().as_fd().try_clone_to_owned()?);
-    let choice = Rc::new(RefCell::new(Choice { filler: Filler::default(), random: Random::new(seed_of(208, 0)) }));
+    let choice = Rc::new(RefCell::new(Choice { filler: Filler::new(sketched), random: Random::new(seed_of(208, 0)) }));
     let mut console = Console::new(Disk { store, fetch, choice: choice.clone() });
     let mut line = Vec::new();
     let mut held = Vec::new();
@@ -157,7 +159,7 @@ struct Fake {
 
 impl Fake {
     fn new(script: &Script, random: &mut Random) -> Fake {
-        let mut filler = Filler::default();
+        let mut filler = Filler::new(Chart::text);
         let answers = script.lines.iter().map(|line| filler.text(&line.answer, random)).collect();
         let folder = filler.folder(&script.after, random);
         Fake { answers, tail: String::new(), ending: Ending::Status(0), folder }
@@ -293,6 +295,26 @@ impl Spoiler<'_> {
         })
     }
 
+    /// Another chart, of a plan that was shown before or was not, from the chart and its text.
+    fn change_chart(&mut self, shown_before: bool, edit: impl Fn(&Chart, &str, &mut Finder, &mut Random) -> Option<String>) -> Placed {
+        self.change(|line, text, finder, random| {
+            let [Part::Chart(chart)] = &line.answer.parts[..] else { return None };
+            let is_known = line.answer.met.contains(&"a chart of a plan that was shown before");
+            if is_known != shown_before {
+                return None;
+            }
+            edit(chart, text, finder, random)
+        })
+    }
+
+    /// The lines of the segments in a chart, of any plan, from where their cells begin.
+    fn change_rows(&mut self, edit: impl Fn(&str) -> String) -> Placed {
+        self.change_of("simulate", "unit", |text| {
+            let cells: usize = text.split_inclusive('\n').take(2).map(|line| line.len()).sum();
+            format!("{}{}", &text[..cells], edit(&text[cells..]))
+        })
+    }
+
     /// A record that was written, changed from its bytes: any whose change makes it another file.
     fn change_record(&mut self, edit: impl Fn(&Planned, &[u8], &mut Finder, &mut Random) -> Option<Vec<u8>>) -> Placed {
         let planned = |(name, file): (&Vec<u8>, &File)| match file {
@@ -330,7 +352,7 @@ impl Spoiler<'_> {
             .filter_map(|part| match part {
                 Part::Plan(search, _) | Part::Drawing(search, _, _) => Some(*search),
                 Part::List(planned) | Part::Ring(planned) => Some(planned.search),
-                Part::Text(_) | Part::Best(_) | Part::Loop(_) => None,
+                Part::Text(_) | Part::Best(_) | Part::Loop(_) | Part::Chart(_) => None,
             })
             .collect()
     }
@@ -389,7 +411,7 @@ fn worse(drawn: &Drawn, latencies: &[u8]) -> bool {
 
 type Wrong = (&'static str, fn(&mut Spoiler) -> Placed);
 
-const WRONG: [Wrong; 160] = [
+const WRONG: [Wrong; 194] = [
     ("mark: ok in place of refused 2", |it| it.change_of("mark", "refused 2", |_| "ok\n".to_string())),
     ("mark: refused 3 in place of refused 4", |it| it.change_of("mark", "refused 4", |_| "refused 3\n".to_string())),
     ("unmark: refused 2 in place of ok", |it| it.change_of("unmark", "ok", |_| "refused 2\n".to_string())),
@@ -761,6 +783,86 @@ const WRONG: [Wrong; 160] = [
         let File::Bytes(unit) = unit else { return None };
         it.change_record(|_, _, _, _| Some(unit.clone()))
     }),
+    ("simulate: refused 2 in place of refused 8", |it| it.change_of("simulate", "refused 8", |_| "refused 2\n".to_string())),
+    ("simulate: refused 8 in place of refused 2", |it| it.change_of("simulate", "refused 2", |_| "refused 8\n".to_string())),
+    ("simulate: refused 8 in place of refused 6", |it| it.change_of("simulate", "refused 6", |_| "refused 8\n".to_string())),
+    ("simulate: refused 5 in place of refused 6", |it| it.change_of("simulate", "refused 6", |_| "refused 5\n".to_string())),
+    ("simulate: refused 8 in place of a chart", |it| it.change_of("simulate", "unit", |_| "refused 8\n".to_string())),
+    ("simulate: refused 15 in place of a chart", |it| it.change_of("simulate", "unit", |_| "refused 15\n".to_string())),
+    ("simulate: a chart in place of refused 8", |it| it.change_of("simulate", "refused 8", |_| "unit    \nstarts  \n".to_string())),
+    ("simulate: a chart in place of refused 6", |it| it.change_of("simulate", "refused 6", |_| "unit    \nstarts  \n".to_string())),
+    ("simulate: refused 2 in place of no unit", |it| it.change_of("simulate", "no unit", |_| "refused 2\n".to_string())),
+    ("simulate: refused 6 in place of what was expected", |it| it.change_of("simulate", "line", |_| "refused 6\n".to_string())),
+    ("simulate: one number alone was expected", |it| {
+        it.change_of("simulate", "line", |text| text.replace("simulate Q UNITS", "simulate Q"))
+    }),
+    ("simulate: the first digit is 0", |it| it.change_of("simulate", "unit    1", |text| text.replacen("unit    1", "unit    0", 1))),
+    ("simulate: no line of units", |it| it.change_of("simulate", "unit", |text| text.split_once('\n').expect("two lines").1.to_string())),
+    ("simulate: no line of starts", |it| {
+        it.change_of("simulate", "unit", |text| text.split_inclusive('\n').filter(|line| !line.starts_with("starts")).collect())
+    }),
+    ("simulate: no field in front", |it| it.change_of("simulate", "unit", |text| text.replacen("starts  ", "", 1))),
+    ("simulate: the field has a byte more", |it| it.change_of("simulate", "unit", |text| text.replacen("starts  ", "starts   ", 1))),
+    ("simulate: two segments exchanged", |it| it.change_of("simulate", "unit", lines_exchanged)),
+    ("simulate: the last segment is left out", |it| {
+        it.change_of("simulate", "unit", |text| {
+            let lines: Vec<&str> = text.split_inclusive('\n').collect();
+            lines[..lines.len() - 1].concat() + "ok\n"
+        })
+    }),
+    ("simulate: the first start is left out", |it| it.change_of("simulate", "unit", |text| text.replacen("starts  A", "starts  .", 1))),
+    ("simulate: a start too many", |it| {
+        it.change_of("simulate", "unit", |text| match text.split_once("starts  ") {
+            Some((front, cells)) if cells.starts_with("A.") => format!("{front}starts  AB{}", &cells[2..]),
+            _ => text.to_string(),
+        })
+    }),
+    ("simulate: a mark left out", |it| it.change_rows(|rows| rows.replacen('A', ".", 1))),
+    ("simulate: a mark too many", |it| it.change_rows(|rows| rows.replacen('.', "A", 1))),
+    ("simulate: another letter", |it| it.change_rows(|rows| rows.replacen('B', "b", 1))),
+    ("simulate: idle cells are dashes", |it| it.change_rows(|rows| rows.replace('.', "-"))),
+    ("simulate: a busy unit too many", |it| {
+        it.change_rows(|rows| match rows.split_once('/') {
+            Some((front, rest)) => format!("{}/{rest}", next_digit(front)),
+            None => rows.to_string(),
+        })
+    }),
+    ("simulate: one unit more in all", |it| it.change_of("simulate", "unit", next_digit)),
+    ("simulate: busy units are not right-aligned", |it| it.change_rows(|rows| rows.replacen("busy  ", "busy ", 1))),
+    ("simulate: a space at the end", |it| it.change_of("simulate", "unit", |text| text.trim_end().to_string() + " \n")),
+    ("simulate: another best cycle than before", |it| {
+        it.change_chart(true, |chart, _, finder, random| Some(chart.text(&finder.best(&chart.planned.drawn.graph, random))))
+    }),
+    ("simulate: another rotation than before", |it| {
+        it.change_chart(true, |chart, text, finder, random| {
+            let other = chart.text(&rotated(finder.best(&chart.planned.drawn.graph, random)));
+            (other != text).then_some(other)
+        })
+    }),
+    ("simulate: the greedy cycle, which is not the best", |it| {
+        it.change_chart(true, |chart, _, _, _| {
+            let greedy = &chart.planned.drawn.graph.greedy;
+            worse(&chart.planned.drawn, greedy).then(|| chart.text(greedy))
+        })
+    }),
+    ("simulate: the greedy cycle, which is not the best, the plan not shown yet", |it| {
+        it.change_chart(false, |chart, _, _, _| {
+            let greedy = &chart.planned.drawn.graph.greedy;
+            (chart.units > 2 * sum_of(greedy) && worse(&chart.planned.drawn, greedy)).then(|| chart.text(greedy))
+        })
+    }),
+    ("simulate: (n + 1), which is not the best, the plan not shown yet", |it| {
+        it.change_chart(false, |chart, _, _, _| {
+            let cycle = [chart.planned.drawn.graph.diagram.states[0].len() as u8 + 1];
+            (chart.units > 2 * sum_of(&cycle) && worse(&chart.planned.drawn, &cycle)).then(|| chart.text(&cycle))
+        })
+    }),
+    ("simulate: starts that meet, the plan not shown yet", |it| {
+        it.change_chart(false, |chart, _, _, _| {
+            let all: Vec<u32> = (1..=chart.units).collect();
+            (chart.units > 40 && chart.text_of(&all).is_err()).then(|| sketched(chart, &[1]))
+        })
+    }),
     ("line N: one more", |it| {
         it.change(|_, text, _, _| {
             let (number, rest) = text.strip_prefix("line ")?.split_once(':')?;
@@ -802,8 +904,16 @@ const WRONG: [Wrong; 160] = [
     }),
 ];
 
-/// Wrong in how many lines there are, or at the end. A line too many or too few shows where the answers after it first differ.
-const WRONG_AFTER: [Wrong; 9] = [
+/// Wrong in how many lines there are, or at the end. A line too many or too few shows where the answers after it first differ. And charts of
+/// another cycle, which show when the plan is shown.
+const WRONG_AFTER: [Wrong; 10] = [
+    ("simulate: another best cycle than the plan's, which is shown after it", |it| {
+        let shown = it.shown();
+        it.change_chart(false, |chart, _, finder, random| {
+            let is_shown = shown.contains(&chart.planned.search);
+            is_shown.then(|| chart.text(&finder.best(&chart.planned.drawn.graph, random)))
+        })
+    }),
     ("an answer to a comment", |it| it.change(|line, _, _, _| (line.answer.sort == Sort::Comment).then(|| "ok\n".to_string()))),
     ("an answer to blanks alone", |it| {
         it.change(|line, _, _, _| {
@@ -902,13 +1012,19 @@ fn try_programs(script: &Script, right: &Run) -> Result<(), String> {
     Ok(())
 }
 
-/// A console with a fault: on the first lines of the script, and on all of it where these don't show the fault.
-fn try_fault(script: &Script, (what, answer): &(&str, Fault), console: Console<Folder>) -> Result<(String, Console<Folder>), String> {
+/// A console with a fault in its answers or in how it draws charts: on the first lines of the script, and on all of it where these don't
+/// show the fault.
+fn try_fault(
+    script: &Script,
+    what: &str,
+    (answer, draw): (Fault, Draw),
+    console: Console<Folder>,
+) -> Result<(String, Console<Folder>), String> {
     let mut console = console;
     for count in [2_000, 20_000, script.lines.len()] {
         let count = count.min(script.lines.len());
         let mut faulty = Faulty::new(console.again(script.before.clone()));
-        let (mut filler, mut random) = (Filler::default(), Random::new(what.len() as u64));
+        let (mut filler, mut random) = (Filler::new(draw), Random::new(what.len() as u64));
         let mut output = Vec::new();
         for (place, line) in (1..).zip(&script.lines[..count]) {
             output.extend_from_slice(filler.text(&answer(&mut faulty, &line.bytes, place), &mut random).as_bytes());
@@ -1174,14 +1290,19 @@ fn run(lines: usize) -> Result<(), String> {
 
     let mut console = Console::new(Folder::default());
     let about_records = whole.iter().find(|script| script.name == RECORDS).expect("the script about records");
-    for (script, faults) in [(&whole[0], FAULTS), (about_records, RECORD_FAULTS)] {
-        for fault in faults {
-            let (told, after) = try_fault(script, fault, console)?;
-            println!("selftest: {told}");
-            console = after;
-        }
+    let of_answers = |script, faults: &'static [(&'static str, Fault)]| {
+        faults.iter().map(move |(what, answer)| (script, *what, (*answer, sketched as Draw)))
+    };
+    let of_charts = CHART_FAULTS.iter().map(|(what, draw)| (&whole[0], *what, (Faulty::answer as Fault, *draw)));
+    let faults = of_answers(&whole[0], FAULTS).chain(of_answers(about_records, RECORD_FAULTS)).chain(of_charts);
+    let mut faulty = 0;
+    for (script, what, fault) in faults {
+        let (told, after) = try_fault(script, what, fault, console)?;
+        println!("selftest: {told}");
+        console = after;
+        faulty += 1;
     }
-    println!("selftest: {} consoles with a fault, and every one is reported", FAULTS.len() + RECORD_FAULTS.len());
+    println!("selftest: {faulty} consoles with a fault, and every one is reported");
     Ok(())
 }
 

@@ -11,46 +11,13 @@ use std::collections::HashMap;
 /// Best cycles of a diagram and best loops of a list, any of them.
 #[derive(Default)]
 pub struct Finder {
-    /// For each diagram the arcs that a best cycle may run along.
-    tight: HashMap<*const Graph, Arcs>,
-    /// The same for each list.
+    /// For each list the arcs that a best loop may run along.
     tight_loops: HashMap<*const Loops, Arcs>,
-}
-
-/// Heights such that no arc rises by more than what it costs above the least average; those that rise by just that are on the best cycles.
-fn tight_arcs(arcs: &Arcs, (sum, count): (i64, i64)) -> Arcs {
-    let cost = |latency: u32| count * latency as i64 - sum;
-    let mut heights = vec![0i64; arcs.len()];
-    let mut settled = false;
-    while !settled {
-        settled = true;
-        for (from, leading) in arcs.iter().enumerate() {
-            for &(latency, to) in leading {
-                if heights[from] + cost(latency) < heights[to] {
-                    heights[to] = heights[from] + cost(latency);
-                    settled = false;
-                }
-            }
-        }
-    }
-    let is_tight = |from: usize, (latency, to): (u32, usize)| heights[from] + cost(latency) == heights[to];
-    let on_tight = |(from, leading): (usize, &Vec<(u32, usize)>)| leading.iter().copied().filter(|arc| is_tight(from, *arc)).collect();
-    let mut tight: Arcs = arcs.iter().enumerate().map(on_tight).collect();
-    // arcs to states that lead no further are left out, until every walk can go on
-    loop {
-        let ends: Vec<bool> = tight.iter().map(|leading| leading.is_empty()).collect();
-        let before: usize = tight.iter().map(|leading| leading.len()).sum();
-        tight.iter_mut().for_each(|leading| leading.retain(|arc| !ends[arc.1]));
-        if tight.iter().map(|leading| leading.len()).sum::<usize>() == before {
-            return tight;
-        }
-    }
 }
 
 impl Finder {
     pub fn best(&mut self, graph: &Graph, random: &mut Random) -> Vec<u8> {
-        let tight = self.tight.entry(graph).or_insert_with(|| tight_arcs(&graph.diagram.arcs, graph.least()));
-        let (_, mut cycle) = walk_around(tight, random);
+        let (_, mut cycle) = walk_around(graph.best_arcs(), random);
         while !is_first_rotation(&cycle) {
             cycle.rotate_left(1);
         }
@@ -119,15 +86,22 @@ pub fn plan_drawing(tag: u32, drawn: &Drawn, latencies: &[u8]) -> String {
     drawing(tag, &drawn.graph, &course.into_iter().collect())
 }
 
+/// How a chart is drawn, from it and from the plan's latencies.
+pub type Draw = fn(&Chart, &[u8]) -> String;
+
 /// Puts answers into words, with any best cycles.
-#[derive(Default)]
 pub struct Filler {
     finder: Finder,
     /// The plans that were shown, by the number of their search.
     plans: HashMap<usize, Vec<u8>>,
+    draw: Draw,
 }
 
 impl Filler {
+    pub fn new(draw: Draw) -> Filler {
+        Filler { finder: Finder::default(), plans: HashMap::new(), draw }
+    }
+
     pub fn text(&mut self, answer: &Answer, random: &mut Random) -> String {
         let in_words = |part: &Part| match part {
             Part::Text(text) => text.clone(),
@@ -143,12 +117,13 @@ impl Filler {
                 let latencies = self.plan(planned.search, &planned.drawn, random);
                 records::ring_text(sum_of(latencies) as usize, &records::ring_of(latencies))
             }
+            Part::Chart(chart) => (self.draw)(chart, self.plan(chart.planned.search, &chart.planned.drawn, random)),
         };
         answer.parts.iter().map(in_words).collect()
     }
 
     fn plan(&mut self, search: usize, drawn: &Drawn, random: &mut Random) -> &[u8] {
-        let Filler { finder, plans } = self;
+        let Filler { finder, plans, .. } = self;
         plans.entry(search).or_insert_with(|| finder.best(&drawn.graph, random))
     }
 

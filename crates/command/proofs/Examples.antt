@@ -136,6 +136,14 @@ pub a-tag-in-letters : meaning (ascii "loop 1 b") ≡ Parsed.Bad (Trouble.Usage 
 unfolding meaning textOf said wordsOf partsOf commandOf among same nameAt rowAt allNumbers isNumber digitsOnly numberSaid value
 a-tag-in-letters = refl
 
+pub a-simulation : meaning (ascii "simulate 1 21") ≡ command (Verb.Show Show.Simulate) 2 1 21 0
+unfolding meaning textOf said wordsOf partsOf commandOf among same nameAt rowAt allNumbers isNumber digitsOnly numberSaid value
+a-simulation = refl
+
+pub no-units : meaning (ascii "simulate 1") ≡ Parsed.Bad (Trouble.Usage 25)
+unfolding meaning textOf said wordsOf partsOf commandOf among same nameAt rowAt allNumbers isNumber digitsOnly numberSaid value
+no-units = refl
+
 pub its-latencies : latenciesIn (ascii "judge 0  3 4 256 7\r") ≡ 3 ∷ 4 ∷ 0 ∷ 7 ∷ []
 unfolding latenciesIn textOf wordsOf partsOf numberSaid isNumber digitsOnly value
 its-latencies = refl

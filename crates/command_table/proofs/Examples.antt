@@ -20,6 +20,10 @@ pub usage-of-record : usageAt 22 ≡ ascii "record Q FILE"
 unfolding usageAt rowAt
 usage-of-record = refl
 
+pub usage-of-simulate : usageAt 25 ≡ ascii "simulate Q UNITS"
+unfolding usageAt rowAt
+usage-of-simulate = refl
+
 pub mark-is-found : commandOf (ascii "mark") ≡ Named.Known (entryAt 1)
 unfolding commandOf among same nameAt rowAt
 mark-is-found = refl

@@ -55,6 +55,7 @@ rows =
     ∷ row "record" " Q FILE" (Form.File 1) (Verb.Show Show.Record)
     ∷ row "report" " FILE" (Form.File 0) (Verb.View View.Report)
     ∷ row "ring" " FILE" (Form.File 0) (Verb.View View.Ring)
+    ∷ row "simulate" " Q UNITS" (Form.Numbers 2) (Verb.Show Show.Simulate)
     ∷ []
 
 -- beyond the last row: no name, and nothing to write

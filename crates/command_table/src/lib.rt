@@ -31,7 +31,7 @@ pub enum Ask {
     Judge,
 }
 
-// What is written to a file, listed, drawn or looked for; the session stays as it is.
+// What is written to a file, listed, drawn, looked for or played; the session stays as it is.
 pub enum Show {
     Save,
     List,
@@ -39,6 +39,7 @@ pub enum Show {
     Diagram,
     Loop,
     Record,
+    Simulate,
 }
 
 // What is shown of the file of a plan record; no unit is wanted.
@@ -81,7 +82,7 @@ pub enum Named {
 }
 
 // How many commands there are, and how many bytes a row has.
-const COUNT: usize = 25;
+const COUNT: usize = 26;
 
 const WIDTH: usize = 48;
 
@@ -113,6 +114,7 @@ const TABLE: [u8; COUNT * WIDTH] = *b"\
 \x06\x0d\x21record Q FILE                                \
 \x06\x0b\x20report FILE                                  \
 \x04\x09\x20ring FILE                                    \
+\x08\x10\x02simulate Q UNITS                             \
 ";
 
 // What each command does, in the order of the rows.
@@ -142,6 +144,7 @@ const VERBS: [Verb; COUNT] = [
     Verb::Show(Show::Record),
     Verb::View(View::Report),
     Verb::View(View::Ring),
+    Verb::Show(Show::Simulate),
 ];
 
 // The table as bytes.

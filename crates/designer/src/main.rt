@@ -5,6 +5,7 @@ mod files;
 
 ghost use mathlib.Core.Path.{_≡_};
 ghost use lib.ListN.{length};
+use chart::Charted;
 use command::Parsed;
 use command::Request;
 use command::Trouble;
@@ -91,7 +92,16 @@ fn tell_loop(u: FunctionUnit, line: &[u8]) -> bool {
     say_front(&area, end)
 }
 
-// What leaves the session as it is: to save the unit or the record of a plan, to list, to draw, and to look for a loop.
+fn simulate(u: FunctionUnit, tag: Tag, units: u32) -> bool {
+    let mut area = chart::area();
+    let charted = chart::simulate(u, tag, units, &mut area);
+    match charted {
+        Charted::Length(length) => say_front(&area, length),
+        Charted::Refused(why) => say_refusal(why),
+    }
+}
+
+// What leaves the session as it is: to save the unit or the record of a plan, to list, to draw, to look for a loop, and to play a plan.
 fn show_unit(u: FunctionUnit, what: Show, request: Request, line: &[u8]) -> bool {
     let tag = Tag(words::byte(request.first));
     match what {
@@ -101,6 +111,7 @@ fn show_unit(u: FunctionUnit, what: Show, request: Request, line: &[u8]) -> bool
         Show::Diagram => draw_diagram(u, tag),
         Show::Loop => tell_loop(u, line),
         Show::Record => files::save_record(u, tag, command::word(line, request.count)),
+        Show::Simulate => simulate(u, tag, request.second),
     }
 }
 

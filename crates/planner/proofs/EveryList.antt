@@ -27,7 +27,7 @@ use Rattle.unit.proofs.EditLaws.{Edited, mark-accepted, unmark-accepted, mark-r
 use Rattle.collision.specs.Pipeline.{total}
 use Rattle.planner.specs.declared.Handed.{Handed}
 use Rattle.planner.specs.Plans.{Best, planOf, withPlan, searchAnswer, Found, SearchPromise, readAnswer, handing, readOf}
-use Rattle.planner.specs.Sheet.{Call, Reply, replyTo, readReply, Searching, Step, Run, Sheet, start, edited, owing, spotNumber, searchNumber, next, fed, told, Owed, ReadRight, Agrees, Right, EveryList}
+use Rattle.planner.specs.Sheet.{Call, Reply, replyTo, readReply, Searching, Step, Run, Sheet, start, edited, owing, spotNumber, searchNumber, next, fed, told, Owed, ReadRight, Agrees, Right, EveryList, Leaves, Noted, EveryUnit}
 use Rattle.planner.specs.Sheet.Call.{Mark, Unmark, Search, Read}
 use Rattle.planner.specs.Sheet.Reply.{accepted, refused, handed}
 
@@ -244,3 +244,56 @@ right-at [] k rest [] t r = absurd r
 right-at [] k rest (a ∷ replies) t r = r .0
 right-at (c ∷ before) k rest [] t r = absurd r
 right-at (c ∷ before) k rest (a ∷ replies) t r = right-at before k rest replies (next t c) (r .1)
+
+-- The unit that a run leaves
+
+-- an owed tag is one of the unit's
+abbrev Member : Sheet → Type 0
+Member t = (t .owed ≡ 0 → ⊥) → inside (t .owed) (t .functions) ≡ true
+
+next-member : (k : Call) (t : Sheet) → Member t → Member (next t k)
+unfolding searchNumber
+next-member (Mark q s c) t m = edit (eqb (spotNumber t q s c) 0)
+  where
+    edit : (b : Bool) → Member (cond b (edited t (changed (t .table) q s c true)) t)
+    edit true = λ ne. absurd (ne refl)
+    edit false = m
+next-member (Unmark q s c) t m = edit (eqb (spotNumber t q s c) 0)
+  where
+    edit : (b : Bool) → Member (cond b (edited t (changed (t .table) q s c false)) t)
+    edit true = λ ne. absurd (ne refl)
+    edit false = m
+next-member (Search q room) t m = go (inside q (t .functions)) refl
+  where
+    later : (b : Bool) → inside q (t .functions) ≡ true → Member (cond b (owing t q) t)
+    later true e = λ ne. e
+    later false e = m
+
+    go : (b : Bool) → inside q (t .functions) ≡ b → Member (cond (eqb (cond b (cond (leb 16000 room) (cond (leb (length (Rattle.diagram.specs.Answers.statesOf 1 (t .table) q)) 256) 0 7) 5) 2) 0) (owing t q) t)
+    go true e = later (eqb (cond (leb 16000 room) (cond (leb (length (Rattle.diagram.specs.Answers.statesOf 1 (t .table) q)) 256) 0 7) 5) 0) e
+    go false e = m
+next-member Read t m = m
+
+every-left : (calls : List Call) (replies : List Reply) (u left : FunctionUnit) (t : Sheet) → Kept u t → Member t → Leaves u calls replies left
+    → Kept left (fed t calls) × Member (fed t calls)
+unfolding fed
+every-left [] [] u left t k m e = (subst (λ (x : FunctionUnit). Kept x t) (sym e) k, m)
+every-left [] (a ∷ replies) u left t k m run = absurd run
+every-left (c ∷ calls) [] u left t k m run = absurd run
+every-left (c ∷ calls) (a ∷ replies) u left t k m (after, step, run) =
+    every-left calls replies after left (next t c) (each-step c u t a after k step .1) (next-member c t m) run
+
+pub every-unit : EveryUnit
+every-unit f s c g calls replies u run =
+    let r = every-left calls replies (freshOf f s c .unit) u (start f s c) (fresh-kept f s c g) (λ ne. absurd (ne refl)) run in
+    let k = r .0 in
+    record {
+      sound = k .sound;
+      functions = k .functions;
+      segments = k .segments;
+      columns = k .columns;
+      table = k .table;
+      tag = k .tag;
+      member = r .1;
+      plan = k .plan;
+    }

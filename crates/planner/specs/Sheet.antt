@@ -12,7 +12,7 @@ use Rattle.unit.specs.declared.Answer.{Answer}
 use Rattle.unit.specs.declared.Answer.the-variants.{Done, Refused}
 use Rattle.unit.specs.Numbers.{numberOf}
 use Rattle.unit.specs.Table.{Table, empty, changed}
-use Rattle.unit.specs.Unit.{inside, goodCounts}
+use Rattle.unit.specs.Unit.{inside, marked, goodCounts, soundOf}
 use Rattle.unit.specs.Calls.{freshOf, markOf, unmarkOf}
 use Rattle.collision.specs.Pipeline.{total}
 use Rattle.diagram.specs.Answers.{statesOf}
@@ -156,3 +156,28 @@ abbrev pub EveryList : Type 0
 EveryList =
     (f s c : ℕ) → goodCounts f s c ≡ true → (calls : List Call) (replies : List Reply)
     → Run (freshOf f s c .unit) calls replies → Right (start f s c) calls replies
+
+-- The unit that a run leaves
+
+abbrev pub Leaves : FunctionUnit → List Call → List Reply → FunctionUnit → Type 0
+Leaves u [] [] left = left ≡ u
+Leaves u [] (a ∷ replies) left = ⊥
+Leaves u (k ∷ calls) [] left = ⊥
+Leaves u (k ∷ calls) (a ∷ replies) left = (after : FunctionUnit) × Step u k a after × Leaves after calls replies left
+
+-- a unit that agrees with the sheet: its counts, its marks, and the plan that is owed, of a tag that it has
+pub record Noted (u : FunctionUnit) (t : Sheet) : Type 0 where
+  pub sound : soundOf u ≡ true
+  pub functions : u .functions ≡ t .functions
+  pub segments : u .segments ≡ t .segments
+  pub columns : u .columns ≡ t .columns
+  pub table : marked u ≡ t .table
+  pub tag : u .plan .tag ≡ t .owed
+  pub member : (t .owed ≡ 0 → ⊥) → inside (t .owed) (t .functions) ≡ true
+  pub plan : (t .owed ≡ 0 → ⊥) → Owed t (u .plan)
+
+-- every list of calls from a fresh unit leaves a unit that agrees with the sheet (`every-unit`, proofs/EveryList.antt)
+abbrev pub EveryUnit : Type 0
+EveryUnit =
+    (f s c : ℕ) → goodCounts f s c ≡ true → (calls : List Call) (replies : List Reply) (u : FunctionUnit)
+    → Leaves (freshOf f s c .unit) calls replies u → Noted u (fed (start f s c) calls)

@@ -1,14 +1,11 @@
 -- A plan that was searched for can be recorded, and 8 is for exactly the functions that have none. Assumes nothing.
-use Prim.Native.Nat.{ℕ, zero, suc, _-_, _≤_, _<_}
+use Prim.Native.Nat.{ℕ, _-_, _≤_}
 use mathlib.Core.Path.{_≡_, refl, sym, ap, _∙_, subst, subst₂}
-use mathlib.Core.Bool.{Bool, true, false}
+use mathlib.Core.Bool.{true}
 use mathlib.Core.Logic.{_⊎_, inl, inr}
 use mathlib.Core.List.{List}
-use native.Mathlib.Nat.{le-of-suc-le-suc, not-suc-le-zero}
 use native.Mathlib.Omega.{arith}
-use borrow.Author.Tests.{eq-eqb, ne-eqb}
-use lib.Dec.{eqb}
-use lib.ListN.{length, getD, take, replicate}
+use lib.ListN.{length, take, replicate}
 use lib.Seq.{take-append-seam}
 use Rattle.unit.specs.declared.Plan.{Plan}
 use Rattle.unit.specs.declared.FunctionUnit.{FunctionUnit}
@@ -17,45 +14,24 @@ use Rattle.unit.specs.declared.Refusal.the-variants.{NoPlan, BadRecord, ShortOu
 use Rattle.unit.specs.declared.Answer.{Answer}
 use Rattle.unit.specs.declared.Answer.the-variants.{Done, Refused}
 use Rattle.unit.specs.Numbers.{numberOf}
-use Rattle.unit.specs.Unit.{inside, marked, soundOf}
-use Rattle.unit.specs.Calls.{tagAnswer}
+use Rattle.unit.specs.Unit.{inside, soundOf}
+use Rattle.unit.specs.Calls.{andThen, tagAnswer}
 use Rattle.unit.proofs.Laws.{tag-accepted, tag-range}
 use Rattle.unit.proofs.EndLaws.{then-both}
 use Rattle.unit_file.specs.declared.Written.{Written}
 use Rattle.unit_file.specs.declared.Written.the-variants as Written
-use Rattle.unit_file.specs.Write.{lengthAnswer, fileInFront}
-use Rattle.collision.specs.Vector.{vectorWord}
-use Rattle.collision.proofs.VectorLaws.{marked-bounded, vector-lt}
-use Rattle.diagram.specs.Diagram.{longest, Walk}
-use Rattle.diagram.specs.Diagram.Walk.{stay, step}
-use Rattle.diagram.proofs.WidthLaws.{width-31}
-use Rattle.plan_record.specs.Record.{Recordable, recordOf, longestRecord}
-use Rattle.plan_record.specs.Write.{cycleIn, writeRefusal, writeAnswer, writeOut}
+use Rattle.unit_file.specs.Write.{lengthAnswer}
+use Rattle.plan_record.specs.Record.{recordOf, longestRecord}
+use Rattle.plan_record.specs.Write.{cycleIn, writeRefusal, writeAnswer}
 use Rattle.plan_record.specs.Claims.{Shows, GivenPlan}
 use Rattle.plan_record.proofs.Claims.{plan-exactly, written-read}
-use Rattle.planner.specs.Plans.{Best, planOf, searchAnswer, Found, readAnswer}
+use Rattle.planner.specs.Plans.{planOf, searchAnswer, Found}
 use Rattle.planner.proofs.EveryList.{found-sound}
-use Rattle.record_text.specs.Plans.{planRecordRefusal, planRecordAnswer, planRecordOut}
+use Rattle.record_text.specs.Plans.{planRecordRefusal, planRecordAnswer}
+use Rattle.function_plan.specs.Own.{ownAnswer}
+use Rattle.function_plan.proofs.Claims.{own-exactly, tag-taken, best-recordable, planned}
 use Rattle.record_text.specs.Claims.{RecordedBest, SearchRecorded, EightExactly}
-
--- A best cycle is one that a record holds
-
-walk-most : {g n cv : ℕ} {l : List ℕ} {s e : ℕ} → Walk g n cv s l e → (i : ℕ) → i < length l → getD l i 0 ≤ longest g n
-walk-most stay i h = absurd (not-suc-le-zero h)
-walk-most (step w r) zero h = w .small
-walk-most (step w r) (suc i) h = walk-most r i (le-of-suc-le-suc h)
-
-best-recordable : (u : FunctionUnit) (q : ℕ) (cycle : List ℕ) → length cycle ≤ 256 → Best 1 (marked u) q cycle → Recordable cycle
-best-recordable u q cycle few b = record {
-  some = b .latencies .nonempty;
-  few = few;
-  least = b .latencies .each;
-  most = λ i h. omega (arith, walk-most (b .diagram .closed) i h, width-31 (vectorWord (marked u) q) (vector-lt (marked u) (marked-bounded u) q));
-}
-
--- the plan of a cycle holds it
-pub planned : (q : ℕ) (cycle : List ℕ) → Recordable cycle → GivenPlan (planOf q cycle)
-planned q cycle r = record { cycle = cycle; recordable = r; holds = record { count = refl; sum = refl; latencies = refl } }
+use Rattle.record_text.proofs.RecordLaws.{writer-answer, writer-out}
 
 -- The writer takes its plan
 
@@ -79,29 +55,15 @@ taken p room n g h = go (writeRefusal p room) refl
     go Done e = ap (λ (a : Answer). lengthAnswer a (length (recordOf (cycleIn p)))) e
     go (Refused why) e = absurd (never why (ap (λ (a : Answer). lengthAnswer a (length (recordOf (cycleIn p)))) e))
 
--- what is left is the writer's
-module _ (u : FunctionUnit) (q : ℕ) (sound : soundOf u ≡ true) (member : inside q (u .functions) ≡ true) (own : u .plan .tag ≡ q) (some : q ≡ 0 → ⊥) where
-  by-writer : (room : ℕ) → planRecordRefusal u q room ≡ writeRefusal (u .plan) room
-  unfolding planRecordRefusal tagAnswer readAnswer
-  by-writer room = simp (sound, member, ne-eqb (u .plan .tag) 0 (λ z. some (sym own ∙ z)), eq-eqb (u .plan .tag) q own)
-
-  writer-answer : (room : ℕ) → planRecordAnswer u q room ≡ writeAnswer (u .plan) room
-  unfolding planRecordAnswer writeAnswer
-  writer-answer room = ap (λ (a : Answer). lengthAnswer a (length (recordOf (cycleIn (u .plan))))) (by-writer room)
-
-  writer-out : (bytes : List ℕ) → planRecordOut u q bytes ≡ writeOut (u .plan) bytes
-  unfolding planRecordOut writeOut
-  writer-out bytes = ap (λ (a : Answer). fileInFront a (recordOf (cycleIn (u .plan))) bytes) (by-writer (length bytes))
-
 -- The claim
 
 searched : (u after : FunctionUnit) (q : ℕ) → tagAnswer u q ≡ Done → Found u q after → (bytes : List ℕ) → longestRecord ≤ length bytes → RecordedBest u q after bytes
 searched u after q t f bytes room = record {
   size = length (recordOf (cycleIn p));
-  written = writer-answer after q sound member own some (length bytes) ∙ answer;
+  written = writer-answer after q owns (length bytes) ∙ answer;
   cycle = f .cycle;
   best = f .best;
-  shown = subst₂ (λ (x l : List ℕ). Shows x l) (ap (take (length (recordOf (cycleIn p)))) (sym (writer-out after q sound member own some bytes))) held
+  shown = subst₂ (λ (x l : List ℕ). Shows x l) (ap (take (length (recordOf (cycleIn p)))) (sym (writer-out after q owns bytes))) held
       (written-read p bytes (length (recordOf (cycleIn p))) answer .shows);
 }
   where
@@ -123,6 +85,9 @@ searched u after q t f bytes room = record {
     member : inside q (after .functions) ≡ true
     member = ap (λ (x : FunctionUnit). inside q (x .functions)) (f .unit) ∙ tag-accepted u q t .tag
 
+    owns : ownAnswer after q ≡ Done
+    owns = own-exactly after q (tag-taken after q sound member) .done .1 own
+
     answer : writeAnswer p (length bytes) ≡ Written.Length (length (recordOf (cycleIn p)))
     answer = taken p (length bytes) (λ z. some (sym own ∙ z))
         (subst (λ (x : Plan). GivenPlan x) (sym is) (planned q (f .cycle) (best-recordable u q (f .cycle) (f .few) (f .best)))) room
@@ -137,22 +102,16 @@ search-recorded u after q before words answer s d bytes room =
 
 -- 8
 
--- the plan is not the function's: there is none, or it is another's
-not-own : (u : FunctionUnit) (q room : ℕ) → tagAnswer u q ≡ Done → soundOf u ≡ true → (u .plan .tag ≡ q → ⊥) → planRecordAnswer u q room ≡ Written.Refused NoPlan
-unfolding planRecordAnswer planRecordRefusal readAnswer
-not-own u q room t sound n = go (eqb (u .plan .tag) 0) refl
-  where
-    go : (b : Bool) → eqb (u .plan .tag) 0 ≡ b → planRecordAnswer u q room ≡ Written.Refused NoPlan
-    go true e = simp (t, sound, e)
-    go false e = simp (t, sound, e, ne-eqb (u .plan .tag) q n)
-
 pub eight-exactly : EightExactly
-eight-exactly u q room t = (never, not-own u q room t (tag-accepted u q t .sound))
+unfolding planRecordAnswer planRecordRefusal
+eight-exactly u q room t = (never, other)
   where
+    other : (u .plan .tag ≡ q → ⊥) → planRecordAnswer u q room ≡ Written.Refused NoPlan
+    other n = ap (λ (a : Answer). lengthAnswer (andThen a (writeRefusal (u .plan) room)) (length (recordOf (cycleIn (u .plan))))) (own-exactly u q t .eight .1 n)
+
     never : planRecordAnswer u q room ≡ Written.Refused NoPlan → u .plan .tag ≡ q → ⊥
     never e own =
-        let a = tag-accepted u q t in
-        let w = sym (writer-answer u q (a .sound) (a .tag) own (λ z. omega (arith, tag-range u q t .least)) room) ∙ e in
+        let w = sym (writer-answer u q (own-exactly u q t .done .1 own) room) ∙ e in
         by (plan-exactly (u .plan) room .numbers NoPlan w)
       where
         by : (NoPlan ≡ BadRecord) ⊎ (NoPlan ≡ ShortOutput) → ⊥

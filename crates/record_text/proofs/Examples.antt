@@ -20,6 +20,7 @@ use Rattle.plan_record.specs.Record.{recordable, starts, ringByte, ringOf, reco
 use Rattle.plan_record.specs.Read.{isRecord, recordAnswer, reportAnswer, reportList, loadAnswer, loadRing}
 use Rattle.plan_record.specs.Write.{holdsCycle, writable, writeRefusal}
 use Rattle.planner.specs.Plans.{readAnswer}
+use Rattle.function_plan.specs.Own.{ownAnswer}
 use Rattle.record_text.specs.Plans.{planRecordRefusal, planRecordAnswer, planRecordOut}
 use Rattle.record_text.specs.Claims.{RecordedBest}
 use Rattle.record_text.specs.Lines.{bitsText, reportLine, loadLine}
@@ -55,31 +56,31 @@ planned tag = record {
 
 -- the plan is function 1's, and not function 2's; there is no function 9, and of it 8 says nothing
 pub of-1 : planRecordAnswer (planned 1) 1 11 ≡ Written.Length 11
-unfolding planRecordAnswer planRecordRefusal tagAnswer readAnswer soundOf marksInside marked writeRefusal writable holdsCycle recordable recordOf ringOf ringByte starts listBelow wordBelow someBelow same
+unfolding planRecordAnswer planRecordRefusal ownAnswer tagAnswer readAnswer soundOf marksInside marked writeRefusal writable holdsCycle recordable recordOf ringOf ringByte starts listBelow wordBelow someBelow same
 of-1 = refl
 
 pub of-2 : planRecordAnswer (planned 1) 2 11 ≡ Written.Refused NoPlan
-unfolding planRecordAnswer planRecordRefusal tagAnswer readAnswer soundOf marksInside marked someBelow
+unfolding planRecordAnswer planRecordRefusal ownAnswer tagAnswer readAnswer soundOf marksInside marked someBelow
 of-2 = refl
 
 pub of-9 : planRecordAnswer (planned 1) 9 11 ≡ Written.Refused NoSuchTag
-unfolding planRecordAnswer planRecordRefusal tagAnswer soundOf marksInside marked someBelow
+unfolding planRecordAnswer planRecordRefusal ownAnswer tagAnswer soundOf marksInside marked someBelow
 of-9 = refl
 
 -- a plan that was dropped, whatever its other fields hold
 pub of-none : planRecordAnswer (planned 0) 1 11 ≡ Written.Refused NoPlan
-unfolding planRecordAnswer planRecordRefusal tagAnswer readAnswer soundOf marksInside marked someBelow
+unfolding planRecordAnswer planRecordRefusal ownAnswer tagAnswer readAnswer soundOf marksInside marked someBelow
 of-none = refl
 
 -- the bytes after the record stay as before
 pub left : planRecordOut (planned 1) 1 (replicate 12 9) ≡ 2 ∷ 0 ∷ 7 ∷ 0 ∷ 8 ∷ 0 ∷ 10 ∷ 0 ∷ 3 ∷ 4 ∷ 246 ∷ 9 ∷ []
-unfolding planRecordOut planRecordRefusal tagAnswer readAnswer soundOf marksInside marked writeRefusal writable holdsCycle recordable recordOf ringOf ringByte starts listBelow wordBelow someBelow same
+unfolding planRecordOut planRecordRefusal ownAnswer tagAnswer readAnswer soundOf marksInside marked writeRefusal writable holdsCycle recordable recordOf ringOf ringByte starts listBelow wordBelow someBelow same
 left = refl
 
 -- 3 4 is not best for a function without marks, however well it is written and read: 1 is better
 
 record-of-1 : planRecordOut (planned 1) 1 (replicate 11 9) ≡ 2 ∷ 0 ∷ 7 ∷ 0 ∷ 8 ∷ 0 ∷ 10 ∷ 0 ∷ 3 ∷ 4 ∷ 246 ∷ []
-unfolding planRecordOut planRecordRefusal tagAnswer readAnswer soundOf marksInside marked writeRefusal writable holdsCycle recordable recordOf ringOf ringByte starts listBelow wordBelow someBelow same
+unfolding planRecordOut planRecordRefusal ownAnswer tagAnswer readAnswer soundOf marksInside marked writeRefusal writable holdsCycle recordable recordOf ringOf ringByte starts listBelow wordBelow someBelow same
 record-of-1 = refl
 
 list-of-1 : reportList (2 ∷ 0 ∷ 7 ∷ 0 ∷ 8 ∷ 0 ∷ 10 ∷ 0 ∷ 3 ∷ 4 ∷ 246 ∷ []) ≡ 3 ∷ 4 ∷ []

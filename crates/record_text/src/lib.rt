@@ -5,48 +5,24 @@ ghost use Prim.Native.Nat.{_+_, _*_, _≤_, _<_};
 ghost use lib.ListN.{length};
 ghost use Rattle.text.specs.Wrote.{Wrote};
 ghost use Rattle.session.specs.Sessions.{Line};
-ghost use Rattle.record_text.specs.Plans.{taggedRefusal, heldRefusal, planRecordAnswer, planRecordOut};
+ghost use Rattle.record_text.specs.Plans.{planRecordAnswer, planRecordOut};
 ghost use Rattle.record_text.specs.Lines.{bitText, bitsText, listLine, ringLine, reportLine, loadLine};
-ghost use Rattle.record_text.specs.Inner.{Recorded};
 use plan_record::Shown;
 use unit::Answer;
 use unit::FunctionUnit;
-use unit::Plan;
-use unit::Refusal;
 use unit::Tag;
 use unit_file::Written;
-
-// Writes the record of a plan that has to be the function's.
-fn write_tagged(plan: Plan, tag: Tag, out: &mut [u8]) -> Written
-    ensures { λ r. ⌜ Recorded (taggedRefusal plan (tag .0) (length (now (out .entry)))) plan (now (out .entry)) (now (out .exit)) r ⌝ }
-{
-    if plan.tag != tag.0 {
-        return Written::Refused(Refusal::NoPlan);
-    }
-    plan_record::write(plan, out)
-}
-
-// Writes the record of the unit's plan, if it has one of the function.
-fn write_held(u: FunctionUnit, tag: Tag, out: &mut [u8]) -> Written
-    ensures { λ r. ⌜ Recorded (heldRefusal u (tag .0) (length (now (out .entry)))) (u .plan) (now (out .entry)) (now (out .exit)) r ⌝ }
-{
-    let handed = planner::read(u);
-    let answer = handed.answer;
-    match answer {
-        Answer::Refused(why) => Written::Refused(why),
-        Answer::Done => write_tagged(handed.plan, tag, out),
-    }
-}
 
 // Writes the record of a function's plan to the front of the lent bytes; the others stay as before.
 pub fn write_plan(u: FunctionUnit, tag: Tag, out: &mut [u8]) -> Written
     ensures { λ r. ⌜ r ≡ planRecordAnswer u (tag .0) (length (now (out .entry))) ⌝ }
     ensures { λ _. ⌜ now (out .exit) ≡ planRecordOut u (tag .0) (now (out .entry)) ⌝ }
 {
-    let known = unit::check_tag(u, tag);
-    match known {
+    let own = function_plan::read_for(u, tag);
+    let answer = own.answer;
+    match answer {
         Answer::Refused(why) => Written::Refused(why),
-        Answer::Done => write_held(u, tag, out),
+        Answer::Done => plan_record::write(own.plan, out),
     }
 }
 

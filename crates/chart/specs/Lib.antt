@@ -1,0 +1,5 @@
+pub mod Cells
+pub mod Text
+pub mod Answers
+pub mod Claims
+pub mod Inner

@@ -1,0 +1,3 @@
+mod OwnLaws
+pub mod Claims
+mod Examples

@@ -1,0 +1,5 @@
+pub mod PositionLaws
+pub mod StepLaws
+pub mod PlayLaws
+pub mod Claims
+mod Examples

@@ -1,0 +1,4 @@
+pub mod Step
+pub mod Play
+pub mod Claims
+pub mod Inner
