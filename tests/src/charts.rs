@@ -1,5 +1,5 @@
 //! Charts: a plan's ring played beside an empty bank for some time units, and what is shown of it. Sentences in quotation marks are those of
-//! the request and of the console's description.
+//! the request.
 //!
 //! A chart is a grid, a row for each segment and a cell for each time unit, in which every task that starts is laid down mark by mark. The
 //! starts come from the cycle; those that a bank grants beside the ring (`played`) are found in another way, and `charts_check.rs` compares
@@ -7,21 +7,21 @@
 
 use crate::model::*;
 
-/// "6: the chart has more than 147,858 bytes"
+/// A chart of more bytes than this is refused.
 pub const NO_ROOM: u32 = 6;
 pub const ROOM: u64 = 147_858;
 /// Bytes of what stands in front of the cells.
 pub const FIELD: usize = 8;
 const BUSY: &str = " busy ";
 
-/// The letter of a task, counted from 0: "in turn, A to Z, a to z, and then A again (52 letters)".
+/// The letter of a task, counted from 0: in turn A to Z, a to z, and then A again.
 pub fn letter(task: usize) -> char {
     let mut letters = ('A'..='Z').chain('a'..='z');
     letters.nth(task % 52).expect("one of 52 letters")
 }
 
-/// The time units, from 1 on, in which tasks start: "the plan's cycle repeated without end from unit 1 on: unit 1 is a start, then one after
-/// each latency in turn".
+/// The time units, from 1 on, in which tasks start: the plan's cycle repeated without end. Unit 1 is a start, then there is one after each
+/// latency in turn.
 pub fn starts_of(latencies: &[u8], units: u32) -> Vec<u32> {
     let mut starts = Vec::new();
     let mut unit = 1;
@@ -38,7 +38,7 @@ pub fn starts_of(latencies: &[u8], units: u32) -> Vec<u32> {
 /// For each segment the task of each time unit.
 pub type Grid = Vec<Vec<Option<usize>>>;
 
-/// "A task that starts in unit t occupies, in unit t + c − 1, each segment that is marked in column c." Two tasks in one cell are an error.
+/// A task that starts in unit t occupies, in unit t + c − 1, each segment that is marked in column c. Two tasks in one cell are an error.
 pub fn grid(spots: &[Spot], segments: u32, units: u32, starts: &[u32]) -> Result<Grid, String> {
     let mut grid = vec![vec![None; units as usize]; segments as usize];
     for (task, start) in starts.iter().enumerate() {
@@ -57,7 +57,7 @@ pub fn grid(spots: &[Spot], segments: u32, units: u32, starts: &[u32]) -> Result
     Ok(grid)
 }
 
-/// A row's name, "padded with spaces at the right to 8 bytes", and its cells.
+/// A row's name, with spaces after it up to 8 bytes, and its cells.
 fn row(name: &str, cells: impl Iterator<Item = char>) -> String {
     format!("{name:<FIELD$}{}", cells.collect::<String>())
 }

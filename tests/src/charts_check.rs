@@ -69,7 +69,7 @@ fn by_hand() -> Checked {
     if letters != "AZazAZazA" {
         return Err(format!("letters: {letters}"));
     }
-    // "the room for 8,192 units of 16 segments"
+    // the room for 8,192 units of 16 segments
     if length(16, 8_192) != ROOM || most_units(16) != 8_192 {
         return Err(format!("8,192 units of 16 segments: {} bytes", length(16, 8_192)));
     }

@@ -11,6 +11,7 @@
 #![allow(dead_code)]
 
 mod charts;
+mod charts_check;
 mod console_check;
 mod console_faults;
 mod console_folder;
@@ -34,7 +35,7 @@ use console_check::{check, Counts, Run};
 use console_faults::CHART_FAULTS;
 use console_folder::{File, Folder};
 use console_model::*;
-use console_program::{path_of, wait, Ending, Place};
+use console_program::{path_of, wait, Place};
 use console_script::{Feed, Line, Script};
 use console_words::{Draw, Filler};
 use model::*;
@@ -236,11 +237,7 @@ impl Case {
     }
 
     /// The first difference, in words.
-    fn difference(&self, answer: Answer, mut run: Run) -> Option<String> {
-        // how it ends is left open where there is no chart
-        if let (Ending::Status(_), Part::Text(_)) = (run.ending, &answer.parts[0]) {
-            run.ending = Ending::Status(0);
-        }
+    fn difference(&self, answer: Answer, run: Run) -> Option<String> {
         let (name, feed, newline) = (self.told(), Feed::Pieces, true);
         let (before, after, met) = (self.folder(), self.folder(), Vec::new());
         let lines = vec![Line { bytes: self.words.join(&b' '), answer }];
@@ -279,6 +276,7 @@ const SORTS: [&str; 9] =
     ["chart", "refused 1", "refused 2", "refused 6", "refused 7", "refused 11", "refused 12", "refused 13", "expected"];
 
 fn run(program: &Path) -> Result<(), String> {
+    charts_check::run()?;
     let told = try_program(&Program { path: program, first: &[] })?;
     let gaps: Vec<&str> = SORTS.into_iter().filter(|sort| !told.contains_key(*sort)).collect();
     if !gaps.is_empty() {

@@ -19,13 +19,13 @@ use Rattle.unit.specs.declared.Answer.the-variants.{Done, Refused}
 use Rattle.unit.specs.Calls.{andThen}
 use Rattle.controller.specs.declared.Bank.{Bank}
 use Rattle.controller.specs.Bank.{empty}
-use Rattle.simulator.specs.declared.Played.{Played}
+use Rattle.simulator.specs.declared.UnitPlayed.{UnitPlayed}
 use Rattle.simulator.specs.Step.{playOf}
 use Rattle.simulator.specs.Play.{Place, onward, placeAfter, unitAfter}
-use Rattle.chart.specs.Cells.{none, tasksBefore, startCell, cellOf}
+use Rattle.chart.specs.Cells.{none, tasksBefore, startCell, nextCell, cellOf}
 use Rattle.chart.specs.Text.{busy}
 use Rattle.chart.specs.Answers.{unitsAnswer}
-use Rattle.chart.specs.Inner.{startByte, nextCell, marksIn, rowIn, cellsIn}
+use Rattle.chart.specs.Inner.{startByte, marksIn, rowIn, cellsIn}
 use Rattle.chart.proofs.FillLaws.{Filled, placed-before}
 
 -- a test as a number
@@ -97,7 +97,7 @@ pub tasks-none : (u : FunctionUnit) (p : Plan) → 0 ≡ tasksBefore u p 0
 unfolding tasksBefore countBelow
 tasks-none u p = refl
 
-module _ (u : FunctionUnit) (p : Plan) (position : ℕ) (bank : Bank) (i : ℕ) (a : At u p position bank i) (x : Played) (e : x ≡ playOf u p position bank) where
+module _ (u : FunctionUnit) (p : Plan) (position : ℕ) (bank : Bank) (i : ℕ) (a : At u p position bank i) (x : UnitPlayed) (e : x ≡ playOf u p position bank) where
   pub at-step : x ≡ unitAfter u p i
   at-step = e ∙ ap₂ (λ (j : ℕ) (b : Bank). playOf u p j b) (a .position-is) (a .bank-is)
 
@@ -112,12 +112,12 @@ module _ (u : FunctionUnit) (p : Plan) (position : ℕ) (bank : Bank) (i : ℕ) 
   unfolding tasksBefore
   tasks-next tasks t =
       let m = count-more i (λ k. unitAfter u p k .started) in
-      let s : boolByte (x .started) ≡ cond (unitAfter u p i .started) 1 0 = byte-is (x .started) ∙ ap (λ (y : Played). cond (y .started) 1 0) at-step in
+      let s : boolByte (x .started) ≡ cond (unitAfter u p i .started) 1 0 = byte-is (x .started) ∙ ap (λ (y : UnitPlayed). cond (y .started) 1 0) at-step in
       omega (arith, m, s, t)
 
   pub start-next : (tasks byte : ℕ) → tasks ≡ tasksBefore u p i → byte ≡ startByte (x .started) tasks → byte ≡ startCell u p i
   unfolding startCell
-  start-next tasks byte t b = b ∙ ap₂ (λ (y : Played) (k : ℕ). startByte (y .started) k) at-step t
+  start-next tasks byte t b = b ∙ ap₂ (λ (y : UnitPlayed) (k : ℕ). startByte (y .started) k) at-step t
 
 -- Answers
 
@@ -137,10 +137,10 @@ units-stay u p why i (suc d) e =
     ap (unitsAnswer u p) s ∙ units-more u p (i + d) ∙ ap (λ (a : Answer). andThen a (unitAfter u p (i + d) .answer)) (units-stay u p why i d e)
 
 module _ (u : FunctionUnit) (p : Plan) (n position : ℕ) (bank : Bank) (i : ℕ) (a : At u p position bank i) (d : unitsAnswer u p i ≡ Done)
-    (x : Played) (e : x ≡ playOf u p position bank) where
+    (x : UnitPlayed) (e : x ≡ playOf u p position bank) where
   one-more : unitsAnswer u p (i + 1) ≡ x .answer
   one-more =
-      units-more u p i ∙ ap (λ (b : Answer). andThen b (unitAfter u p i .answer)) d ∙ sym (ap (λ (y : Played). y .answer) (at-step u p position bank i a x e))
+      units-more u p i ∙ ap (λ (b : Answer). andThen b (unitAfter u p i .answer)) d ∙ sym (ap (λ (y : UnitPlayed). y .answer) (at-step u p position bank i a x e))
 
   pub units-accepted : x .answer ≡ Done → unitsAnswer u p (i + 1) ≡ Done
   units-accepted f = one-more ∙ f

@@ -35,9 +35,9 @@ use Rattle.function_plan.proofs.Claims.{own-says, own-hands}
 use Rattle.chart.specs.declared.Charted.{Charted}
 use Rattle.chart.specs.declared.Charted.the-variants as Charted
 use Rattle.chart.specs.Cells.{startCell, segmentCell}
-use Rattle.chart.specs.Text.{atLeft, line, unitDigit, segmentLine, chartText, chartOf}
+use Rattle.chart.specs.Text.{atLeft, line, unitDigit, segmentLine, topLines, chartText, chartOf}
 use Rattle.chart.specs.Answers.{planAnswer, unitsAnswer, charted, chartRefusal, chartAnswer, chartOut, simulateRefusal, simulateAnswer, simulateOut}
-use Rattle.chart.specs.Inner.{Ready, marksIn, topText, linesText, topLength, lineLength, rowFrom}
+use Rattle.chart.specs.Inner.{Ready, marksIn, linesText, topLength, lineLength, rowFrom}
 use Rattle.chart.proofs.CellLaws.{cell-same}
 use Rattle.chart.proofs.LineLaws.{line-cells, top-length, lines-length}
 use Rattle.chart.proofs.SegmentLaws.{segment-same}
@@ -80,24 +80,24 @@ module _ (u : FunctionUnit) (p : Plan) (r : Ready u p) where
     abbrev row : List ℕ
     row = listBelow n (startCell u p)
 
-    top-parts : (rest : List ℕ) → topText u p n ++ rest ≡ head ++ (row ++ (ascii "\n" ++ rest))
+    top-parts : (rest : List ℕ) → topLines n (startCell u p) ++ rest ≡ head ++ (row ++ (ascii "\n" ++ rest))
     top-parts rest =
         let first = line (ascii "unit") n unitDigit ++ ascii "\n" in
         let name = atLeft 8 (ascii "starts") in
         append-assoc (first ++ (name ++ row)) (ascii "\n") rest ∙ ap (λ l. l ++ (ascii "\n" ++ rest)) (sym (append-assoc first name row))
         ∙ append-assoc head row (ascii "\n" ++ rest)
 
-    row-at : (rest : List ℕ) (i : ℕ) → i < n → getD (topText u p n ++ rest) (rowFrom n + i) 0 ≡ startCell u p i
+    row-at : (rest : List ℕ) (i : ℕ) → i < n → getD (topLines n (startCell u p) ++ rest) (rowFrom n + i) 0 ≡ startCell u p i
     row-at rest i h =
         ap₂ (λ (l : List ℕ) (k : ℕ). getD l (k + i) 0) (top-parts rest) (sym head-length) ∙ getD-append-add head (row ++ (ascii "\n" ++ rest)) i 0
         ∙ List·getD-append row (ascii "\n" ++ rest) 0 i (omega (arith, list-length n (startCell u p))) ∙ list-at n (startCell u p) i h
 
-    pub row-stands : {m : ℕ} {before mid : List ℕ} {e : ℕ} → Put m before 0 (topText u p n) mid e → (i : ℕ) → i < n → getD mid (rowFrom n + i) 0 ≡ startCell u p i
+    pub row-stands : {m : ℕ} {before mid : List ℕ} {e : ℕ} → Put m before 0 (topLines n (startCell u p)) mid e → (i : ℕ) → i < n → getD mid (rowFrom n + i) 0 ≡ startCell u p i
     row-stands {before = before} w i h =
-        ap (λ l. getD l (rowFrom n + i) 0) (w .wrote .bytes ∙ placed-front before (topText u p n)) ∙ row-at (drop (length (topText u p n)) before) i h
+        ap (λ l. getD l (rowFrom n + i) 0) (w .wrote .bytes ∙ placed-front before (topLines n (startCell u p))) ∙ row-at (drop (length (topLines n (startCell u p))) before) i h
 
-    pub top-end : {m : ℕ} {before mid : List ℕ} {e : ℕ} → Put m before 0 (topText u p n) mid e → e ≡ topLength n
-    top-end w = w .wrote .next ∙ zero-add (length (topText u p n)) ∙ top-length n unitDigit (startCell u p)
+    pub top-end : {m : ℕ} {before mid : List ℕ} {e : ℕ} → Put m before 0 (topLines n (startCell u p)) mid e → e ≡ topLength n
+    top-end w = w .wrote .next ∙ zero-add (length (topLines n (startCell u p))) ∙ top-length n (startCell u p)
 
     -- The lines of the segments
 
@@ -119,16 +119,16 @@ module _ (u : FunctionUnit) (p : Plan) (r : Ready u p) where
 
     -- the chart in parts
     pub chart-parts : (mid marks : List ℕ) → marks ≡ columnsOf u (p .tag) → ((i : ℕ) → i < n → getD mid (rowFrom n + i) 0 ≡ startCell u p i)
-        → topText u p n ++ linesText mid (rowFrom n) marks (u .columns) n (u .segments) ≡ chartOf u p n
+        → topLines n (startCell u p) ++ linesText mid (rowFrom n) marks (u .columns) n (u .segments) ≡ chartOf u p n
     unfolding chartText
     chart-parts mid marks m e =
-        ap (λ w. topText u p n ++ linesText mid (rowFrom n) w (u .columns) n (u .segments)) m ∙ ap (λ l. topText u p n ++ l) (lines-same mid e)
+        ap (λ w. topLines n (startCell u p) ++ linesText mid (rowFrom n) w (u .columns) n (u .segments)) m ∙ ap (λ l. topLines n (startCell u p) ++ l) (lines-same mid e)
 
     pub chart-length : n < 2 ^ 32 → length (chartOf u p n) ≡ topLength n + lineLength n * u .segments
     unfolding chartText
     chart-length w =
-        length-append (topText u p n) _
-        ∙ ap₂ _+_ (top-length n unitDigit (startCell u p))
+        length-append (topLines n (startCell u p)) _
+        ∙ ap₂ _+_ (top-length n (startCell u p))
         (lines-length n (u .segments) (λ s. segmentCell u p (s + 1)) w (ready-sound .segments .1))
 
 -- How the call ends

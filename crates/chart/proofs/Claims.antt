@@ -37,7 +37,7 @@ use Rattle.planner.specs.Plans.{searchAnswer}
 use Rattle.function_plan.proofs.Claims.{own-exactly, tag-taken}
 use Rattle.simulator.specs.Step.{bitOf, stepAnswer, playing, playOf}
 use Rattle.simulator.specs.Play.{placeAfter, unitAfter}
-use Rattle.simulator.specs.Claims.{FallsOn, Plays}
+use Rattle.simulator.specs.Claims.{FallsOn, Plays, FoundPlan}
 use Rattle.simulator.proofs.Claims.{every-search-plays}
 use Rattle.chart.specs.declared.Charted.{Charted}
 use Rattle.chart.specs.declared.Charted.the-variants as Charted
@@ -153,15 +153,15 @@ module _ (u : FunctionUnit) (p : Plan) (plays : Plays u p) where
       omega (arith, m, s, t)
 
   -- d units after the k-th start, and up to the next, k + 1 tasks have started
-  mutual-tasks : (k d : ℕ) → tasksBefore u p (startAt cycle k) ≡ k → startAt cycle k + suc d ≤ startAt cycle (suc k)
+  tasks-between : (k d : ℕ) → tasksBefore u p (startAt cycle k) ≡ k → startAt cycle k + suc d ≤ startAt cycle (suc k)
       → tasksBefore u p (startAt cycle k + suc d) ≡ suc k
-  mutual-tasks k zero t h =
+  tasks-between k zero t h =
       let e : startAt cycle k + 1 ≡ startAt cycle k + suc zero = omega arith in
       sym (ap (tasksBefore u p) e) ∙ one-more (startAt cycle k) true k (falls k) t ∙ omega arith
-  mutual-tasks k (suc d) t h =
+  tasks-between k (suc d) t h =
       let e : startAt cycle k + suc d + 1 ≡ startAt cycle k + suc (suc d) = omega arith in
       sym (ap (tasksBefore u p) e)
-      ∙ one-more (startAt cycle k + suc d) false (suc k) (between k (startAt cycle k + suc d) (omega arith) (omega arith)) (mutual-tasks k d t (omega arith))
+      ∙ one-more (startAt cycle k + suc d) false (suc k) (between k (startAt cycle k + suc d) (omega arith) (omega arith)) (tasks-between k d t (omega arith))
       ∙ omega arith
 
   tasks-at : (k : ℕ) → tasksBefore u p (startAt cycle k) ≡ k
@@ -169,7 +169,7 @@ module _ (u : FunctionUnit) (p : Plan) (plays : Plays u p) where
   tasks-at (suc k) =
       let d : (m : ℕ) × (suc (startAt cycle k) + m ≡ startAt cycle (suc k)) = le-dest (apart k (suc k) (omega arith)) in
       let e : startAt cycle k + suc (d .0) ≡ startAt cycle (suc k) = omega (arith, d .1) in
-      sym (ap (tasksBefore u p) e) ∙ mutual-tasks k (d .0) (tasks-at k) (omega (arith, e))
+      sym (ap (tasksBefore u p) e) ∙ tasks-between k (d .0) (tasks-at k) (omega (arith, e))
 
   shown-start : (k : ℕ) → startCell u p (startAt cycle k) ≡ letter k
   unfolding startCell
@@ -294,19 +294,9 @@ unfolding searchAnswer simulateAnswer simulateRefusal chartRefusal
 search-charted u after q before words s n room h =
     let f = s .found refl in
     let plan = after .plan in
-    let plays = every-search-plays plan after (record {
-      unit = u;
-      tag = q;
-      before = before;
-      words = words;
-      found = after;
-      search = s;
-      plan = refl;
-      later = [];
-      told = [];
-      after = refl;
-      quiet = tt;
-    }) in
+    let found : FoundPlan plan [] [] after =
+    record { unit = u; tag = q; before = before; words = words; found = after; search = s; plan = refl; stays = refl } in
+    let plays = every-search-plays plan [] [] after found tt in
     let shows = plays-shown after plan plays in
     let a = tag-accepted u q (then-both (tagAnswer u q) _ (sym (s .says)) .0) in
     let own : plan .tag ≡ q = ap (λ (x : FunctionUnit). x .plan .tag) (f .unit) in

@@ -11,7 +11,7 @@ use Rattle.words.proofs.JoinLaws.{join-length}
 use Rattle.text.specs.Text.{ascii, decimal}
 use Rattle.text.specs.Wrote.{Wrote, Put}
 use Rattle.text.proofs.DecimalLaws.{decimal-small, decimal-step, decimal-length}
-use Rattle.chart.specs.Text.{atLeft, atRight, line, busyText, segmentLine, busy}
+use Rattle.chart.specs.Text.{atLeft, atRight, line, unitDigit, busyText, segmentLine, busy, topLines}
 use Rattle.chart.specs.Inner.{topLength, lineLength}
 use Rattle.chart.proofs.FillLaws.{placed-before}
 use Rattle.chart.proofs.DigitLaws.{digits-most}
@@ -86,14 +86,14 @@ lines-length n segments cells w h =
     join-length segments (lineLength n) (λ s. segmentLine n (cells s) (s + 1)) (λ s l. segment-length n (s + 1) (cells s) w (omega arith))
 
 -- the two lines above them
-pub top-length : (n : ℕ) (f h : ℕ → ℕ) → length (line (ascii "unit") n f ++ ascii "\n" ++ line (ascii "starts") n h ++ ascii "\n") ≡ topLength n
-top-length n f h =
-    let one = line (ascii "unit") n f in
+pub top-length : (n : ℕ) (h : ℕ → ℕ) → length (topLines n h) ≡ topLength n
+top-length n h =
+    let one = line (ascii "unit") n unitDigit in
     let other = line (ascii "starts") n h in
     let a = length-append (one ++ ascii "\n" ++ other) (ascii "\n") in
     let b = length-append (one ++ ascii "\n") other in
     let c = length-append one (ascii "\n") in
-    omega (arith, a, b, c, line-cells (ascii "unit") n f (omega arith), line-cells (ascii "starts") n h (omega arith))
+    omega (arith, a, b, c, line-cells (ascii "unit") n unitDigit (omega arith), line-cells (ascii "starts") n h (omega arith))
 
 -- Room
 

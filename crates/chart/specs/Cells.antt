@@ -25,12 +25,14 @@ tasksBefore u p n = countBelow n (λ k. unitAfter u p k .started)
 unfoldable pub startCell : FunctionUnit → Plan → ℕ → ℕ
 startCell u p n = cond (unitAfter u p n .started) (letter (tasksBefore u p n)) none
 
--- The task that occupies a segment in the unit after n units, by the row of starts: one that started so many units before that the segment is marked
--- in its present column, one of the first k. A start itself is in column 1.
+-- A task in column c + 1, where the segment is marked, started c units before: what the row of starts has there, or else what other columns give.
+abbrev pub nextCell : Bool → (ℕ → ℕ) → ℕ → ℕ → ℕ → ℕ
+nextCell marked starts n c others = cond (leb c n && marked && not (eqb (starts (n - c)) none)) (starts (n - c)) others
+
+-- the task that occupies a segment in the unit after n units, by the row of starts and the marks of the first k columns
 unfoldable pub cellOf : (ℕ → Bool) → (ℕ → ℕ) → ℕ → ℕ → ℕ
 cellOf marks starts n zero = none
-cellOf marks starts n (suc c) =
-    cond (leb c n && marks (c + 1) && not (eqb (starts (n - c)) none)) (starts (n - c)) (cellOf marks starts n c)
+cellOf marks starts n (suc c) = nextCell (marks (c + 1)) starts n c (cellOf marks starts n c)
 
 -- the task that occupies a segment in the unit after n units
 abbrev pub segmentCell : FunctionUnit → Plan → ℕ → ℕ → ℕ

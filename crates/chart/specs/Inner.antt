@@ -1,20 +1,19 @@
 -- What the private functions ask, write and find. No public contract cites this file.
 use Prim.Native.Nat.{ℕ, _+_, _-_, _*_}
 use mathlib.Core.Path.{_≡_}
-use mathlib.Core.Bool.{Bool, true, cond, not, _&&_}
-use mathlib.Core.List.{List, _++_}
-use lib.Dec.{leb, eqb}
+use mathlib.Core.Bool.{Bool, true, cond}
+use mathlib.Core.List.{List}
 use lib.ListN.{length, getD}
 use Rattle.words.specs.Bits.{isSet}
 use Rattle.words.specs.Below.{joinBelow}
-use Rattle.text.specs.Text.{ascii, decimal}
+use Rattle.text.specs.Text.{decimal}
 use Rattle.unit.specs.declared.Plan.{Plan}
 use Rattle.unit.specs.declared.FunctionUnit.{FunctionUnit}
 use Rattle.unit.specs.declared.Answer.the-variants.{Done}
 use Rattle.unit.specs.Calls.{tagAnswer}
 use Rattle.plan_record.specs.Write.{holdsCycle}
-use Rattle.chart.specs.Cells.{letter, none, startCell, cellOf}
-use Rattle.chart.specs.Text.{line, unitDigit, segmentLine}
+use Rattle.chart.specs.Cells.{letter, none, cellOf}
+use Rattle.chart.specs.Text.{segmentLine}
 
 -- a plan that a record holds, of a tag of the unit
 pub record Ready (u : FunctionUnit) (p : Plan) : Type 0 where
@@ -33,17 +32,10 @@ marksIn marks segment c = isSet (getD marks (c - 1) 0) segment
 abbrev pub rowIn : List ℕ → ℕ → ℕ → ℕ
 rowIn bytes from i = getD bytes (from + i) 0
 
--- with one more column looked at
-abbrev pub nextCell : Bool → (ℕ → ℕ) → ℕ → ℕ → ℕ → ℕ
-nextCell marked starts n c cell = cond (leb c n && marked && not (eqb (starts (n - c)) none)) (starts (n - c)) cell
-
 abbrev pub cellsIn : List ℕ → ℕ → List ℕ → ℕ → ℕ → ℕ → ℕ
 cellsIn bytes from marks columns segment i = cellOf (marksIn marks segment) (rowIn bytes from) i columns
 
 -- The lines
-
-abbrev pub topText : FunctionUnit → Plan → ℕ → List ℕ
-topText u p n = line (ascii "unit") n unitDigit ++ ascii "\n" ++ line (ascii "starts") n (startCell u p) ++ ascii "\n"
 
 abbrev pub linesText : List ℕ → ℕ → List ℕ → ℕ → ℕ → ℕ → List ℕ
 linesText bytes from marks columns n segments = joinBelow segments (λ s. segmentLine n (cellsIn bytes from marks columns s) (s + 1))

@@ -37,11 +37,13 @@ busyText count n = ascii " busy " ++ atRight (length (decimal n)) (decimal count
 unfoldable pub segmentLine : ℕ → (ℕ → ℕ) → ℕ → List ℕ
 segmentLine n cells s = line (decimal s) n cells ++ busyText (busy n cells) n
 
--- a chart of n units: the row of starts, and the cells of each segment
+-- the numbers of n units, and the row of starts
+abbrev pub topLines : ℕ → (ℕ → ℕ) → List ℕ
+topLines n starts = line (ascii "unit") n unitDigit ++ ascii "\n" ++ line (ascii "starts") n starts ++ ascii "\n"
+
+-- a chart of n units: after them the cells of each segment
 unfoldable pub chartText : ℕ → (ℕ → ℕ) → (ℕ → ℕ → ℕ) → ℕ → List ℕ
-chartText segments starts cells n =
-    line (ascii "unit") n unitDigit ++ ascii "\n" ++ line (ascii "starts") n starts ++ ascii "\n"
-    ++ joinBelow segments (λ s. segmentLine n (cells (s + 1)) (s + 1))
+chartText segments starts cells n = topLines n starts ++ joinBelow segments (λ s. segmentLine n (cells (s + 1)) (s + 1))
 
 -- the chart of a plan, played on a unit for n time units
 abbrev pub chartOf : FunctionUnit → Plan → ℕ → List ℕ

@@ -5,9 +5,9 @@ ghost use lib.ListN.{length};
 ghost use Rattle.words.specs.Below.{listBelow};
 ghost use Rattle.text.specs.Text.{decimal, placed};
 ghost use Rattle.text.specs.Wrote.{Wrote, Put};
-ghost use Rattle.chart.specs.Cells.{letter, startCell};
-ghost use Rattle.chart.specs.Text.{atLeft, atRight, unitDigit, busy, busyText, segmentLine, chartOf};
-ghost use Rattle.chart.specs.Inner.{Ready, startByte, nextCell, rowIn, cellsIn, topText, linesText, topLength, lineLength, rowFrom};
+ghost use Rattle.chart.specs.Cells.{letter, startCell, nextCell};
+ghost use Rattle.chart.specs.Text.{atLeft, atRight, unitDigit, busy, busyText, segmentLine, topLines, chartOf};
+ghost use Rattle.chart.specs.Inner.{Ready, startByte, rowIn, cellsIn, linesText, topLength, lineLength, rowFrom};
 use unit::FunctionUnit;
 use unit::Plan;
 use unit::Tag;
@@ -69,7 +69,7 @@ fn put_starts(out: &mut [u8], at: usize, u: FunctionUnit, plan: Plan, units: usi
 // The first two lines.
 fn put_top(out: &mut [u8], u: FunctionUnit, plan: Plan, units: usize) -> usize
     requires { ⌜ (units < 4294967296) × (topLength units ≤ length (now out)) ⌝ }
-    ensures { λ r. ⌜ Put (topLength units) (now (out .entry)) 0 (topText u plan units) (now (out .exit)) r ⌝ }
+    ensures { λ r. ⌜ Put (topLength units) (now (out .entry)) 0 (topLines units (startCell u plan)) (now (out .exit)) r ⌝ }
 {
     let after_name = text::put(out, 0, b"unit    ");
     let after_units = put_units(out, after_name, units);

@@ -1,4 +1,4 @@
--- 8 is for exactly the functions that have no plan. Proved in proofs/OwnLaws.antt.
+-- 8 is for exactly the functions that have no plan. Proved in proofs/Claims.antt.
 use mathlib.Core.Path.{_≡_}
 use mathlib.Core.Logic.{_↔_}
 use Prim.Native.Nat.{ℕ}

@@ -1,11 +1,11 @@
 -- Every list of calls from a fresh unit agrees with the sheet. Assumes nothing.
 use Prim.Native.Nat.{ℕ, _-_, _≤_}
 use mathlib.Core.Path.{_≡_, refl, ap, _∙_, sym, subst, subst₂}
-use mathlib.Core.Bool.{Bool, true, false, cond, not}
+use mathlib.Core.Bool.{Bool, true, false, cond}
 use mathlib.Core.List.{List, [], _∷_, _++_}
 use native.Mathlib.Omega.{arith}
 use lib.Dec.{eqb, leb}
-use lib.ListN.{length, getD, take, drop, replicate, length-append, length-replicate}
+use lib.ListN.{length, getD, take, replicate, length-append, length-replicate}
 use lib.Seq.{take-append-seam, drop-at}
 use borrow.Author.Tests.{eq-eqb, ne-eqb}
 use Rattle.words.proofs.Tests.{cond-same}
@@ -18,18 +18,18 @@ use Rattle.unit.specs.declared.Answer.{Answer}
 use Rattle.unit.specs.declared.Answer.the-variants.{Done, Refused}
 use Rattle.unit.specs.Numbers.{numberOf, numberIn}
 use Rattle.unit.specs.Table.{Table, changed}
-use Rattle.unit.specs.Unit.{inside, marked, marksInside, soundPlan, soundOf, goodCounts}
+use Rattle.unit.specs.Unit.{inside, marked, soundPlan, soundOf, goodCounts}
 use Rattle.unit.specs.Calls.{check, andThen, tagAnswer, spotAnswer, noPlan, freshOf, markOf, unmarkOf}
 use Rattle.unit.proofs.NumberLaws.{number-some}
-use Rattle.unit.proofs.Laws.{inside-of, Sound, sound-has, sound-of}
+use Rattle.unit.proofs.Laws.{inside-of, sound-has, sound-of}
 use Rattle.unit.proofs.SoundLaws.{Words, inside-means, inside-test}
 use Rattle.unit.proofs.EditLaws.{Edited, mark-accepted, unmark-accepted, mark-refused, unmark-refused, mark-answer, unmark-answer, blank-words, blank-table, fresh-sound}
 use Rattle.collision.specs.Pipeline.{total}
 use Rattle.planner.specs.declared.Handed.{Handed}
-use Rattle.planner.specs.Plans.{Best, planOf, withPlan, searchAnswer, Found, SearchPromise, readAnswer, handing, readOf}
-use Rattle.planner.specs.Sheet.{Call, Reply, replyTo, readReply, Searching, Step, Run, Sheet, start, edited, owing, spotNumber, searchNumber, next, fed, told, Owed, ReadRight, Agrees, Right, EveryList, Leaves, Noted, EveryUnit}
+use Rattle.planner.specs.Plans.{Best, planOf, withPlan, searchAnswer, Found, readAnswer, readOf}
+use Rattle.planner.specs.Sheet.{Call, Reply, replyTo, readReply, Step, Run, Sheet, start, edited, owing, spotNumber, searchNumber, next, fed, told, Agrees, Right, EveryList, Leaves, Noted, EveryUnit}
 use Rattle.planner.specs.Sheet.Call.{Mark, Unmark, Search, Read}
-use Rattle.planner.specs.Sheet.Reply.{accepted, refused, handed}
+use Rattle.planner.specs.Sheet.Reply.{accepted}
 
 -- Answers and their numbers
 
@@ -44,14 +44,8 @@ number-check false why rest = refl
 -- What holds between a unit and the sheet
 
 record Kept (u : FunctionUnit) (t : Sheet) : Type 0 where
-  pub sound : soundOf u ≡ true
+  pub noted : Noted u t
   pub words : Words u
-  pub functions : u .functions ≡ t .functions
-  pub segments : u .segments ≡ t .segments
-  pub columns : u .columns ≡ t .columns
-  pub table : marked u ≡ t .table
-  pub tag : u .plan .tag ≡ t .owed
-  pub plan : (t .owed ≡ 0 → ⊥) → Owed t (u .plan)
 
 abbrev KeptStep : FunctionUnit → Sheet → Call → Reply → Type 0
 KeptStep u t k a = Agrees t k a × Kept u (next t k)
@@ -60,19 +54,22 @@ KeptStep u t k a = Agrees t k a × Kept u (next t k)
 
 spot-number : (u : FunctionUnit) (t : Sheet) (q s c : ℕ) → Kept u t → numberIn (spotAnswer u q s c) ≡ spotNumber t q s c
 unfolding spotAnswer spotNumber
-spot-number u t q s c k = simp (k .sound, k .functions, k .segments, k .columns, number-check)
+spot-number u t q s c k = simp (k .noted .sound, k .noted .functions, k .noted .segments, k .noted .columns, number-check)
 
 edit-kept : (u after : FunctionUnit) (t : Sheet) (q s c : ℕ) (b : Bool) → Kept u t → Edited u after q s c b → Kept after (edited t (changed (t .table) q s c b))
 unfolding noPlan
 edit-kept u after t q s c b k e = record {
-  sound = e .sound;
+  noted = record {
+    sound = e .sound;
+    functions = e .functions ∙ k .noted .functions;
+    segments = e .segments ∙ k .noted .segments;
+    columns = e .columns ∙ k .noted .columns;
+    table = e .table ∙ ap (λ m. changed m q s c b) (k .noted .table);
+    tag = ap (λ (p : Plan). p .tag) (e .plan);
+    member = λ ne. absurd (ne refl);
+    plan = λ ne. absurd (ne refl);
+  };
   words = e .words;
-  functions = e .functions ∙ k .functions;
-  segments = e .segments ∙ k .segments;
-  columns = e .columns ∙ k .columns;
-  table = e .table ∙ ap (λ m. changed m q s c b) (k .table);
-  tag = ap (λ (p : Plan). p .tag) (e .plan);
-  plan = λ ne. absurd (ne refl);
 }
 
 -- an edit, given what it leaves at each answer
@@ -110,7 +107,7 @@ unmark-step u t q s c a after k (r, er, ea, eu) = (
 
 search-number : (u : FunctionUnit) (t : Sheet) (q room : ℕ) → Kept u t → numberIn (searchAnswer u q room) ≡ searchNumber t q room
 unfolding searchAnswer searchNumber tagAnswer
-search-number u t q room k = simp (k .sound, k .functions, k .table) (go (inside q (t .functions)))
+search-number u t q room k = simp (k .noted .sound, k .noted .functions, k .noted .table) (go (inside q (t .functions)))
   where
     go : (b : Bool) → numberIn (andThen (check b NoSuchTag Done) (check (leb 16000 room) ShortWork (check (leb (length (Rattle.diagram.specs.Answers.statesOf 1 (t .table) q)) 256) TooManyStates Done)))
         ≡ cond b (cond (leb 16000 room) (cond (leb (length (Rattle.diagram.specs.Answers.statesOf 1 (t .table) q)) 256) 0 7) 5) 2
@@ -139,30 +136,43 @@ found-sound u q after e f =
       marks = inside-test (withPlan u p) (λ x y z m. inside-means u (d .marks) x y z (sym (ap (λ g. g x y z) (plan-marks u p)) ∙ m));
     })
 
-found-kept : (u : FunctionUnit) (t : Sheet) (q : ℕ) (after : FunctionUnit) → Kept u t → Found u q after → Kept after (owing t q)
-found-kept u t q after k f =
+found-kept : (u : FunctionUnit) (t : Sheet) (q : ℕ) (after : FunctionUnit) → Kept u t → inside q (t .functions) ≡ true → Found u q after
+    → Kept after (owing t q)
+found-kept u t q after k member f =
     let cycle = f .cycle in
     let p = planOf q cycle in
     let e : take (length cycle) (cycle ++ replicate (256 - length cycle) 0) ≡ cycle = take-append-seam cycle (replicate (256 - length cycle) 0) in
     subst (λ (x : FunctionUnit). Kept x (owing t q)) (sym (f .unit))
     (record {
-      sound = ap soundOf (sym (f .unit)) ∙ found-sound u q after (k .sound) f;
-      words = record { count = k .words .count; small = k .words .small };
-      functions = k .functions;
-      segments = k .segments;
-      columns = k .columns;
-      table = plan-marks u p ∙ k .table;
-      tag = refl;
-      plan = λ ne. record {
+      noted = record {
+        sound = ap soundOf (sym (f .unit)) ∙ found-sound u q after (k .noted .sound) f;
+        functions = k .noted .functions;
+        segments = k .noted .segments;
+        columns = k .noted .columns;
+        table = plan-marks u p ∙ k .noted .table;
         tag = refl;
-        long = length-append cycle (replicate (256 - length cycle) 0) ∙ omega (arith, length-replicate {A = ℕ} (256 - length cycle) 0, f .few);
-        some = f .best .latencies .nonempty;
-        few = f .few;
-        sum = ap total (sym e);
-        rest = drop-at cycle (replicate (256 - length cycle) 0) (length cycle) refl;
-        best = subst₂ (λ (m : Table) (l : List ℕ). Best 1 m q l) (k .table) (sym e) (f .best);
+        member = λ ne. member;
+        plan = λ ne. record {
+          tag = refl;
+          long = length-append cycle (replicate (256 - length cycle) 0) ∙ omega (arith, length-replicate {A = ℕ} (256 - length cycle) 0, f .few);
+          some = f .best .latencies .nonempty;
+          few = f .few;
+          sum = ap total (sym e);
+          rest = drop-at cycle (replicate (256 - length cycle) 0) (length cycle) refl;
+          best = subst₂ (λ (m : Table) (l : List ℕ). Best 1 m q l) (k .noted .table) (sym e) (f .best);
+        };
       };
+      words = record { count = k .words .count; small = k .words .small };
     })
+
+-- a search that is not refused is for one of the functions
+search-member : (t : Sheet) (q room : ℕ) → searchNumber t q room ≡ 0 → inside q (t .functions) ≡ true
+unfolding searchNumber
+search-member t q room = go (inside q (t .functions))
+  where
+    go : (b : Bool) → _≡_ {A = ℕ} (cond b (cond (leb 16000 room) (cond (leb (length (Rattle.diagram.specs.Answers.statesOf 1 (t .table) q)) 256) 0 7) 5) 2) 0 → b ≡ true
+    go true e = refl
+    go false e = absurd (omega (arith, e))
 
 search-step : (u : FunctionUnit) (t : Sheet) (q room : ℕ) (a : Reply) (after : FunctionUnit) → Kept u t → Step u (Search q room) a after → KeptStep after t (Search q room) a
 search-step u t q room a after k h = (
@@ -176,7 +186,7 @@ search-step u t q room a after k h = (
     go : (x : Answer) → h .answer ≡ x → Kept after (next t (Search q room))
     go Done e =
         let z : searchNumber t q room ≡ 0 = sym (search-number u t q room k) ∙ ap numberIn (sym says ∙ e) in
-        rw z (found-kept u t q after k (h .promise .found e))
+        rw z (found-kept u t q after k (search-member t q room z) (h .promise .found e))
     go (Refused why) e =
         let z : searchNumber t q room ≡ numberOf why = sym (search-number u t q room k) ∙ ap numberIn (sym says ∙ e) in
         rw (z, number-some why) (subst (λ (x : FunctionUnit). Kept x t) (sym (h .promise .kept why e)) k)
@@ -194,11 +204,11 @@ read-some u h ne = simp (h, ne-eqb (u .plan .tag) 0 ne)
 read-step : (u : FunctionUnit) (t : Sheet) (a : Reply) (after : FunctionUnit) → Kept u t → Step u Read a after → KeptStep after t Read a
 read-step u t a after k (r, er, ea, eu) = (
   record {
-    none = λ z. ea ∙ ap (λ (h : Handed). readReply (h .answer) (h .plan)) (er ∙ read-none u (k .sound) (k .tag ∙ z));
+    none = λ z. ea ∙ ap (λ (h : Handed). readReply (h .answer) (h .plan)) (er ∙ read-none u (k .noted .sound) (k .noted .tag ∙ z));
     some = λ ne. (
       u .plan,
-      ea ∙ ap (λ (h : Handed). readReply (h .answer) (h .plan)) (er ∙ read-some u (k .sound) (λ e. ne (sym (k .tag) ∙ e))),
-      k .plan ne,
+      ea ∙ ap (λ (h : Handed). readReply (h .answer) (h .plan)) (er ∙ read-some u (k .noted .sound) (λ e. ne (sym (k .noted .tag) ∙ e))),
+      k .noted .plan ne,
     );
   },
   subst (λ (x : FunctionUnit). Kept x t) (sym eu) k,
@@ -223,14 +233,17 @@ every-run (c ∷ calls) (a ∷ replies) u t k (after, step, run) =
 fresh-kept : (f s c : ℕ) → goodCounts f s c ≡ true → Kept (freshOf f s c .unit) (start f s c)
 unfolding freshOf noPlan
 fresh-kept f s c g = record {
-  sound = fresh-sound f s c g;
+  noted = record {
+    sound = fresh-sound f s c g;
+    functions = refl;
+    segments = refl;
+    columns = refl;
+    table = blank-table f s c;
+    tag = refl;
+    member = λ ne. absurd (ne refl);
+    plan = λ ne. absurd (ne refl);
+  };
   words = blank-words f s c;
-  functions = refl;
-  segments = refl;
-  columns = refl;
-  table = blank-table f s c;
-  tag = refl;
-  plan = λ ne. absurd (ne refl);
 }
 
 pub every-list : EveryList
@@ -245,55 +258,21 @@ right-at [] k rest (a ∷ replies) t r = r .0
 right-at (c ∷ before) k rest [] t r = absurd r
 right-at (c ∷ before) k rest (a ∷ replies) t r = right-at before k rest replies (next t c) (r .1)
 
--- The unit that a run leaves
+-- The unit that a list of calls leaves
 
--- an owed tag is one of the unit's
-abbrev Member : Sheet → Type 0
-Member t = (t .owed ≡ 0 → ⊥) → inside (t .owed) (t .functions) ≡ true
+-- such a list is a run
+pub leaves-run : (calls : List Call) (replies : List Reply) (u left : FunctionUnit) → Leaves u calls replies left → Run u calls replies
+leaves-run [] [] u left run = tt
+leaves-run [] (a ∷ replies) u left run = run
+leaves-run (c ∷ calls) [] u left run = run
+leaves-run (c ∷ calls) (a ∷ replies) u left (after, step, run) = (after, step, leaves-run calls replies after left run)
 
-next-member : (k : Call) (t : Sheet) → Member t → Member (next t k)
-unfolding searchNumber
-next-member (Mark q s c) t m = edit (eqb (spotNumber t q s c) 0)
-  where
-    edit : (b : Bool) → Member (cond b (edited t (changed (t .table) q s c true)) t)
-    edit true = λ ne. absurd (ne refl)
-    edit false = m
-next-member (Unmark q s c) t m = edit (eqb (spotNumber t q s c) 0)
-  where
-    edit : (b : Bool) → Member (cond b (edited t (changed (t .table) q s c false)) t)
-    edit true = λ ne. absurd (ne refl)
-    edit false = m
-next-member (Search q room) t m = go (inside q (t .functions)) refl
-  where
-    later : (b : Bool) → inside q (t .functions) ≡ true → Member (cond b (owing t q) t)
-    later true e = λ ne. e
-    later false e = m
-
-    go : (b : Bool) → inside q (t .functions) ≡ b → Member (cond (eqb (cond b (cond (leb 16000 room) (cond (leb (length (Rattle.diagram.specs.Answers.statesOf 1 (t .table) q)) 256) 0 7) 5) 2) 0) (owing t q) t)
-    go true e = later (eqb (cond (leb 16000 room) (cond (leb (length (Rattle.diagram.specs.Answers.statesOf 1 (t .table) q)) 256) 0 7) 5) 0) e
-    go false e = m
-next-member Read t m = m
-
-every-left : (calls : List Call) (replies : List Reply) (u left : FunctionUnit) (t : Sheet) → Kept u t → Member t → Leaves u calls replies left
-    → Kept left (fed t calls) × Member (fed t calls)
+every-left : (calls : List Call) (replies : List Reply) (u left : FunctionUnit) (t : Sheet) → Kept u t → Leaves u calls replies left → Kept left (fed t calls)
 unfolding fed
-every-left [] [] u left t k m e = (subst (λ (x : FunctionUnit). Kept x t) (sym e) k, m)
-every-left [] (a ∷ replies) u left t k m run = absurd run
-every-left (c ∷ calls) [] u left t k m run = absurd run
-every-left (c ∷ calls) (a ∷ replies) u left t k m (after, step, run) =
-    every-left calls replies after left (next t c) (each-step c u t a after k step .1) (next-member c t m) run
+every-left [] [] u left t k e = subst (λ (x : FunctionUnit). Kept x t) (sym e) k
+every-left [] (a ∷ replies) u left t k run = absurd run
+every-left (c ∷ calls) [] u left t k run = absurd run
+every-left (c ∷ calls) (a ∷ replies) u left t k (after, step, run) = every-left calls replies after left (next t c) (each-step c u t a after k step .1) run
 
 pub every-unit : EveryUnit
-every-unit f s c g calls replies u run =
-    let r = every-left calls replies (freshOf f s c .unit) u (start f s c) (fresh-kept f s c g) (λ ne. absurd (ne refl)) run in
-    let k = r .0 in
-    record {
-      sound = k .sound;
-      functions = k .functions;
-      segments = k .segments;
-      columns = k .columns;
-      table = k .table;
-      tag = k .tag;
-      member = r .1;
-      plan = k .plan;
-    }
+every-unit f s c g calls replies u run = every-left calls replies (freshOf f s c .unit) u (start f s c) (fresh-kept f s c g) run .noted

@@ -159,6 +159,7 @@ EveryList =
 
 -- The unit that a run leaves
 
+-- a run (`leaves-run`, proofs/EveryList.antt), with the unit after its last call
 abbrev pub Leaves : FunctionUnit → List Call → List Reply → FunctionUnit → Type 0
 Leaves u [] [] left = left ≡ u
 Leaves u [] (a ∷ replies) left = ⊥

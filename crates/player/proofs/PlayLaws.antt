@@ -12,27 +12,16 @@ use Rattle.unit.specs.declared.Plan.{Plan}
 use Rattle.unit.specs.declared.FunctionUnit.{FunctionUnit}
 use Rattle.unit.specs.declared.Outcome.{Outcome}
 use Rattle.unit.specs.Calls.{freshOf}
-use Rattle.planner.specs.Sheet.{Call, Reply, Step, Run}
+use Rattle.planner.specs.Sheet.{Call, Reply, Step, Run, Leaves}
+use Rattle.planner.proofs.EveryList.{leaves-run}
 use Rattle.player.specs.Play.{callAt, callsOf, planBytes, replyBytes, repliesBytes, mayUse, NoneMayUse, Played}
 use Rattle.player.specs.Inner.{Turned}
 
--- A run, and the unit that it leaves
-
-abbrev pub RunTo : FunctionUnit → List Call → List Reply → FunctionUnit → Type 0
-RunTo u [] [] last = u ≡ last
-RunTo u [] (a ∷ replies) last = ⊥
-RunTo u (k ∷ calls) [] last = ⊥
-RunTo u (k ∷ calls) (a ∷ replies) last = (after : FunctionUnit) × Step u k a after × RunTo after calls replies last
-
-run-of : (calls : List Call) (replies : List Reply) (u last : FunctionUnit) → RunTo u calls replies last → Run u calls replies
-run-of [] [] u last r = tt
-run-of [] (a ∷ replies) u last r = r
-run-of (k ∷ calls) [] u last r = r
-run-of (k ∷ calls) (a ∷ replies) u last (after, step, r) = (after, step, run-of calls replies after last r)
+-- A run with one call more
 
 run-more : (calls : List Call) (replies : List Reply) (u last : FunctionUnit) (k : Call) (a : Reply) (new : FunctionUnit)
-    → RunTo u calls replies last → Step last k a new → RunTo u (calls ++ k ∷ []) (replies ++ a ∷ []) new
-run-more [] [] u last k a new r step = (new, subst (λ (x : FunctionUnit). Step x k a new) (sym r) step, refl)
+    → Leaves u calls replies last → Step last k a new → Leaves u (calls ++ k ∷ []) (replies ++ a ∷ []) new
+run-more [] [] u last k a new r step = (new, subst (λ (x : FunctionUnit). Step x k a new) r step, refl)
 run-more [] (b ∷ replies) u last k a new r step = absurd r
 run-more (c ∷ calls) [] u last k a new r step = absurd r
 run-more (c ∷ calls) (b ∷ replies) u last k a new (after, s, r) step = (after, s, run-more calls replies after last k a new r step)
@@ -49,7 +38,7 @@ bytes-more [] a = append-nil (replyBytes a)
 bytes-more (b ∷ replies) a =
     ap (λ (l : List ℕ). replyBytes b ++ l) (bytes-more replies a) ∙ sym (append-assoc (replyBytes b) (repliesBytes replies) (replyBytes a))
 
-none-more : (calls : List Call) (replies : List Reply) (u last : FunctionUnit) (k : Call) (a : Reply) → RunTo u calls replies last
+none-more : (calls : List Call) (replies : List Reply) (u last : FunctionUnit) (k : Call) (a : Reply) → Leaves u calls replies last
     → NoneMayUse (calls ++ k ∷ []) (replies ++ a ∷ []) → NoneMayUse calls replies × (mayUse k a ≡ false)
 none-more [] [] u last k a r h = (tt, h .0)
 none-more [] (b ∷ replies) u last k a r h = absurd r
@@ -83,7 +72,7 @@ module _ (xs ys : List ℕ) (a : ℕ) (size : length ys ≡ 262) (fits : a + 262
 -- the first n calls were played, and u is what they left
 pub record Playing (first : FunctionUnit) (calls before work : List ℕ) (n : ℕ) (after words : List ℕ) (u : FunctionUnit) : Type 0 where
   pub replies : List Reply
-  pub run : RunTo first (callsOf (length work) calls n) replies u
+  pub run : Leaves first (callsOf (length work) calls n) replies u
   pub wrote : take (n * 262) after ≡ repliesBytes replies
   pub rest : drop (n * 262) after ≡ drop (n * 262) before
   pub size : length after ≡ length before
@@ -136,7 +125,7 @@ playing-end f s c o calls before work n after words u e h m = record {
   count = m;
   replies = h .replies;
   run = subst (λ (x : Outcome). Run (x .unit) (callsOf (length work) calls n) (h .replies)) e
-      (run-of (callsOf (length work) calls n) (h .replies) (o .unit) u (h .run));
+      (leaves-run (callsOf (length work) calls n) (h .replies) (o .unit) u (h .run));
   wrote = h .wrote;
   rest = h .rest;
   size = h .size;

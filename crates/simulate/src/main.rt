@@ -91,16 +91,16 @@ fn obey(request: Request) {
 // The arguments.
 
 // Where an argument that was put into the line ends there, and how many bytes it has.
-struct Put {
+struct Placed {
     end: usize,
     length: usize,
 }
 
-fn put_argument(line: &mut [u8], at: usize, index: usize) -> Put {
+fn put_argument(line: &mut [u8], at: usize, index: usize) -> Placed {
     let mut argument = io::buffer();
     let length = os::arg(index, &mut argument);
     let end = text::put(line, at, &argument[..length]);
-    Put { end, length }
+    Placed { end, length }
 }
 
 // Whether a word of the line has so many bytes.

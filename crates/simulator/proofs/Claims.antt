@@ -142,19 +142,19 @@ same-plays p u left holds sound member never same =
     (subst (λ (T : Table). NeverCollides T (p .tag) (cycleIn p)) (sym (same .marks)) never)
 
 pub every-plan-plays : EveryPlanPlays
-every-plan-plays p left h =
+every-plan-plays p later told left h quiet =
     let t = fed (start (h .functions) (h .segments) (h .columns)) (h .calls) in
-    let n = every-unit (h .functions) (h .segments) (h .columns) (h .good) (h .calls) (h .replies) (h .unit) (h .before) in
+    let n = every-unit (h .functions) (h .segments) (h .columns) (h .good) (h .calls) (h .replies) (h .unit) (h .leaves) in
     let u = h .unit in
     let r = read-gives u p (h .handed) in
     let some : t .owed ≡ 0 → ⊥ = λ z. r .1 (n .tag ∙ z) in
     let member : inside (u .plan .tag) (u .functions) ≡ true = ap₂ inside (n .tag) (n .functions) ∙ n .member some in
     subst (λ (x : Plan). Plays left x) (r .0)
-    (same-plays (u .plan) u left (owed-holds u t n some) (n .sound) member (best u t n some .never) (unedited (h .later) (h .told) u left (h .after) (h .quiet)))
+    (same-plays (u .plan) u left (owed-holds u t n some) (n .sound) member (best u t n some .never) (unedited later told u left (h .stays) quiet))
 
 pub every-search-plays : EverySearchPlays
 unfolding searchAnswer
-every-search-plays p left h =
+every-search-plays p later told left h quiet =
     let u = h .unit in
     let q = h .tag in
     let f = h .search .found refl in
@@ -166,4 +166,4 @@ every-search-plays p left h =
     let holds = holds-exactly plan .1 (planned q (f .cycle) (best-recordable u q (f .cycle) (f .few) (f .best))) in
     let never : NeverCollides (marked u) q (cycleIn plan) = subst (λ l. NeverCollides (marked u) q l) (sym held) (f .best .never) in
     subst (λ (x : Plan). Plays left x) (sym is)
-    (same-plays plan u left holds (a .sound) (a .tag) never (same-then (found-same u q (h .found) f) (unedited (h .later) (h .told) (h .found) left (h .after) (h .quiet))))
+    (same-plays plan u left holds (a .sound) (a .tag) never (same-then (found-same u q (h .found) f) (unedited later told (h .found) left (h .stays) quiet)))

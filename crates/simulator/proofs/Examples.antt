@@ -29,40 +29,41 @@ use Rattle.diagram.specs.States.{states, expand, listFrom}
 use Rattle.diagram.specs.Answers.{fewStates}
 use Rattle.diagram.proofs.ListLaws.{one-distinct}
 use Rattle.controller.specs.declared.Bank.{Bank}
-use Rattle.controller.specs.Bank.{register, rowFor, moved}
+use Rattle.controller.specs.Bank.{register, rowFor, eventAnswer, moved, stepOf}
 use Rattle.plan_record.specs.Record.{recordable, starts, ringByte, ringOf}
 use Rattle.plan_record.specs.Write.{holdsCycle}
-use Rattle.planner.specs.Plans.{Best, withPlan, searchAnswer, Found, SearchPromise}
-use Rattle.planner.specs.Sheet.{Call, Reply, Leaves}
-use Rattle.planner.specs.Sheet.Call.{Mark}
-use Rattle.planner.specs.Sheet.Reply.{accepted}
-use Rattle.simulator.specs.declared.Played.{Played}
+use Rattle.planner.specs.Plans.{Best, withPlan, searchAnswer, Found, SearchPromise, readAnswer, readOf}
+use Rattle.planner.specs.Sheet.{Call, Reply, Searching, Leaves}
+use Rattle.planner.specs.Sheet.Call.{Mark, Search, Read}
+use Rattle.planner.specs.Sheet.Reply.{accepted, handed}
+use Rattle.simulator.specs.declared.UnitPlayed.{UnitPlayed}
 use Rattle.simulator.specs.Step.{stepAnswer, playOf}
 use Rattle.simulator.specs.Play.{placeAfter, unitAfter}
-use Rattle.simulator.specs.Claims.{Plays}
+use Rattle.simulator.specs.Claims.{PlaysAt, Plays, FoundPlan, HandedOut}
+use Rattle.simulator.proofs.Claims.{every-plan-plays, every-search-plays}
 
 -- Steps
 
 -- register 1 holds a word, the others 0
-abbrev holding : ℕ → Bank
+abbrev pub holding : ℕ → Bank
 holding w = record { r1 = w; r2 = 0; r3 = 0; r4 = 0 }
 
 -- an accepted step: whether a task has started, the next position, and register 1
-abbrev goes : Bool → ℕ → ℕ → Played
+abbrev goes : Bool → ℕ → ℕ → UnitPlayed
 goes started i w = record { answer = Done; started = started; position = i; bank = holding w }
 
 -- a refused step: position and register 1 stay
-abbrev stays : Refusal → ℕ → ℕ → Played
+abbrev stays : Refusal → ℕ → ℕ → UnitPlayed
 stays why i w = record { answer = Refused why; started = false; position = i; bank = holding w }
 
 -- The first turn of Fig. 1's plan 3 4
 
 -- a plan of a tag, K and S with the latencies 3 4
-abbrev plan : ℕ → ℕ → ℕ → Plan
+abbrev pub plan : ℕ → ℕ → ℕ → Plan
 plan tag count sum = record { tag = tag; count = count; sum = sum; latencies = 3 ∷ 4 ∷ replicate 254 0 }
 
 -- a number of functions, and the marks of Fig. 1: a word for each column, bit r - 1 for segment r
-abbrev marked1 : ℕ → FunctionUnit
+abbrev pub marked1 : ℕ → FunctionUnit
 marked1 functions = record {
   functions = functions;
   segments = 5;
@@ -71,10 +72,10 @@ marked1 functions = record {
   plan = plan 1 2 7;
 }
 
-abbrev figure1 : FunctionUnit
+abbrev pub figure1 : FunctionUnit
 figure1 = marked1 1
 
-abbrev three-four : Plan
+abbrev pub three-four : Plan
 three-four = plan 1 2 7
 
 -- starts at 0 and 3: there register 1 is shifted and the collision vector 10110001 ORed into it
@@ -130,10 +131,10 @@ ticks = refl
 
 -- A segment marked in two columns: the plan 1 does not play
 
-abbrev twice : FunctionUnit
+abbrev pub twice : FunctionUnit
 twice = record { functions = 1; segments = 1; columns = 2; marks = 1 ∷ 1 ∷ replicate 126 0; plan = noPlan }
 
-abbrev one : Plan
+abbrev pub one : Plan
 one = record { tag = 1; count = 1; sum = 1; latencies = 1 ∷ replicate 255 0 }
 
 pub second-refused : unitAfter twice one 1 ≡ stays NotGranted 0 1
@@ -141,25 +142,24 @@ unfolding noPlan placeAfter playOf stepAnswer soundOf marksInside marked someBel
 second-refused = refl
 
 pub twice-not : Plays twice one → ⊥
-twice-not p = never-done (sym (ap (λ (x : Played). x .answer) second-refused) ∙ p .each 1 .accepted)
+twice-not p = never-done (sym (ap (λ (x : UnitPlayed). x .answer) second-refused) ∙ p .each 1 .accepted)
+
+-- nor is its second unit a granted start; and on a unit that is not sound the ring does not move
+pub no-grant : PlaysAt twice one 1 → ⊥
+unfolding noPlan placeAfter playOf stepAnswer stepOf eventAnswer soundOf marksInside marked someBelow holdsCycle recordable same ringOf ringByte starts listBelow wordBelow register moved rowFor rowWord collides
+no-grant p = never-done (p .start refl .0)
+
+pub no-move : PlaysAt (marked1 0) three-four 1 → ⊥
+unfolding placeAfter playOf stepAnswer soundOf
+no-move p = omega (arith, p .position)
 
 -- Without the condition that no edit is accepted the claim fails: the plan 1 of a function without marks, which is then marked like `twice`
 
--- `FoundPlan` (specs/Claims.antt) without `quiet`
-pub record Unguarded (p : Plan) (left : FunctionUnit) : Type 0 where
-  pub unit : FunctionUnit
-  pub tag : ℕ
-  pub before : List ℕ
-  pub words : List ℕ
-  pub found : FunctionUnit
-  pub search : SearchPromise unit tag before words Done found
-  pub plan : p ≡ found .plan
-  pub later : List Call
-  pub told : List Reply
-  pub after : Leaves found later told left
+abbrev pub CarelessSearch : Type 0
+CarelessSearch = (p : Plan) (later : List Call) (told : List Reply) (left : FunctionUnit) → FoundPlan p later told left → Plays left p
 
-abbrev pub Careless : Type 0
-Careless = (p : Plan) (left : FunctionUnit) → Unguarded p left → Plays left p
+abbrev pub CarelessPlan : Type 0
+CarelessPlan = (p : Plan) (later : List Call) (told : List Reply) (left : FunctionUnit) → HandedOut p later told left → Plays left p
 
 -- the unit without marks
 abbrev clear : FunctionUnit
@@ -237,17 +237,59 @@ edits = (
   (twice, (record { answer = Done; unit = twice }, refl, refl, refl), refl),
 )
 
-pub careless-not : Careless → ⊥
-careless-not f =
-    twice-not (f one twice (record {
-      unit = clear;
-      tag = 1;
-      before = lent;
-      words = lent;
-      found = withPlan clear one;
-      search = one-promise;
-      plan = refl;
-      later = Mark 1 1 1 ∷ Mark 1 1 2 ∷ [];
-      told = accepted ∷ accepted ∷ [];
-      after = edits;
-    }))
+one-found-plan : (later : List Call) (told : List Reply) (left : FunctionUnit) → Leaves (withPlan clear one) later told left → FoundPlan one later told left
+one-found-plan later told left run = record {
+  unit = clear;
+  tag = 1;
+  before = lent;
+  words = lent;
+  found = withPlan clear one;
+  search = one-promise;
+  plan = refl;
+  stays = run;
+}
+
+-- the same from a fresh unit, with a read after the search
+searching : Searching clear 1 16000 accepted (withPlan clear one)
+searching = record {
+  before = lent;
+  words = lent;
+  lent = length-replicate {A = ℕ} 16000 0;
+  answer = Done;
+  promise = one-promise;
+  told = refl;
+}
+
+read-one : readOf (withPlan clear one) ≡ record { answer = Done; plan = one }
+unfolding readOf readAnswer freshOf noPlan soundOf marksInside marked someBelow
+read-one = refl
+
+one-handed : (later : List Call) (told : List Reply) (left : FunctionUnit) → Leaves (withPlan clear one) later told left → HandedOut one later told left
+one-handed later told left run = record {
+  functions = 1;
+  segments = 1;
+  columns = 2;
+  good = refl;
+  calls = Search 1 16000 ∷ [];
+  replies = accepted ∷ [];
+  unit = withPlan clear one;
+  leaves = (withPlan clear one, searching, refl);
+  handed = read-one;
+  stays = run;
+}
+
+pub careless-search : CarelessSearch → ⊥
+careless-search f = twice-not (f one (Mark 1 1 1 ∷ Mark 1 1 2 ∷ []) (accepted ∷ accepted ∷ []) twice (one-found-plan _ _ twice edits))
+
+pub careless-plan : CarelessPlan → ⊥
+careless-plan f = twice-not (f one (Mark 1 1 1 ∷ Mark 1 1 2 ∷ []) (accepted ∷ accepted ∷ []) twice (one-handed _ _ twice edits))
+
+-- With it the plan plays, also after a further read
+pub one-plays : Plays (withPlan clear one) one
+one-plays = every-plan-plays one [] [] (withPlan clear one) (one-handed [] [] (withPlan clear one) refl) tt
+
+pub one-plays-on : Plays (withPlan clear one) one
+one-plays-on = every-search-plays one (Read ∷ []) (handed one ∷ []) (withPlan clear one) (one-found-plan _ _ (withPlan clear one) one-read) tt
+  where
+    one-read : Leaves (withPlan clear one) (Read ∷ []) (handed one ∷ []) (withPlan clear one)
+    one-read = (withPlan clear one, (record { answer = Done; plan = one }, sym read-one, refl, refl), refl)

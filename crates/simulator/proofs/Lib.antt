@@ -2,4 +2,4 @@ pub mod PositionLaws
 pub mod StepLaws
 pub mod PlayLaws
 pub mod Claims
-mod Examples
+pub mod Examples

@@ -33,8 +33,8 @@ use Rattle.plan_record.specs.Write.{cycleIn, holdsCycle}
 use Rattle.plan_record.proofs.CycleLaws.{sum-all, sum-rises, total-least}
 use Rattle.plan_record.proofs.RingLaws.{start-has, start-of}
 use Rattle.plan_record.proofs.PlanLaws.{held}
-use Rattle.simulator.specs.declared.Played.{Played}
-use Rattle.simulator.specs.Step.{tagOf, bitOf, eventOf, following, playing, playOf}
+use Rattle.simulator.specs.declared.UnitPlayed.{UnitPlayed}
+use Rattle.simulator.specs.Step.{tagOf, bitOf, eventOf, positionAfter, playing, playOf}
 use Rattle.simulator.specs.Play.{Place, onward, placeAfter, unitAfter}
 use Rattle.simulator.specs.Claims.{PlaysAt, FallsOn, taskOf, Plays}
 use Rattle.simulator.specs.Inner.{OnRing, Playable}
@@ -123,7 +123,7 @@ module _ (p : Plan) (holds : holdsCycle p ≡ true) where
           absurd (omega (arith, interval-least cycle rising m (d .0), ap (startAt cycle) (d .1)))
 
   -- the position after n modulo S
-  following-is : (n : ℕ) → following p (n % p .sum) ≡ suc n % p .sum
+  following-is : (n : ℕ) → positionAfter p (n % p .sum) ≡ suc n % p .sum
   following-is n =
       by-test (eqb (n % p .sum + 1) (p .sum))
       (λ e.
@@ -224,8 +224,8 @@ module _ (p : Plan) (holds : holdsCycle p ≡ true) where
     place-is (suc n) =
         ap (λ (x : Place). onward (playOf u p (x .position) (x .bank))) (place-is n)
         ∙ (λ i. record {
-          position = (ap (λ (x : Played). x .position) (played-is n) ∙ following-is n) i;
-          bank = (ap (λ (x : Played). x .bank) (played-is n) ∙ sym (bank-next n (told n))) i;
+          position = (ap (λ (x : UnitPlayed). x .position) (played-is n) ∙ following-is n) i;
+          bank = (ap (λ (x : UnitPlayed). x .bank) (played-is n) ∙ sym (bank-next n (told n))) i;
         })
 
     unit-is : (n : ℕ) → unitAfter u p n ≡ playing Done u p (n % p .sum) (course n .bank)
@@ -238,7 +238,7 @@ module _ (p : Plan) (holds : holdsCycle p ≡ true) where
     bit-is n = ap (λ (x : Place). bitOf p (x .position)) (place-is n)
 
     started-is : (n : ℕ) → unitAfter u p n .started ≡ not (bitOf p (n % p .sum))
-    started-is n = ap (λ (x : Played). x .started) (unit-is n)
+    started-is n = ap (λ (x : UnitPlayed). x .started) (unit-is n)
 
     -- the event of the unit, granted, and the bank that it leaves
     abbrev Goes : ℕ → Event → Bool → Type 0
@@ -261,7 +261,7 @@ module _ (p : Plan) (holds : holdsCycle p ≡ true) where
     plays-at : (n : ℕ) → PlaysAt u p n
     plays-at n = record {
       position = ap (λ (x : Place). x .position) (place-is n);
-      accepted = ap (λ (x : Played). x .answer) (unit-is n);
+      accepted = ap (λ (x : UnitPlayed). x .answer) (unit-is n);
       start = λ e. let b = sym (bit-is n) ∙ e in goes n (Start (tagOf p)) false b (ap (λ b. cond b Tick (Start (tagOf p))) b);
       tick = λ e. let b = sym (bit-is n) ∙ e in goes n Tick true b (ap (λ b. cond b Tick (Start (tagOf p))) b);
     }

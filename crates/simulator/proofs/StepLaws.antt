@@ -26,8 +26,8 @@ use Rattle.plan_record.specs.Record.{starts}
 use Rattle.plan_record.specs.Write.{cycleIn, holdsCycle}
 use Rattle.plan_record.proofs.RingLaws.{ring-bit}
 use Rattle.plan_record.proofs.PlanLaws.{held}
-use Rattle.simulator.specs.declared.Played.{Played}
-use Rattle.simulator.specs.Step.{tagOf, bitOf, eventOf, stepAnswer, following, stopped, playing, playOf}
+use Rattle.simulator.specs.declared.UnitPlayed.{UnitPlayed}
+use Rattle.simulator.specs.Step.{tagOf, bitOf, eventOf, stepAnswer, positionAfter, stopped, playing, playOf}
 use Rattle.simulator.specs.Inner.{isStart, OnRing, Playable, ringAnswer}
 
 -- The event
@@ -74,8 +74,8 @@ module _ (u : FunctionUnit) (p : Plan) (i : ℕ) (b : Bank) (r : Playable u p i)
   unfolding playOf
   ring-refused why a = sym (ap (λ (x : Answer). playing x u p i b) (sym answered ∙ a))
 
-  pub ring-played : (started : Bool) (next : ℕ) → s .answer ≡ Done → started ≡ isStart e → next ≡ following p i
-      → _≡_ {A = Played} (record { answer = Done; started = started; position = next; bank = s .bank }) (playOf u p i b)
+  pub ring-played : (started : Bool) (next : ℕ) → s .answer ≡ Done → started ≡ isStart e → next ≡ positionAfter p i
+      → _≡_ {A = UnitPlayed} (record { answer = Done; started = started; position = next; bank = s .bank }) (playOf u p i b)
   unfolding playOf stepOf
   ring-played started next a st n =
       let done : eventAnswer u b e ≡ Done = ap (eventAnswer u b) same ∙ ring-answer u p i b r ∙ sym answered ∙ a in

@@ -58,9 +58,9 @@ NoEdit (Unmark q s c ∷ calls) (a ∷ replies) = (a ≡ accepted → ⊥) × No
 NoEdit (Search q room ∷ calls) (a ∷ replies) = NoEdit calls replies
 NoEdit (Read ∷ calls) (a ∷ replies) = NoEdit calls replies
 
--- The designer's condition, by what a search promises: the plan came from an accepted search on a unit, whatever came before, and no accepted edit
--- followed.
-pub record FoundPlan (p : Plan) (left : FunctionUnit) : Type 0 where
+-- The designer's condition: the plan came from an accepted search on a unit, whatever came before, and no accepted edit was among the calls that
+-- followed and left the unit that the bank uses.
+pub record FoundPlan (p : Plan) (later : List Call) (told : List Reply) (left : FunctionUnit) : Type 0 where
   pub unit : FunctionUnit
   pub tag : ℕ
   pub before : List ℕ
@@ -68,13 +68,14 @@ pub record FoundPlan (p : Plan) (left : FunctionUnit) : Type 0 where
   pub found : FunctionUnit
   pub search : SearchPromise unit tag before words Done found
   pub plan : p ≡ found .plan
-  pub later : List Call
-  pub told : List Reply
-  pub after : Leaves found later told left
-  pub quiet : NoEdit later told
+  pub stays : Leaves found later told left
 
--- The same by lists of calls: after calls on a fresh unit a read hands out the plan, and among the calls that follow no edit is accepted.
-pub record HandedOut (p : Plan) (left : FunctionUnit) : Type 0 where
+-- then the plan plays on that unit
+abbrev pub EverySearchPlays : Type 0
+EverySearchPlays = (p : Plan) (later : List Call) (told : List Reply) (left : FunctionUnit) → FoundPlan p later told left → NoEdit later told → Plays left p
+
+-- The same by lists of calls from a fresh unit: after the first a read hands out the plan, and the second leaves the unit.
+pub record HandedOut (p : Plan) (later : List Call) (told : List Reply) (left : FunctionUnit) : Type 0 where
   pub functions : ℕ
   pub segments : ℕ
   pub columns : ℕ
@@ -82,16 +83,9 @@ pub record HandedOut (p : Plan) (left : FunctionUnit) : Type 0 where
   pub calls : List Call
   pub replies : List Reply
   pub unit : FunctionUnit
-  pub before : Leaves (freshOf functions segments columns .unit) calls replies unit
+  pub leaves : Leaves (freshOf functions segments columns .unit) calls replies unit
   pub handed : readOf unit ≡ record { answer = Done; plan = p }
-  pub later : List Call
-  pub told : List Reply
-  pub after : Leaves unit later told left
-  pub quiet : NoEdit later told
-
--- then the plan plays on the unit that is left
-abbrev pub EverySearchPlays : Type 0
-EverySearchPlays = (p : Plan) (left : FunctionUnit) → FoundPlan p left → Plays left p
+  pub stays : Leaves unit later told left
 
 abbrev pub EveryPlanPlays : Type 0
-EveryPlanPlays = (p : Plan) (left : FunctionUnit) → HandedOut p left → Plays left p
+EveryPlanPlays = (p : Plan) (later : List Call) (told : List Reply) (left : FunctionUnit) → HandedOut p later told left → NoEdit later told → Plays left p

@@ -17,7 +17,7 @@ use Rattle.controller.specs.declared.Event.the-variants.{Tick, Start}
 use Rattle.controller.specs.Bank.{granted, moved}
 use Rattle.plan_record.specs.Record.{ringOf, ringBit}
 use Rattle.plan_record.specs.Write.{cycleIn, holdsCycle}
-use Rattle.simulator.specs.declared.Played.{Played}
+use Rattle.simulator.specs.declared.UnitPlayed.{UnitPlayed}
 
 -- the tag of a plan
 abbrev pub tagOf : Plan → Tag
@@ -40,17 +40,17 @@ stepAnswer u p i b =
     (check (bitOf p i || granted b (p .tag)) NotGranted Done)))
 
 -- the position after i: 0 after S - 1
-abbrev pub following : Plan → ℕ → ℕ
-following p i = cond (eqb (i + 1) (p .sum)) 0 (i + 1)
+abbrev pub positionAfter : Plan → ℕ → ℕ
+positionAfter p i = cond (eqb (i + 1) (p .sum)) 0 (i + 1)
 
 -- a refused step starts nothing and leaves position and bank
-abbrev pub stopped : Refusal → ℕ → Bank → Played
+abbrev pub stopped : Refusal → ℕ → Bank → UnitPlayed
 stopped why i b = record { answer = Refused why; started = false; position = i; bank = b }
 
 -- whether a task has started, the next position, and the bank after the event
-abbrev pub playing : Answer → FunctionUnit → Plan → ℕ → Bank → Played
-playing Done u p i b = record { answer = Done; started = not (bitOf p i); position = following p i; bank = moved u b (eventOf p i) }
+abbrev pub playing : Answer → FunctionUnit → Plan → ℕ → Bank → UnitPlayed
+playing Done u p i b = record { answer = Done; started = not (bitOf p i); position = positionAfter p i; bank = moved u b (eventOf p i) }
 playing (Refused why) u p i b = stopped why i b
 
-unfoldable pub playOf : FunctionUnit → Plan → ℕ → Bank → Played
+unfoldable pub playOf : FunctionUnit → Plan → ℕ → Bank → UnitPlayed
 playOf u p i b = playing (stepAnswer u p i b) u p i b

@@ -1,10 +1,10 @@
 // The simulator: plays a plan's ring beside a bank, a time unit at each step. It stands on the library's contracts and laws alone.
-// Every function here is proved, total and without a `requires`, but for a private one; the crate assumes nothing of its own.
+// Every public function here is proved, total and without a `requires`; the crate assumes nothing of its own.
 ghost use mathlib.Core.Path.{_≡_};
 ghost use Prim.Native.Nat.{_<_};
 ghost use Rattle.collision.specs.Pipeline.{total};
 ghost use Rattle.plan_record.specs.Record.{Recordable, starts};
-ghost use Rattle.simulator.specs.Step.{eventOf, following, stopped, playOf};
+ghost use Rattle.simulator.specs.Step.{eventOf, positionAfter, stopped, playOf};
 ghost use Rattle.simulator.specs.Inner.{isStart, OnRing, Playable, ringAnswer};
 ghost use Rattle.unit.specs.Calls.{andThen};
 use controller::Bank;
@@ -16,7 +16,7 @@ use unit::Refusal;
 use unit::Tag;
 
 // What a step answers: whether a task has started, and the position and the bank for the next step.
-pub struct Played {
+pub struct UnitPlayed {
     pub answer: Answer,
     pub started: bool,
     pub position: u16,
@@ -62,7 +62,7 @@ fn is_start(event: Event) -> bool
 // The position after one of the ring.
 fn position_after(plan: Plan, position: u16) -> u16
     requires { ⌜ OnRing plan position ⌝ }
-    ensures { λ r. ⌜ r ≡ following plan position ⌝ }
+    ensures { λ r. ⌜ r ≡ positionAfter plan position ⌝ }
 {
     if position + 1 == plan.sum {
         return 0;
@@ -71,10 +71,10 @@ fn position_after(plan: Plan, position: u16) -> u16
 }
 
 // No step, and why.
-fn refused(why: Refusal, position: u16, bank: Bank) -> Played
+fn refused(why: Refusal, position: u16, bank: Bank) -> UnitPlayed
     ensures { λ r. ⌜ r ≡ stopped why position bank ⌝ }
 {
-    Played {
+    UnitPlayed {
         answer: Answer::Refused(why),
         started: false,
         position,
@@ -83,7 +83,7 @@ fn refused(why: Refusal, position: u16, bank: Bank) -> Played
 }
 
 // A step on the ring.
-fn play(u: FunctionUnit, plan: Plan, position: u16, bank: Bank) -> Played
+fn play(u: FunctionUnit, plan: Plan, position: u16, bank: Bank) -> UnitPlayed
     requires { ⌜ Playable u plan position ⌝ }
     ensures { λ r. ⌜ r ≡ playOf u plan position bank ⌝ }
 {
@@ -96,7 +96,7 @@ fn play(u: FunctionUnit, plan: Plan, position: u16, bank: Bank) -> Played
             let started = is_start(event);
             let next = position_after(plan, position);
             let moved = after.bank;
-            Played {
+            UnitPlayed {
                 answer: Answer::Done,
                 started,
                 position: next,
@@ -130,7 +130,7 @@ fn and_then(first: Answer, second: Answer) -> Answer
 }
 
 // One time unit of a plan: a start of its tag where its ring has a 0, else a tick. A refused step leaves position and bank.
-pub fn step(u: FunctionUnit, plan: Plan, position: u16, bank: Bank) -> Played
+pub fn step(u: FunctionUnit, plan: Plan, position: u16, bank: Bank) -> UnitPlayed
     ensures { λ r. ⌜ r ≡ playOf u plan position bank ⌝ }
 {
     let known = unit::check_tag(u, Tag(plan.tag));

@@ -7,6 +7,7 @@ use controller::Bank;
 use controller::Event;
 use cycles::GreedyAnswer;
 use judge::Verdict;
+use simulator::UnitPlayed;
 use unit::Answer;
 use unit::FunctionUnit;
 use unit::Outcome;
@@ -412,16 +413,19 @@ fn show_tick(u: FunctionUnit, bank: Bank) -> Bank {
     stepped.bank
 }
 
-// The cycle (B1, A3) of the figure: B one time unit after A, and A three after B, with starts tried in between.
-fn try_controller() {
-    let u = figure_2();
-    let empty = Bank {
+fn empty_bank() -> Bank {
+    Bank {
         r1: 0,
         r2: 0,
         r3: 0,
         r4: 0,
-    };
-    let at_1 = show_start(u, empty, 1, b"A");
+    }
+}
+
+// The cycle (B1, A3) of the figure: B one time unit after A, and A three after B, with starts tried in between.
+fn try_controller() {
+    let u = figure_2();
+    let at_1 = show_start(u, empty_bank(), 1, b"A");
     let at_2 = show_start(u, at_1, 2, b"B");
     let same_2 = show_start(u, at_2, 1, b"A");
     let still_2 = show_start(u, same_2, 2, b"B");
@@ -432,6 +436,75 @@ fn try_controller() {
     let at_5 = show_start(u, same_4, 1, b"A");
     let same_5 = show_start(u, at_5, 1, b"A");
     show_start(u, same_5, 2, b"B");
+}
+
+fn print_step(played: UnitPlayed) {
+    let answer = played.answer;
+    match answer {
+        Answer::Refused(why) => print_refusal(why),
+        Answer::Done => {
+            if played.started {
+                io::write_all(1, b" start then");
+            } else {
+                io::write_all(1, b" tick then");
+            }
+            print_number(played.position as u32);
+        }
+    }
+}
+
+fn show_step(what: &[u8], u: FunctionUnit, plan: Plan, position: u16, bank: Bank) -> UnitPlayed {
+    let played = simulator::step(u, plan, position, bank);
+    begin(b"fig 1 step", what);
+    print_step(played);
+    end_line();
+    played
+}
+
+// The next step of a plan that is played.
+fn show_next(u: FunctionUnit, plan: Plan, before: UnitPlayed) -> UnitPlayed {
+    show_step(b"", u, plan, before.position, before.bank)
+}
+
+// A turn of the ring of 3 4, and the first unit of the next.
+fn try_turn(u: FunctionUnit, plan: Plan) {
+    let after_1 = show_step(b"", u, plan, 0, empty_bank());
+    let after_2 = show_next(u, plan, after_1);
+    let after_3 = show_next(u, plan, after_2);
+    let after_4 = show_next(u, plan, after_3);
+    let after_5 = show_next(u, plan, after_4);
+    let after_6 = show_next(u, plan, after_5);
+    let after_7 = show_next(u, plan, after_6);
+    show_next(u, plan, after_7);
+    show_step(b" at 0 after a start", u, plan, 0, after_1.bank);
+}
+
+// A plan of tag 0, whatever else it holds.
+fn without_tag(plan: Plan) -> Plan {
+    let latencies = plan.latencies;
+    Plan {
+        tag: 0,
+        count: plan.count,
+        sum: plan.sum,
+        latencies,
+    }
+}
+
+fn try_simulator() {
+    let found = searched(figure_1());
+    let u = found.unit;
+    let plan = u.plan;
+    try_turn(u, plan);
+    show_step(b" at 7", u, plan, 7, empty_bank());
+    show_step(b" of tag 0", u, without_tag(plan), 7, empty_bank());
+    let made = unit::fresh(5, 5, 9);
+    show_step(
+        b" on no unit",
+        made.unit,
+        without_tag(plan),
+        7,
+        empty_bank(),
+    );
 }
 
 fn try_other_tables() {
@@ -546,6 +619,7 @@ fn main() {
     try_judge();
     try_figure_2();
     try_controller();
+    try_simulator();
     try_other_tables();
     try_limit();
     try_stale_plan();

@@ -1,7 +1,7 @@
 -- `chart::chart` meets its contract. Assumes nothing.
 use mathlib.Core.Path.{sym, _∙_}
-use Rattle.chart.proofs.ChartLaws.{none-refused, chart-room, chart-refused, chart-drawn}
 use borrow.Author.Needs.{needs}
+use Rattle.chart.proofs.ChartLaws.{none-refused, chart-room, chart-refused, chart-drawn}
 use Rattle.chart.proofs.chart.Statement.{statement}
 use Rattle.chart.proofs.chart.Tie as tie
 

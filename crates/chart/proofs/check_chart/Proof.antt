@@ -1,7 +1,7 @@
 -- `chart::check_chart` meets its contract. Assumes nothing.
 use mathlib.Core.Path.{sym, _∙_}
-use Rattle.chart.proofs.ChartLaws.{refused-plan, refused-short, refused-unit}
 use borrow.Author.Needs.{needs}
+use Rattle.chart.proofs.ChartLaws.{refused-plan, refused-short, refused-unit}
 use Rattle.chart.proofs.check_chart.Statement.{statement}
 use Rattle.chart.proofs.check_chart.Tie as tie
 

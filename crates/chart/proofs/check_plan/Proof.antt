@@ -1,7 +1,7 @@
 -- `chart::check_plan` meets its contract. Assumes nothing.
 use mathlib.Core.Path.{sym, _∙_}
-use Rattle.chart.proofs.ChartLaws.{ready-plan, plan-unknown, plan-bad}
 use borrow.Author.Needs.{needs}
+use Rattle.chart.proofs.ChartLaws.{ready-plan, plan-unknown, plan-bad}
 use Rattle.chart.proofs.check_plan.Statement.{statement}
 use Rattle.chart.proofs.check_plan.Tie as tie
 

@@ -1,6 +1,6 @@
 -- `chart::simulate` meets its contract. Assumes nothing.
-use Rattle.chart.proofs.ChartLaws.{own-refused, own-drawn}
 use borrow.Author.Needs.{needs}
+use Rattle.chart.proofs.ChartLaws.{own-refused, own-drawn}
 use Rattle.chart.proofs.simulate.Statement.{statement}
 use Rattle.chart.proofs.simulate.Tie as tie
 

@@ -1,8 +1,8 @@
 -- `function_plan::refused` meets its contract. Assumes nothing.
 use mathlib.Core.Path.{ap}
-use Rattle.unit.specs.declared.Plan.{Plan}
-use Rattle.unit.specs.declared.Answer.the-variants.{Refused}
 use borrow.Author.Needs.{needs}
+use Rattle.unit.specs.declared.Answer.the-variants.{Refused}
+use Rattle.unit.specs.declared.Plan.{Plan}
 use Rattle.function_plan.proofs.refused.Statement.{statement}
 use Rattle.function_plan.proofs.refused.Tie as tie
 

@@ -1,8 +1,8 @@
 -- `simulator::and_then` meets its contract. Assumes nothing.
 use mathlib.Core.Path.{sym, ap}
-use Rattle.unit.specs.declared.Answer.{Answer}
-use Rattle.unit.specs.Calls.{andThen}
 use borrow.Author.Needs.{needs}
+use Rattle.unit.specs.Calls.{andThen}
+use Rattle.unit.specs.declared.Answer.{Answer}
 use Rattle.simulator.proofs.and_then.Statement.{statement}
 use Rattle.simulator.proofs.and_then.Tie as tie
 

@@ -1,7 +1,7 @@
 -- `simulator::check_ring` meets its contract. Assumes nothing.
+use borrow.Author.Needs.{needs}
 use Rattle.words.proofs.Tests.{on, off}
 use Rattle.simulator.proofs.StepLaws.{ring-not, ring-beyond, ring-done}
-use borrow.Author.Needs.{needs}
 use Rattle.simulator.proofs.check_ring.Statement.{statement}
 use Rattle.simulator.proofs.check_ring.Tie as tie
 

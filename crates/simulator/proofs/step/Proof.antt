@@ -1,8 +1,8 @@
 -- `simulator::step` meets its contract. Assumes nothing.
 use mathlib.Core.Path.{sym, ap₂, _∙_}
+use borrow.Author.Needs.{needs}
 use Rattle.unit.specs.Calls.{andThen}
 use Rattle.simulator.proofs.StepLaws.{step-refused, step-ready}
-use borrow.Author.Needs.{needs}
 use Rattle.simulator.proofs.step.Statement.{statement}
 use Rattle.simulator.proofs.step.Tie as tie
 

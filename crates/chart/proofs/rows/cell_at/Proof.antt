@@ -1,15 +1,14 @@
 -- `chart::rows::cell_at` meets its contract. Assumes nothing.
-use mathlib.Core.Path.{sym, ap, ap₂, _∙_}
-use mathlib.Core.Bool.{Bool}
-use native.Mathlib.Nat.{le-antisymm}
-use lib.ListN.{getD}
-use Rattle.words.specs.Bits.{isSet}
 use Prim.Native.Nat.{ℕ, _+_, _-_, _≤_}
-use mathlib.Core.Path.{_≡_}
+use mathlib.Core.Bool.{Bool}
+use mathlib.Core.Path.{sym, ap, ap₂, _∙_, _≡_}
+use native.Mathlib.Nat.{le-antisymm}
 use native.Mathlib.Omega.{arith}
 use borrow.Author.Needs.{needs}
-use Rattle.chart.specs.Cells.{cellOf}
-use Rattle.chart.specs.Inner.{marksIn, rowIn, nextCell}
+use lib.ListN.{getD}
+use Rattle.words.specs.Bits.{isSet}
+use Rattle.chart.specs.Cells.{nextCell, cellOf}
+use Rattle.chart.specs.Inner.{marksIn, rowIn}
 use Rattle.chart.proofs.CellLaws.{cell-none, cell-more}
 use Rattle.chart.proofs.rows.cell_at.Statement.{statement}
 use Rattle.chart.proofs.rows.cell_at.Tie as tie

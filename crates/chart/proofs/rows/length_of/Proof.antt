@@ -2,11 +2,11 @@
 use Prim.Native.Nat.{_+_, _*_, _≤_}
 use mathlib.Core.Path.{_≡_, ap}
 use native.Mathlib.Omega.{arith}
+use borrow.Author.Needs.{needs}
 use Rattle.text.proofs.DecimalLaws.{decimal-some}
 use Rattle.chart.specs.Inner.{lineLength}
 use Rattle.chart.proofs.DigitLaws.{one-digit}
 use Rattle.chart.proofs.LineLaws.{digits-few, lines-few}
-use borrow.Author.Needs.{needs}
 use Rattle.chart.proofs.rows.length_of.Statement.{statement}
 use Rattle.chart.proofs.rows.length_of.Tie as tie
 

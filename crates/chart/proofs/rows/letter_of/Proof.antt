@@ -1,9 +1,9 @@
 -- `chart::rows::letter_of` meets its contract. Assumes nothing.
 use Prim.Native.Nat.{_+_, _%_}
-use mathlib.Core.Path.{sym, ap}
 use mathlib.Core.Bool.{cond}
-use borrow.Author.Tests.{lt-ltb, le-ltb}
+use mathlib.Core.Path.{sym, ap}
 use borrow.Author.Needs.{needs}
+use borrow.Author.Tests.{lt-ltb, le-ltb}
 use Rattle.chart.proofs.rows.letter_of.Statement.{statement}
 use Rattle.chart.proofs.rows.letter_of.Tie as tie
 

@@ -1,7 +1,7 @@
 -- `chart::rows::next_cell` meets its contract. Assumes nothing.
+use borrow.Author.Needs.{needs}
 use borrow.Author.Tests.{not-true, not-false}
 use Rattle.chart.specs.Inner.{rowIn}
-use borrow.Author.Needs.{needs}
 use Rattle.chart.proofs.CellLaws.{next-early, next-unmarked, next-free, next-taken}
 use Rattle.chart.proofs.rows.next_cell.Statement.{statement}
 use Rattle.chart.proofs.rows.next_cell.Tie as tie

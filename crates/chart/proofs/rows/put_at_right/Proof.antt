@@ -1,13 +1,13 @@
 -- `chart::rows::put_at_right` meets its contract. Assumes nothing.
-use native.Mathlib.Omega.{arith}
-use mathlib.Core.Path.{ap, _∙_}
 use mathlib.Core.List.{_++_}
+use mathlib.Core.Path.{ap, _∙_}
+use native.Mathlib.Omega.{arith}
+use borrow.Author.Needs.{needs}
 use lib.ListN.{length, replicate}
 use Rattle.text.specs.Text.{decimal}
 use Rattle.text.proofs.BoundedLaws.{put-one, put-word, put-as}
 use Rattle.chart.proofs.DigitLaws.{digits-most}
 use Rattle.chart.proofs.LineLaws.{blank-front, blank-length, digits-few}
-use borrow.Author.Needs.{needs}
 use Rattle.chart.proofs.rows.put_at_right.Statement.{statement}
 use Rattle.chart.proofs.rows.put_at_right.Tie as tie
 

@@ -1,16 +1,15 @@
 -- `chart::rows::put_cells` meets its contract. Assumes nothing.
-use mathlib.Core.Path.{ap, _∙_}
-use mathlib.Core.Bool.{not}
-use native.Mathlib.Nat.{le-antisymm}
-use lib.Dec.{eqb}
 use Prim.Native.Nat.{_+_, _-_, _≤_}
-use mathlib.Core.Path.{_≡_}
+use mathlib.Core.Bool.{not}
+use mathlib.Core.Path.{ap, _∙_, _≡_}
+use native.Mathlib.Nat.{le-antisymm}
 use native.Mathlib.Omega.{arith}
 use borrow.Author.Needs.{needs}
-use Rattle.chart.specs.Text.{busy}
+use lib.Dec.{eqb}
 use Rattle.chart.specs.Inner.{cellsIn}
-use Rattle.chart.proofs.FillLaws.{Filled, filled-none, filled-more, filled-all}
+use Rattle.chart.specs.Text.{busy}
 use Rattle.chart.proofs.CellLaws.{byte-most, busy-none, busy-most, busy-more, cells-kept}
+use Rattle.chart.proofs.FillLaws.{Filled, filled-none, filled-more, filled-all}
 use Rattle.chart.proofs.rows.put_cells.Statement.{statement}
 use Rattle.chart.proofs.rows.put_cells.Tie as tie
 

@@ -2,10 +2,10 @@
 use Prim.Native.Nat.{_+_, _*_}
 use native.Mathlib.Nat.{le-refl}
 use native.Mathlib.Omega.{arith}
+use borrow.Author.Needs.{needs}
 use Rattle.text.proofs.BoundedLaws.{put-more, put-as, put-room}
 use Rattle.chart.specs.Inner.{topLength, lineLength}
 use Rattle.chart.proofs.ChartLaws.{ready-sound, row-stands, top-end, chart-parts}
-use borrow.Author.Needs.{needs}
 use Rattle.chart.proofs.rows.put_chart.Statement.{statement}
 use Rattle.chart.proofs.rows.put_chart.Tie as tie
 

@@ -2,10 +2,10 @@
 use mathlib.Core.Path.{refl}
 use native.Mathlib.Nat.{le-refl}
 use native.Mathlib.Omega.{arith}
+use borrow.Author.Needs.{needs}
 use lib.ListN.{length}
 use Rattle.text.specs.Text.{decimal}
 use Rattle.text.proofs.BoundedLaws.{put-one, put-more, put-word, put-as, put-room}
-use borrow.Author.Needs.{needs}
 use Rattle.chart.proofs.rows.put_count.Statement.{statement}
 use Rattle.chart.proofs.rows.put_count.Tie as tie
 

@@ -1,12 +1,12 @@
 -- `chart::rows::put_name` meets its contract. Assumes nothing.
 use Prim.Native.Nat.{_≤_}
 use native.Mathlib.Omega.{arith}
+use borrow.Author.Needs.{needs}
 use lib.ListN.{length}
 use Rattle.text.specs.Text.{decimal}
-use Rattle.text.proofs.DecimalLaws.{decimal-length}
 use Rattle.text.proofs.BoundedLaws.{put-one, put-word, put-as}
+use Rattle.text.proofs.DecimalLaws.{decimal-length}
 use Rattle.chart.proofs.LineLaws.{name-one, name-two}
-use borrow.Author.Needs.{needs}
 use Rattle.chart.proofs.rows.put_name.Statement.{statement}
 use Rattle.chart.proofs.rows.put_name.Tie as tie
 

@@ -1,6 +1,7 @@
 -- `chart::rows::put_segment` meets its contract. Assumes nothing.
 use Prim.Native.Nat.{_+_, _*_}
 use native.Mathlib.Omega.{arith}
+use borrow.Author.Needs.{needs}
 use lib.ListN.{length}
 use Rattle.text.specs.Text.{decimal}
 use Rattle.text.proofs.BoundedLaws.{put-more, put-as, put-room}
@@ -8,7 +9,6 @@ use Rattle.chart.specs.Inner.{cellsIn}
 use Rattle.chart.proofs.CellLaws.{busy-most}
 use Rattle.chart.proofs.LineLaws.{line-is}
 use Rattle.chart.proofs.SegmentLaws.{row-kept, segment-all, cells-put}
-use borrow.Author.Needs.{needs}
 use Rattle.chart.proofs.rows.put_segment.Statement.{statement}
 use Rattle.chart.proofs.rows.put_segment.Tie as tie
 

@@ -1,16 +1,16 @@
 -- `chart::rows::put_segments` meets its contract. Assumes nothing.
+use Prim.Native.Nat.{_+_, _-_, _*_, _≤_}
 use mathlib.Core.Path.{_≡_, ap}
 use native.Mathlib.Nat.{le-refl, le-of-eq, le-antisymm}
-use Rattle.chart.specs.Text.{segmentLine}
-use Rattle.chart.proofs.SegmentLaws.{row-kept, line-same}
-use Prim.Native.Nat.{_+_, _-_, _*_, _≤_}
 use native.Mathlib.Omega.{arith}
 use lib.ListN.{length}
 use Rattle.text.specs.Wrote.{Put}
-use Rattle.text.proofs.WroteLaws.{wrote-length}
 use Rattle.text.proofs.BoundedLaws.{put-as, put-room, put-join-start, put-join-more}
+use Rattle.text.proofs.WroteLaws.{wrote-length}
 use Rattle.chart.specs.Inner.{cellsIn, linesText, lineLength, rowFrom}
+use Rattle.chart.specs.Text.{segmentLine}
 use Rattle.chart.proofs.LineLaws.{line-room}
+use Rattle.chart.proofs.SegmentLaws.{row-kept, line-same}
 use Rattle.chart.proofs.rows.put_segments.Statement.{statement}
 use Rattle.chart.proofs.rows.put_segments.Tie as tie
 

@@ -4,8 +4,8 @@ use mathlib.Core.Path.{_≡_}
 use native.Mathlib.Omega.{arith}
 use borrow.Author.Needs.{needs}
 use Rattle.chart.specs.Cells.{tasksBefore, startCell}
-use Rattle.chart.proofs.FillLaws.{Filled, filled-none, filled-more, filled-wrote}
 use Rattle.chart.proofs.CellLaws.{At, at-start, at-next, byte-most, tasks-most, tasks-none, tasks-next, start-next}
+use Rattle.chart.proofs.FillLaws.{Filled, filled-none, filled-more, filled-wrote}
 use Rattle.chart.proofs.rows.put_starts.Statement.{statement}
 use Rattle.chart.proofs.rows.put_starts.Tie as tie
 

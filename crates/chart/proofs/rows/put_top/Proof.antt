@@ -1,11 +1,11 @@
 -- `chart::rows::put_top` meets its contract. Assumes nothing.
-use native.Mathlib.Omega.{arith}
-use Rattle.text.proofs.BoundedLaws.{put-one, put-more, put-word, put-as, put-room}
 use mathlib.Core.Path.{refl}
+use native.Mathlib.Omega.{arith}
+use borrow.Author.Needs.{needs}
+use Rattle.text.proofs.BoundedLaws.{put-one, put-more, put-word, put-as, put-room}
 use Rattle.chart.specs.Cells.{startCell}
 use Rattle.chart.specs.Text.{unitDigit}
 use Rattle.chart.proofs.LineLaws.{row-put}
-use borrow.Author.Needs.{needs}
 use Rattle.chart.proofs.rows.put_top.Statement.{statement}
 use Rattle.chart.proofs.rows.put_top.Tie as tie
 

@@ -1,7 +1,7 @@
 -- `chart::rows::spaces_before` meets its contract. Assumes nothing.
 use Prim.Native.Nat.{_/_, _^_, _<_}
-use mathlib.Core.Path.{sym, subst}
 use mathlib.Core.Logic.{⊎-elim}
+use mathlib.Core.Path.{sym, subst}
 use native.Mathlib.Omega.{arith}
 use borrow.Author.Needs.{needs}
 use Rattle.text.proofs.DecimalLaws.{decimal-length}
