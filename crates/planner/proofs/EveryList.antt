@@ -118,7 +118,7 @@ plan-sound : (q n : ℕ) → 1 ≤ n → n ≤ 256 → soundPlan q n ≡ true
 plan-sound q n a b = simp (inside-of n 256 a b) (cond-same (eqb q 0) true)
 
 -- a unit with another plan has the same marks
-plan-marks : (u : FunctionUnit) (p : Plan) → marked (withPlan u p) ≡ marked u
+pub plan-marks : (u : FunctionUnit) (p : Plan) → marked (withPlan u p) ≡ marked u
 unfolding marked
 plan-marks u p = refl
 

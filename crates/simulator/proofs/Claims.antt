@@ -23,11 +23,11 @@ use Rattle.unit.proofs.EndLaws.{then-both}
 use Rattle.unit.proofs.EditLaws.{mark-answer, unmark-answer, mark-refused, unmark-refused}
 use Rattle.collision.specs.Pipeline.{NeverCollides}
 use Rattle.planner.specs.declared.Handed.{Handed}
-use Rattle.planner.specs.Plans.{Best, planOf, withPlan, searchAnswer, Found, readAnswer, handing, readOf}
+use Rattle.planner.specs.Plans.{Best, planOf, searchAnswer, Found, readAnswer, handing, readOf}
 use Rattle.planner.specs.Sheet.{Call, Reply, replyTo, Step, Sheet, start, fed, Owed, Leaves, Noted}
 use Rattle.planner.specs.Sheet.Call.{Mark, Unmark, Search, Read}
 use Rattle.planner.specs.Sheet.Reply.{accepted}
-use Rattle.planner.proofs.EveryList.{every-unit, found-sound}
+use Rattle.planner.proofs.EveryList.{plan-marks, found-sound, every-unit}
 use Rattle.plan_record.specs.Write.{cycleIn, holdsCycle}
 use Rattle.plan_record.proofs.Claims.{holds-exactly}
 use Rattle.function_plan.proofs.Claims.{best-recordable, planned}
@@ -86,10 +86,6 @@ same-unit u after e = record { functions = ap (λ (x : FunctionUnit). x .functio
 
 same-then : {u v w : FunctionUnit} → SameMarks u v → SameMarks v w → SameMarks u w
 same-then a b = record { functions = b .functions ∙ a .functions; marks = b .marks ∙ a .marks; sound = λ s. b .sound (a .sound s) }
-
-plan-marks : (u : FunctionUnit) (p : Plan) → marked (withPlan u p) ≡ marked u
-unfolding marked
-plan-marks u p = refl
 
 found-same : (u : FunctionUnit) (q : ℕ) (after : FunctionUnit) → Found u q after → SameMarks u after
 found-same u q after f = record {
