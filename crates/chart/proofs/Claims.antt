@@ -9,10 +9,10 @@ use native.Mathlib.Decide.{decLt}
 use native.Mathlib.Nat.{le-dest, eq-or-lt-of-le, mul-le-mul}
 use native.Mathlib.Numerals.{add-one}
 use native.Mathlib.Omega.{arith}
-use borrow.Author.Tests.{le-leb, leb-true, leb-false, ne-eqb, eqb-false, ltb-true, ltb-false, not-true}
+use borrow.Author.Tests.{lt-ltb, le-leb, leb-true, leb-false, ne-eqb, eqb-false, ltb-true, ltb-false, not-true}
 use lib.Dec.{leb, ltb, eqb}
 use lib.ListN.{length}
-use Rattle.words.proofs.Tests.{and-left, and-right, and-true, not-passed}
+use Rattle.words.proofs.Tests.{nowhere, and-left, and-right, and-true, not-passed}
 use Rattle.words.proofs.BelowLaws.{count-more}
 use Rattle.text.proofs.DecimalLaws.{decimal-length}
 use Rattle.unit.specs.declared.Plan.{Plan}
@@ -32,10 +32,11 @@ use Rattle.collision.proofs.StartLaws.{interval-least}
 use Rattle.controller.specs.declared.Bank.{Bank}
 use Rattle.controller.specs.Bank.{granted}
 use Rattle.plan_record.specs.Write.{cycleIn, holdsCycle}
+use Rattle.plan_record.proofs.CycleLaws.{total-least}
 use Rattle.plan_record.proofs.PlanLaws.{held}
 use Rattle.planner.specs.Plans.{searchAnswer}
 use Rattle.function_plan.proofs.Claims.{own-exactly, tag-taken}
-use Rattle.simulator.specs.Step.{bitOf, stepAnswer, playing, playOf}
+use Rattle.simulator.specs.Step.{bitOf, positionAfter, stepAnswer, playing, playOf}
 use Rattle.simulator.specs.Play.{placeAfter, unitAfter}
 use Rattle.simulator.specs.Claims.{FallsOn, Plays, FoundPlan}
 use Rattle.simulator.proofs.Claims.{every-search-plays}
@@ -44,7 +45,7 @@ use Rattle.chart.specs.declared.Charted.the-variants as Charted
 use Rattle.chart.specs.Cells.{letter, none, tasksBefore, startCell, cellOf, segmentCell}
 use Rattle.chart.specs.Text.{chartOf}
 use Rattle.chart.specs.Answers.{planAnswer, unitsAnswer, charted, chartRefusal, chartAnswer, simulateRefusal, simulateAnswer}
-use Rattle.chart.specs.Claims.{PlaysShown, SearchCharted, LettersApart, ChartFits}
+use Rattle.chart.specs.Claims.{PlaysShown, SearchCharted, TenAlone, LettersApart, ChartFits}
 use Rattle.chart.specs.Inner.{Ready, lineLength}
 use Rattle.chart.proofs.CellLaws.{tasks-none, units-none, units-more}
 use Rattle.chart.proofs.LineLaws.{line-is}
@@ -90,6 +91,10 @@ letters-apart u sound q cycle rising r s time j k h x y e =
     let first = column-least u q s (y .column) (y .marked) in
     let near : k < j + 32 = omega (arith, apart, ap (startAt cycle) at, x .moment, y .moment, last, most, first, d .1) in
     omega (arith, letter-place j k e, near)
+
+abbrev why-of : Answer → Refusal
+why-of Done = NotGranted
+why-of (Refused why) = why
 
 step-says : (a : Answer) (u : FunctionUnit) (p : Plan) (i : ℕ) (b : Bank) → playing a u p i b .answer ≡ a
 step-says Done u p i b = refl
@@ -286,6 +291,56 @@ plays-shown u p plays = record {
   busy = shown-busy u p plays;
   idle = shown-idle u p plays;
 }
+
+-- 10
+
+module _ (u : FunctionUnit) (p : Plan) (r : Ready u p) where
+  some : 0 < p .sum
+  some = let h = held p (r .holds) in omega (arith, h .holds .sum, total-least (cycleIn p) (h .cycle))
+
+  after-below : (i : ℕ) → i < p .sum → positionAfter p i < p .sum
+  after-below i h = go (eqb (i + 1) (p .sum)) refl
+    where
+      go : (b : Bool) → eqb (i + 1) (p .sum) ≡ b → cond b 0 (i + 1) < p .sum
+      go true e = some
+      go false e = let n = eqb-false (i + 1) (p .sum) e in omega arith
+
+  -- the ring stays on itself
+  place-below : (n : ℕ) → placeAfter u p n .position < p .sum
+  unfolding placeAfter playOf
+  place-below zero = some
+  place-below (suc n) = go (stepAnswer u p (placeAfter u p n .position) (placeAfter u p n .bank)) (place-below n)
+    where
+      go : (a : Answer) → placeAfter u p n .position < p .sum → playing a u p (placeAfter u p n .position) (placeAfter u p n .bank) .position < p .sum
+      go Done h = after-below (placeAfter u p n .position) h
+      go (Refused why) h = h
+
+  ten-step : (i : ℕ) (b : Bank) (why : Refusal) → i < p .sum → playOf u p i b .answer ≡ Refused why → why ≡ NotGranted
+  unfolding playOf stepAnswer
+  ten-step i b why h e =
+      let a = tag-accepted u (p .tag) (r .tag) in
+      go (soundOf u) (inside (p .tag) (u .functions)) (holdsCycle p && ltb i (p .sum)) (bitOf p i || granted b (p .tag)) (a .sound) (a .tag)
+      (and-true (r .holds) (lt-ltb i (p .sum) h)) (sym (step-says (stepAnswer u p i b) u p i b) ∙ e)
+    where
+      go : (s m l g : Bool) → s ≡ true → m ≡ true → l ≡ true
+          → check s NotSound (check m NoSuchTag (check l BadRecord (check g NotGranted Done))) ≡ Refused why → why ≡ NotGranted
+      go true true true true x y z e = never-done (sym e)
+      go true true true false x y z e = sym (ap why-of e)
+      go true true false g x y z e = nowhere z
+      go true false l g x y z e = nowhere y
+      go false m l g x y z e = nowhere x
+
+  ten-units : (n : ℕ) (why : Refusal) → unitsAnswer u p n ≡ Refused why → why ≡ NotGranted
+  unfolding unitsAnswer
+  ten-units zero why e = never-done (sym e)
+  ten-units (suc n) why e = go (unitsAnswer u p n) refl e (ten-units n why)
+    where
+      go : (a : Answer) → unitsAnswer u p n ≡ a → andThen a (unitAfter u p n .answer) ≡ Refused why → (unitsAnswer u p n ≡ Refused why → why ≡ NotGranted) → why ≡ NotGranted
+      go Done d e f = ten-step (placeAfter u p n .position) (placeAfter u p n .bank) why (place-below n) e
+      go (Refused w) d e f = f (d ∙ e)
+
+pub ten-alone : TenAlone
+ten-alone u p n why d e = ten-units u p (plan-ready u p d) n why e
 
 -- After a search
 

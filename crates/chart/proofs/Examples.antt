@@ -81,6 +81,11 @@ refused-2 : unitsAnswer twice one 2 ≡ Refused NotGranted
 unfolding noPlan unitsAnswer placeAfter playOf stepAnswer soundOf marksInside marked someBelow holdsCycle recordable same ringOf ringByte starts listBelow wordBelow register moved rowFor rowWord collides
 refused-2 = refl
 
+-- and on a unit that is not sound a unit is refused by 1
+pub not-ten : unitsAnswer (marked1 0) three-four 1 ≡ Refused NotSound
+unfolding unitsAnswer placeAfter playOf stepAnswer soundOf
+not-ten = refl
+
 pub not-shown : ChartShows twice one → ⊥
 not-shown s = never-done (sym refused-2 ∙ s .played 2)
 

@@ -6,8 +6,9 @@ use mathlib.Core.List.{List}
 use lib.ListN.{length}
 use Rattle.unit.specs.declared.Plan.{Plan}
 use Rattle.unit.specs.declared.FunctionUnit.{FunctionUnit}
-use Rattle.unit.specs.declared.Refusal.the-variants.{ShortOutput}
-use Rattle.unit.specs.declared.Answer.the-variants.{Done}
+use Rattle.unit.specs.declared.Refusal.{Refusal}
+use Rattle.unit.specs.declared.Refusal.the-variants.{ShortOutput, NotGranted}
+use Rattle.unit.specs.declared.Answer.the-variants.{Done, Refused}
 use Rattle.unit.specs.Unit.{marked, soundOf}
 use Rattle.collision.specs.Pipeline.{Cycle, Serves, startAt, taskAt}
 use Rattle.plan_record.specs.Write.{cycleIn}
@@ -37,6 +38,10 @@ abbrev pub SearchCharted : Type 0
 SearchCharted =
     (u after : FunctionUnit) (q : ℕ) (before words : List ℕ) → SearchPromise u q before words Done after → (n room : ℕ)
     → length (chartOf after (after .plan) n) ≤ room → simulateAnswer after q n room ≡ Charted.Length (length (chartOf after (after .plan) n))
+
+-- where unit, tag and plan are good, the units are refused by 10 alone
+abbrev pub TenAlone : Type 0
+TenAlone = (u : FunctionUnit) (p : Plan) (n : ℕ) (why : Refusal) → planAnswer u p ≡ Done → unitsAnswer u p n ≡ Refused why → why ≡ NotGranted
 
 -- two tasks of a cycle that are in the unit at one time have different letters
 abbrev pub LettersApart : Type 0

@@ -58,8 +58,7 @@ NoEdit (Unmark q s c ∷ calls) (a ∷ replies) = (a ≡ accepted → ⊥) × No
 NoEdit (Search q room ∷ calls) (a ∷ replies) = NoEdit calls replies
 NoEdit (Read ∷ calls) (a ∷ replies) = NoEdit calls replies
 
--- The designer's condition: the plan came from an accepted search on a unit, whatever came before, and no accepted edit was among the calls that
--- followed and left the unit that the bank uses.
+-- The plan came from an accepted search on a unit, whatever came before; the calls that followed left the unit that the bank uses.
 pub record FoundPlan (p : Plan) (later : List Call) (told : List Reply) (left : FunctionUnit) : Type 0 where
   pub unit : FunctionUnit
   pub tag : ℕ
@@ -70,7 +69,7 @@ pub record FoundPlan (p : Plan) (later : List Call) (told : List Reply) (left : 
   pub plan : p ≡ found .plan
   pub stays : Leaves found later told left
 
--- then the plan plays on that unit
+-- The designer's condition is this, and that no edit among those calls was accepted. Then the plan plays on the unit that is left.
 abbrev pub EverySearchPlays : Type 0
 EverySearchPlays = (p : Plan) (later : List Call) (told : List Reply) (left : FunctionUnit) → FoundPlan p later told left → NoEdit later told → Plays left p
 
