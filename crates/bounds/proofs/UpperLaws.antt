@@ -15,6 +15,7 @@ use Rattle.words.specs.Bits.{bit, isSet}
 use Rattle.words.specs.Below.{countBelow}
 use Rattle.words.proofs.BitLaws.{set-or, bit-shr, bit-above, zero-unset, set-not-zero}
 use Rattle.words.proofs.BelowLaws.{count-same, least-skips}
+use Rattle.words.proofs.CountLaws.{count-or}
 use Rattle.unit.specs.Table.{Table}
 use Rattle.collision.specs.Pipeline.{Cycle, total, NeverCollides}
 use Rattle.diagram.specs.Diagram.{next, longest, Permits, Walk, stay, step, Reachable}
@@ -28,7 +29,7 @@ use Rattle.cycles.proofs.GreedyLaws.{least-permits, Trail, trail-start, trail-m
 use Rattle.cycles.proofs.AlongLaws.{along-at}
 use Rattle.words.proofs.Tests.{nowhere, by-test}
 use Rattle.bounds.specs.Bounds.{onesOf}
-use Rattle.bounds.proofs.OnesLaws.{count-or, count-split, count-beyond, count-row}
+use Rattle.bounds.proofs.OnesLaws.{count-split, count-beyond, count-row}
 
 -- One step
 

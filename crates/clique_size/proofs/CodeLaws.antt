@@ -1,6 +1,6 @@
 -- The steps of the calculation as the code takes them. Assumes nothing.
 use mathlib.Core.Path.{_≡_, refl, sym, ap, ap₂, _∙_}
-use mathlib.Core.Bool.{Bool, true, false, cond}
+use mathlib.Core.Bool.{cond}
 use Prim.Native.Nat.{ℕ, zero, suc, _+_, _-_, _/_, _%_, _^_, _≤_, _<_, max}
 use native.Mathlib.Nat.{mod-eq-of-lt}
 use native.Mathlib.Omega.{arith}
@@ -10,26 +10,15 @@ use lib.Dec.{eqb}
 use lib.Pow.{shr-shr, shr-le}
 use Rattle.words.specs.Bits.{isSet}
 use Rattle.words.specs.Below.{countBelow}
-use Rattle.words.proofs.Tests.{nowhere}
 use Rattle.words.proofs.BitLaws.{bit-zero, bit-of-zero, zero-unset}
 use Rattle.words.proofs.BelowLaws.{count-none, count-most}
+use Rattle.words.proofs.CountLaws.{count-le}
 use Rattle.clique_size.specs.Largest.{mostOf}
 use Rattle.clique_size.proofs.MostLaws.{half-lt, and-half-lt, most-taken}
 
 -- no more are taken than there are
-count-within : (n : ℕ) (f h : ℕ → Bool) → ((k : ℕ) → f k ≡ true → h k ≡ true) → countBelow n f ≤ countBelow n h
-unfolding countBelow
-count-within zero f h s = omega arith
-count-within (suc n) f h s = go (f n) (h n) (s n) (count-within n f h s)
-  where
-    go : (a b : Bool) → (a ≡ true → b ≡ true) → countBelow n f ≤ countBelow n h → cond a 1 0 + countBelow n f ≤ cond b 1 0 + countBelow n h
-    go true true e r = omega arith
-    go true false e r = nowhere (e refl)
-    go false true e r = omega arith
-    go false false e r = omega arith
-
 pub most-count : (n v w : ℕ) → mostOf n v w ≤ countBelow n (isSet w)
-most-count n v w = let t = most-taken n v w in omega (arith, t .count, count-within n (t .test) (isSet w) (t .within))
+most-count n v w = let t = most-taken n v w in omega (arith, t .count, count-le n (t .test) (isSet w) (λ k l. t .within k))
 
 -- a number more than the word has bits changes nothing
 most-stable : (n v w : ℕ) → w < 2 ^ n → mostOf (suc n) v w ≡ mostOf n v w

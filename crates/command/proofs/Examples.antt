@@ -144,6 +144,30 @@ pub no-units : meaning (ascii "simulate 1") ≡ Parsed.Bad (Trouble.Usage 25)
 unfolding meaning textOf said wordsOf partsOf commandOf among same nameAt rowAt allNumbers isNumber digitsOnly numberSaid value
 no-units = refl
 
+pub delays-without-a-file : meaning (ascii "delays 1 3") ≡ command (Verb.Show Show.Delays) 2 1 3 0
+unfolding meaning textOf said wordsOf partsOf commandOf among same nameAt rowAt allNumbers isNumber digitsOnly numberSaid value
+delays-without-a-file = refl
+
+pub delays-with-a-file : meaning (ascii "delays 1 3 f") ≡ command (Verb.Show Show.Delays) 3 1 3 0
+unfolding meaning textOf said wordsOf partsOf commandOf among same nameAt rowAt allNumbers isNumber digitsOnly numberSaid value
+delays-with-a-file = refl
+
+pub delays-with-a-file-of-digits : meaning (ascii "delays 1 3 8") ≡ command (Verb.Show Show.Delays) 3 1 3 8
+unfolding meaning textOf said wordsOf partsOf commandOf among same nameAt rowAt allNumbers isNumber digitsOnly numberSaid value
+delays-with-a-file-of-digits = refl
+
+pub delays-of-a-tag-alone : meaning (ascii "delays 1") ≡ Parsed.Bad (Trouble.Usage 26)
+unfolding meaning textOf said wordsOf partsOf commandOf among same nameAt rowAt allNumbers isNumber digitsOnly numberSaid value
+delays-of-a-tag-alone = refl
+
+pub delays-of-a-letter : meaning (ascii "delays 1 x") ≡ Parsed.Bad (Trouble.Usage 26)
+unfolding meaning textOf said wordsOf partsOf commandOf among same nameAt rowAt allNumbers isNumber digitsOnly numberSaid value
+delays-of-a-letter = refl
+
+pub delays-with-two-files : meaning (ascii "delays 1 3 f g") ≡ Parsed.Bad (Trouble.Usage 26)
+unfolding meaning textOf said wordsOf partsOf commandOf among same nameAt rowAt allNumbers isNumber digitsOnly numberSaid value
+delays-with-two-files = refl
+
 pub its-latencies : latenciesIn (ascii "judge 0  3 4 256 7\r") ≡ 3 ∷ 4 ∷ 0 ∷ 7 ∷ []
 unfolding latenciesIn textOf wordsOf partsOf numberSaid isNumber digitsOnly value
 its-latencies = refl

@@ -4,7 +4,7 @@ use mathlib.Core.Bool.{Bool, true, false, cond, _&&_}
 use mathlib.Core.List.{List, [], _∷_, _++_}
 use Prim.Native.Nat.{ℕ, zero, suc, _+_, _-_, _≤_, _<_, min}
 use native.Mathlib.Omega.{arith}
-use borrow.Author.Tests.{eq-eqb, ne-eqb, eqb-true, le-leb, lt-leb}
+use borrow.Author.Tests.{eq-eqb, ne-eqb, eqb-true, eqb-false, le-leb, lt-leb, leb-true}
 use lib.Dec.{leb, eqb}
 use lib.ListN.{length, getD, take, drop}
 use lib.Seq.{take-all, drop-drop, getD-drop}
@@ -59,10 +59,33 @@ scan-file k words = by-test (eqb (length words) (k + 1)) counted (λ t. rw t)
         let front : length words - 1 ≡ k = omega (arith, eqb-true (length words) (k + 1) t) in
         ap (λ n. eqb (length words) (k + 1) && allNumbers (take n words)) front
 
+-- not so many, and at least so many but at most one more: just one more
+one-more : (n k : ℕ) (b : Bool) → (n ≡ k → ⊥) → eqb n (k + 1) && b ≡ leb k n && (leb n (k + 1) && b)
+one-more n k b other = by-test (eqb n (k + 1)) more (λ t. rw t (by-test (leb k n) (beyond t) (λ f. rw f)))
+  where
+    more : eqb n (k + 1) ≡ true → eqb n (k + 1) && b ≡ leb k n && (leb n (k + 1) && b)
+    more t = let e = eqb-true n (k + 1) t in rw (t, le-leb k n (omega arith), le-leb n (k + 1) (omega arith))
+
+    beyond : eqb n (k + 1) ≡ false → leb k n ≡ true → false ≡ leb k n && (leb n (k + 1) && b)
+    beyond t f = let l = leb-true k n f in rw (f, lt-leb n (k + 1) (omega (arith, other, eqb-false n (k + 1) t)))
+
+-- where there are just so many words, all of them stand in front of the file that was left out
+scan-optional-file : (k : ℕ) (words : List (List ℕ)) → scanFits (Form.OptionalFile k) (scanned words) ≡ fits (Form.OptionalFile k) words
+scan-optional-file k words = by-test (eqb (length words) k) alone filed
+  where
+    alone : eqb (length words) k ≡ true → scanFits (Form.OptionalFile k) (scanned words) ≡ fits (Form.OptionalFile k) words
+    alone t =
+        let e = eqb-true (length words) k t in
+        rw (t, le-leb k (length words) (omega arith), le-leb (length words) (k + 1) (omega arith)) (sym (ap allNumbers (take-all k words (omega arith))))
+
+    filed : eqb (length words) k ≡ false → scanFits (Form.OptionalFile k) (scanned words) ≡ fits (Form.OptionalFile k) words
+    filed t = rw t (scan-file k words ∙ one-more (length words) k (allNumbers (take k words)) (eqb-false (length words) k t))
+
 scan-fits : (form : Form) (words : List (List ℕ)) → scanFits form (scanned words) ≡ fits form words
 scan-fits (Form.Numbers k) words = refl
 scan-fits (Form.Optional k) words = refl
 scan-fits (Form.File k) words = scan-file k words
+scan-fits (Form.OptionalFile k) words = scan-optional-file k words
 scan-fits Form.Cycle words = refl
 scan-fits Form.List words = refl
 
@@ -93,6 +116,12 @@ module _ (s : Scan) where
 
   pub file-fit : (k : ℕ) → (s .count ≡ 0 → ⊥) → s .count - 1 ≡ k → s .front ≡ scanFits (Form.File k) s
   file-fit k n e = sym (ap (λ t. t && s .front) (eq-eqb (s .count) (k + 1) (omega (arith, n))))
+
+  pub optional-file-none : (k : ℕ) → s .count ≡ k → s .good ≡ scanFits (Form.OptionalFile k) s
+  optional-file-none k e = sym (ap (λ t. cond t (s .good) (scanFits (Form.File k) s)) (eq-eqb (s .count) k e))
+
+  pub optional-file-some : (k : ℕ) → (s .count ≡ k → ⊥) → scanFits (Form.File k) s ≡ scanFits (Form.OptionalFile k) s
+  optional-file-some k n = sym (ap (λ t. cond t (s .good) (scanFits (Form.File k) s)) (ne-eqb (s .count) k n))
 
   pub fit-cycle : 1 ≤ s .count → s .good ≡ scanFits Form.Cycle s
   fit-cycle h = sym (ap (λ t. t && s .good) (le-leb 1 (s .count) h))

@@ -77,5 +77,6 @@ abbrev pub scanFits : Form → Scan → Bool
 scanFits (Form.Numbers k) s = eqb (s .count) k && s .good
 scanFits (Form.Optional k) s = leb k (s .count) && (leb (s .count) (k + 1) && s .good)
 scanFits (Form.File k) s = eqb (s .count) (k + 1) && s .front
+scanFits (Form.OptionalFile k) s = cond (eqb (s .count) k) (s .good) (eqb (s .count) (k + 1) && s .front)
 scanFits Form.Cycle s = leb 1 (s .count) && s .good
 scanFits Form.List s = s .good

@@ -79,6 +79,7 @@ abbrev pub fits : Form → List (List ℕ) → Bool
 fits (Form.Numbers k) words = eqb (length words) k && allNumbers words
 fits (Form.Optional k) words = leb k (length words) && (leb (length words) (k + 1) && allNumbers words)
 fits (Form.File k) words = eqb (length words) (k + 1) && allNumbers (take k words)
+fits (Form.OptionalFile k) words = leb k (length words) && (leb (length words) (k + 1) && allNumbers (take k words))
 fits Form.Cycle words = leb 1 (length words) && allNumbers words
 fits Form.List words = allNumbers words
 
@@ -128,7 +129,7 @@ tagsIn line = narrowed (drop 1 (wordsOf (textOf line)))
 abbrev pub inFront : List ℕ → List ℕ → List ℕ
 inFront l bytes = take (length bytes) l ++ drop (length l) bytes
 
--- word i of a line, the name of its command being word 0; empty where there is none. The file of a load, a save, a record, a report or a ring is the
--- last word of its line, word `count` of the request.
+-- word i of a line, the name of its command being word 0; empty where there is none. The file of a command that names one is the last word
+-- of its line, word `count` of the request.
 unfoldable pub wordIn : List ℕ → ℕ → List ℕ
 wordIn line i = wordAt (wordsOf (textOf line)) i

@@ -63,6 +63,16 @@ fn is_file(count: usize, words: Scan) -> bool
     words.front
 }
 
+// Whether there are so many numbers, and nothing or the name of a file after them.
+fn is_optional_file(count: usize, words: Scan) -> bool
+    ensures { λ r. ⌜ r ≡ scanFits (Form.OptionalFile count) words ⌝ }
+{
+    if words.count == count {
+        return words.good;
+    }
+    is_file(count, words)
+}
+
 // Whether the words after the name, of which a scan tells, are what the command wants.
 fn is_fit(form: Form, words: Scan) -> bool
     ensures { λ r. ⌜ r ≡ scanFits form words ⌝ }
@@ -71,6 +81,7 @@ fn is_fit(form: Form, words: Scan) -> bool
         Form::Numbers(count) => words.count == count && words.good,
         Form::Optional(count) => is_optional(count, words),
         Form::File(count) => is_file(count, words),
+        Form::OptionalFile(count) => is_optional_file(count, words),
         Form::Cycle => 1 <= words.count && words.good,
         Form::List => words.good,
     }
@@ -189,7 +200,7 @@ pub fn tags(line: &[u8], list: &mut [u8]) -> usize
     scan::bytes_after(text, name_end, list)
 }
 
-// Word `index` of a line, the name of its command being word 0; no bytes where there is none. The file of a command that wants one is word `count` of
+// Word `index` of a line, the name of its command being word 0; no bytes where there is none. The file of a command that names one is word `count` of
 // its request.
 pub fn word<'a>(line: &'a [u8], index: usize) -> &'a [u8]
     ensures { λ r. ⌜ now r ≡ wordIn (now (line .entry)) index ⌝ }

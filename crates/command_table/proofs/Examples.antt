@@ -24,9 +24,17 @@ pub usage-of-simulate : usageAt 25 ≡ ascii "simulate Q UNITS"
 unfolding usageAt rowAt
 usage-of-simulate = refl
 
+pub usage-of-delays : usageAt 26 ≡ ascii "delays Q M [FILE]"
+unfolding usageAt rowAt
+usage-of-delays = refl
+
 pub mark-is-found : commandOf (ascii "mark") ≡ Named.Known (entryAt 1)
 unfolding commandOf among same nameAt rowAt
 mark-is-found = refl
+
+pub delays-is-found : commandOf (ascii "delays") ≡ Named.Known (entryAt 26)
+unfolding commandOf among same nameAt rowAt
+delays-is-found = refl
 
 pub part-of-a-name : commandOf (ascii "mar") ≡ Named.Unknown
 unfolding commandOf among same nameAt rowAt

@@ -142,13 +142,17 @@ pub form-file : (n : ℕ) → 32 ≤ n → n < 48 → Form.File (n - 32) ≡ for
 unfolding formOf
 form-file n h l = rw (le-ltb n 16 (omega arith), le-ltb n 32 h, lt-ltb n 48 l)
 
-pub form-cycle : (n : ℕ) → n ≡ 48 → Form.Cycle ≡ formOf n
+pub form-optional-file : (n : ℕ) → 48 ≤ n → n < 64 → Form.OptionalFile (n - 48) ≡ formOf n
+unfolding formOf
+form-optional-file n h l = rw (le-ltb n 16 (omega arith), le-ltb n 32 (omega arith), le-ltb n 48 h, lt-ltb n 64 l)
+
+pub form-cycle : (n : ℕ) → n ≡ 64 → Form.Cycle ≡ formOf n
 unfolding formOf
 form-cycle n e = rw e
 
-pub form-list : (n : ℕ) → 48 ≤ n → (n ≡ 48 → ⊥) → Form.List ≡ formOf n
+pub form-list : (n : ℕ) → 64 ≤ n → (n ≡ 64 → ⊥) → Form.List ≡ formOf n
 unfolding formOf
-form-list n h c = rw (le-ltb n 16 (omega arith), le-ltb n 32 (omega arith), le-ltb n 48 h, ne-eqb n 48 c)
+form-list n h c = rw (le-ltb n 16 (omega arith), le-ltb n 32 (omega arith), le-ltb n 48 (omega arith), le-ltb n 64 h, ne-eqb n 64 c)
 
 -- A text put
 

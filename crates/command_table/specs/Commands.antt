@@ -56,6 +56,7 @@ rows =
     ∷ row "report" " FILE" (Form.File 0) (Verb.View View.Report)
     ∷ row "ring" " FILE" (Form.File 0) (Verb.View View.Ring)
     ∷ row "simulate" " Q UNITS" (Form.Numbers 2) (Verb.Show Show.Simulate)
+    ∷ row "delays" " Q M [FILE]" (Form.OptionalFile 2) (Verb.Show Show.Delays)
     ∷ []
 
 -- beyond the last row: no name, and nothing to write

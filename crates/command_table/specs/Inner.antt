@@ -13,14 +13,16 @@ use Rattle.command_table.specs.Commands.{Row, rows}
 unfoldable pub formOf : ℕ → Form
 formOf n =
     cond (ltb n 16) (Form.Numbers n)
-    (cond (ltb n 32) (Form.Optional (n - 16)) (cond (ltb n 48) (Form.File (n - 32)) (cond (eqb n 48) Form.Cycle Form.List)))
+    (cond (ltb n 32) (Form.Optional (n - 16))
+    (cond (ltb n 48) (Form.File (n - 32)) (cond (ltb n 64) (Form.OptionalFile (n - 48)) (cond (eqb n 64) Form.Cycle Form.List))))
 
 abbrev pub formNumber : Form → ℕ
 formNumber (Form.Numbers k) = k
 formNumber (Form.Optional k) = 16 + k
 formNumber (Form.File k) = 32 + k
-formNumber Form.Cycle = 48
-formNumber Form.List = 49
+formNumber (Form.OptionalFile k) = 48 + k
+formNumber Form.Cycle = 64
+formNumber Form.List = 65
 
 -- a row: the lengths of name and usage, the number of its form, the usage, and spaces up to 48 bytes
 abbrev pub rowBytes : Row → List ℕ

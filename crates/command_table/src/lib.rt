@@ -31,7 +31,7 @@ pub enum Ask {
     Judge,
 }
 
-// What is written to a file, listed, drawn, looked for or played; the session stays as it is.
+// What is written to a file, listed, drawn, looked for, played or given delays; the session stays as it is.
 pub enum Show {
     Save,
     List,
@@ -40,6 +40,7 @@ pub enum Show {
     Loop,
     Record,
     Simulate,
+    Delays,
 }
 
 // What is shown of the file of a plan record; no unit is wanted.
@@ -58,12 +59,13 @@ pub enum Verb {
     View(View),
 }
 
-// What comes after the name of a command: so many numbers; so many, and one more that may be left out; so many, and then the name of a file; a tag and
-// the latencies of a cycle; or a list of numbers, which may be empty.
+// What comes after the name of a command: so many numbers; so many, and one more that may be left out; so many, and then the name of a file; so many,
+// and then the name of a file, which may be left out; a tag and the latencies of a cycle; or a list of numbers, which may be empty.
 pub enum Form {
     Numbers(usize),
     Optional(usize),
     File(usize),
+    OptionalFile(usize),
     Cycle,
     List,
 }
@@ -82,12 +84,12 @@ pub enum Named {
 }
 
 // How many commands there are, and how many bytes a row has.
-const COUNT: usize = 26;
+const COUNT: usize = 27;
 
 const WIDTH: usize = 48;
 
 // A row: how many bytes the name has, how many the usage, a number for what comes after the name (so many numbers; 16 more where one more may
-// follow, 32 more where a file follows; 48 for a cycle, 49 for a list), and the usage, with spaces after it.
+// follow, 32 more where a file follows, 48 more where a file may follow; 64 for a cycle, 65 for a list), and the usage, with spaces after it.
 const TABLE: [u8; COUNT * WIDTH] = *b"\
 \x05\x0b\x03fresh P S C                                  \
 \x04\x0a\x03mark Q R C                                   \
@@ -101,7 +103,7 @@ const TABLE: [u8; COUNT * WIDTH] = *b"\
 \x05\x07\x01bound Q                                      \
 \x05\x07\x01upper Q                                      \
 \x08\x0a\x01constant Q                                   \
-\x05\x0e\x30judge Q L L ..                               \
+\x05\x0e\x40judge Q L L ..                               \
 \x04\x04\x00tick                                         \
 \x05\x07\x01start Q                                      \
 \x04\x04\x00bank                                         \
@@ -110,11 +112,12 @@ const TABLE: [u8; COUNT * WIDTH] = *b"\
 \x04\x04\x00list                                         \
 \x05\x07\x01table Q                                      \
 \x07\x09\x01diagram Q                                    \
-\x04\x0b\x31loop Q Q ..                                  \
+\x04\x0b\x41loop Q Q ..                                  \
 \x06\x0d\x21record Q FILE                                \
 \x06\x0b\x20report FILE                                  \
 \x04\x09\x20ring FILE                                    \
 \x08\x10\x02simulate Q UNITS                             \
+\x06\x11\x32delays Q M [FILE]                            \
 ";
 
 // What each command does, in the order of the rows.
@@ -145,6 +148,7 @@ const VERBS: [Verb; COUNT] = [
     Verb::View(View::Report),
     Verb::View(View::Ring),
     Verb::Show(Show::Simulate),
+    Verb::Show(Show::Delays),
 ];
 
 // The table as bytes.
@@ -191,7 +195,10 @@ fn form_of(number: u8) -> Form
     if number < 48 {
         return Form::File((number - 32) as usize);
     }
-    if number == 48 {
+    if number < 64 {
+        return Form::OptionalFile((number - 48) as usize);
+    }
+    if number == 64 {
         return Form::Cycle;
     }
     Form::List

@@ -15,9 +15,17 @@ pub file-after-a-number : fileLine 22 (1 ∷ []) (ascii "plan") ≡ ascii "recor
 unfolding spaced joinBelow decimal digits nameAt rowAt
 file-after-a-number = refl
 
+pub file-after-two-numbers : fileLine 26 (1 ∷ 3 ∷ []) (ascii "f") ≡ ascii "delays 1 3 f"
+unfolding spaced joinBelow decimal digits nameAt rowAt
+file-after-two-numbers = refl
+
 pub usage-of-mark : troubleText 12 (Trouble.Usage 1) ≡ ascii "line 12: expected mark Q R C" ++ (10 ∷ [])
 unfolding troubleText decimal digits usageAt rowAt
 usage-of-mark = refl
+
+pub usage-of-delays : troubleText 7 (Trouble.Usage 26) ≡ ascii "line 7: expected delays Q M [FILE]" ++ (10 ∷ [])
+unfolding troubleText decimal digits usageAt rowAt
+usage-of-delays = refl
 
 pub too-long : troubleText 3 Trouble.TooLong ≡ ascii "line 3: too long" ++ (10 ∷ [])
 unfolding troubleText decimal digits

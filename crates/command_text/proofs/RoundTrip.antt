@@ -5,7 +5,7 @@ use mathlib.Core.List.{List, [], _∷_, _++_, map, append-assoc, append-nil}
 use Prim.Native.Nat.{ℕ, zero, suc, _+_, _-_, _^_, _≤_, _<_}
 use native.Mathlib.Numerals.{add-one}
 use native.Mathlib.Omega.{arith}
-use borrow.Author.Tests.{eq-eqb, ne-eqb, eqb-false, not-true, leb-true}
+use borrow.Author.Tests.{eq-eqb, ne-eqb, eqb-true, eqb-false, not-true, le-leb, leb-true}
 use lib.Dec.{eqb, leb}
 use lib.ListN.{length, getD, take, drop, length-append}
 use lib.Seq.{take-all, take-at, drop-at, getD-at}
@@ -29,7 +29,7 @@ use Rattle.command.proofs.WordLaws.{first-byte, first-blank, first-none, words-
 use Rattle.command.proofs.NumberLaws.{digits-each, number-is}
 use Rattle.command.proofs.ScanLaws.{all-cons, all-none, number-none}
 use Rattle.command.proofs.LineLaws.{text-whole, meaning-said}
-use Rattle.command_text.specs.Written.{numberLine, fileLine, suits}
+use Rattle.command_text.specs.Written.{numberLine, fileLine, suits, suitsFile}
 
 -- Words without a blank
 
@@ -242,6 +242,11 @@ suits-fits (Form.Optional k) numbers s e =
     and-true (ap (leb k) (count-decimal numbers) ∙ and-left (leb k (length numbers)) (leb (length numbers) (k + 1)) e)
     (and-true (ap (λ n. leb n (k + 1)) (count-decimal numbers) ∙ and-right (leb k (length numbers)) (leb (length numbers) (k + 1)) e) (all-decimal numbers s))
 suits-fits (Form.File k) numbers s e = nowhere e
+suits-fits (Form.OptionalFile k) numbers s e =
+    let n : length (map decimal numbers) ≡ k = count-decimal numbers ∙ eqb-true (length numbers) k e in
+    and-true (le-leb k (length (map decimal numbers)) (omega arith))
+    (and-true (le-leb (length (map decimal numbers)) (k + 1) (omega arith))
+    (ap allNumbers (take-all k (map decimal numbers) (omega arith)) ∙ all-decimal numbers s))
 suits-fits Form.Cycle numbers s e = and-true (ap (leb 1) (count-decimal numbers) ∙ e) (all-decimal numbers s)
 suits-fits Form.List numbers s e = all-decimal numbers s
 
@@ -283,10 +288,29 @@ fileWords numbers file = map decimal numbers ++ (file ∷ [])
 file-count : (numbers file : List ℕ) → length (fileWords numbers file) ≡ length numbers + 1
 file-count numbers file = length-append (map decimal numbers) (file ∷ []) ∙ ap (λ n. n + 1) (count-decimal numbers)
 
-file-fits : (numbers file : List ℕ) → Small numbers → fits (Form.File (length numbers)) (fileWords numbers file) ≡ true
-file-fits numbers file s =
-    and-true (eq-eqb (length (fileWords numbers file)) (length numbers + 1) (file-count numbers file))
-    (ap allNumbers (take-at (map decimal numbers) (file ∷ []) (length numbers) (count-decimal numbers)) ∙ all-decimal numbers s)
+module _ (numbers file : List ℕ) (small : Small numbers) (k : ℕ) (counted : eqb (length numbers) k ≡ true) where
+  one-more : length (fileWords numbers file) ≡ k + 1
+  one-more = file-count numbers file ∙ ap (λ n. n + 1) (eqb-true (length numbers) k counted)
+
+  before-file : allNumbers (take k (fileWords numbers file)) ≡ true
+  before-file =
+      ap allNumbers (take-at (map decimal numbers) (file ∷ []) k (count-decimal numbers ∙ eqb-true (length numbers) k counted)) ∙ all-decimal numbers small
+
+  file-wanted : fits (Form.File k) (fileWords numbers file) ≡ true
+  file-wanted = and-true (eq-eqb (length (fileWords numbers file)) (k + 1) one-more) before-file
+
+  file-allowed : fits (Form.OptionalFile k) (fileWords numbers file) ≡ true
+  file-allowed =
+      and-true (le-leb k (length (fileWords numbers file)) (omega (arith, one-more)))
+      (and-true (le-leb (length (fileWords numbers file)) (k + 1) (omega (arith, one-more))) before-file)
+
+file-fits : (form : Form) (numbers file : List ℕ) → Small numbers → suitsFile form numbers ≡ true → fits form (fileWords numbers file) ≡ true
+file-fits (Form.Numbers k) numbers file s e = nowhere e
+file-fits (Form.Optional k) numbers file s e = nowhere e
+file-fits (Form.File k) numbers file s e = file-wanted numbers file s k e
+file-fits (Form.OptionalFile k) numbers file s e = file-allowed numbers file s k e
+file-fits Form.Cycle numbers file s e = nowhere e
+file-fits Form.List numbers file s e = nowhere e
 
 file-last : (name numbers file : List ℕ) → wordAt (name ∷ fileWords numbers file) (length numbers + 1) ≡ file
 file-last name numbers file =
@@ -294,7 +318,7 @@ file-last name numbers file =
     ∙ getD-at (map decimal numbers) file [] [] (length numbers) (count-decimal numbers)
 
 -- a command with numbers and a file is parsed again, and its file is the same
-pub file-parsed : (row : ℕ) (numbers file : List ℕ) → row < length rows → rowAt row .form ≡ Form.File (length numbers)
+pub file-parsed : (row : ℕ) (numbers file : List ℕ) → row < length rows → suitsFile (rowAt row .form) numbers ≡ true
     → ((i : ℕ) → i < length numbers → getD numbers i 0 < 2 ^ 32) → 1 ≤ length file
     → ((i : ℕ) → i < length file → isBlank (getD file i 0) ≡ false) → ((i : ℕ) → i < length file → getD file i 0 ≡ 13 → ⊥)
     → length (fileLine row numbers file) ≤ 4096
@@ -308,17 +332,16 @@ pub file-parsed : (row : ℕ) (numbers file : List ℕ) → row < length rows �
     }))
     × (wordIn (fileLine row numbers file) (length numbers + 1) ≡ file)
 unfolding wordIn
-file-parsed row numbers file h f s some each none l =
+file-parsed row numbers file h e s some each none l =
     let rest : List ℕ = spaced numbers ++ (32 ∷ file) in
     let plain : returnless rest ≡ true = returnless-join (spaced numbers) (32 ∷ file) (spaced-returnless numbers) (returnless-each file none) in
     let words : wordsOf (fileLine row numbers file) ≡ nameAt row ∷ fileWords numbers file =
     words-file (nameAt row) numbers file (name-some row h) (letters-blankless (nameAt row) (letters row h)) some (blankless-each file each)
     in
-    let fit : fits (rowAt row .form) (fileWords numbers file) ≡ true = ap (λ x. fits x (fileWords numbers file)) f ∙ file-fits numbers file s in
     let text : textOf (fileLine row numbers file) ≡ fileLine row numbers file =
     whole-text (fileLine row numbers file) (returnless-join (nameAt row) rest (letters-returnless (nameAt row) (letters row h)) plain)
     in (
-      line-says row h rest (fileWords numbers file) l plain words fit
+      line-says row h rest (fileWords numbers file) l plain words (file-fits (rowAt row .form) numbers file s e)
           ∙ ap Parsed.Command
           (same-request (rowAt row .verb) (file-count numbers file) (number-before numbers file 0 s) (number-before numbers file 1 s) (number-before numbers file 2 s)),
       ap (λ x. wordAt (wordsOf x) (length numbers + 1)) text ∙ ap (λ w. wordAt w (length numbers + 1)) words ∙ file-last (nameAt row) numbers file,

@@ -26,8 +26,18 @@ abbrev pub suits : Form → List ℕ → Bool
 suits (Form.Numbers k) numbers = eqb (length numbers) k
 suits (Form.Optional k) numbers = leb k (length numbers) && leb (length numbers) (k + 1)
 suits (Form.File k) numbers = false
+suits (Form.OptionalFile k) numbers = eqb (length numbers) k
 suits Form.Cycle numbers = leb 1 (length numbers)
 suits Form.List numbers = true
+
+-- the numbers and a file after them are what the command wants
+abbrev pub suitsFile : Form → List ℕ → Bool
+suitsFile (Form.Numbers k) numbers = false
+suitsFile (Form.Optional k) numbers = false
+suitsFile (Form.File k) numbers = eqb (length numbers) k
+suitsFile (Form.OptionalFile k) numbers = eqb (length numbers) k
+suitsFile Form.Cycle numbers = false
+suitsFile Form.List numbers = false
 
 -- What was expected
 

@@ -142,6 +142,13 @@ pub fn save(u: FunctionUnit, name: &[u8]) -> bool {
     keep(name, &area, written)
 }
 
+// Writes the file of the unit with delays.
+pub fn save_delays(u: FunctionUnit, tag: Tag, latency: u8, name: &[u8]) -> bool {
+    let mut area = [0u8; 512];
+    let written = delay_text::write(u, tag, latency, &mut area);
+    keep(name, &area, written)
+}
+
 // Writes the record of a function's plan. There is room for every record (`NoLonger`, crate plan_record).
 pub fn save_record(u: FunctionUnit, tag: Tag, name: &[u8]) -> bool {
     let mut area = plan_record::area();

@@ -101,7 +101,22 @@ fn simulate(u: FunctionUnit, tag: Tag, units: u32) -> bool {
     }
 }
 
-// What leaves the session as it is: to save the unit or the record of a plan, to list, to draw, to look for a loop, and to play a plan.
+fn draw_delays(u: FunctionUnit, tag: Tag, latency: u8) -> bool {
+    let mut area = [0u8; drawing::TABLE];
+    let drawn = delay_text::draw(u, tag, latency, &mut area);
+    say_drawn(drawn, &area)
+}
+
+// The unit with delays: its table, or, where a third word names a file, its unit file.
+fn show_delays(u: FunctionUnit, tag: Tag, request: Request, line: &[u8]) -> bool {
+    let latency = words::byte(request.second);
+    if request.count < 3 {
+        return draw_delays(u, tag, latency);
+    }
+    files::save_delays(u, tag, latency, command::word(line, request.count))
+}
+
+// What leaves the session as it is: to save the unit or the record of a plan, to list, to draw, to look for a loop, to play a plan, and to give delays.
 fn show_unit(u: FunctionUnit, what: Show, request: Request, line: &[u8]) -> bool {
     let tag = Tag(words::byte(request.first));
     match what {
@@ -112,6 +127,7 @@ fn show_unit(u: FunctionUnit, what: Show, request: Request, line: &[u8]) -> bool
         Show::Loop => tell_loop(u, line),
         Show::Record => files::save_record(u, tag, command::word(line, request.count)),
         Show::Simulate => simulate(u, tag, request.second),
+        Show::Delays => show_delays(u, tag, request, line),
     }
 }
 

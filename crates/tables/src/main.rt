@@ -519,6 +519,44 @@ fn try_other_tables() {
     show_best(b"marks 1 2", one_segment(b"\x01\x02"));
 }
 
+// Delay columns: the width that is reached, what is forbidden then, and whether the latency never collides.
+
+fn print_delays(made: Outcome, latency: u8) {
+    let answer = made.answer;
+    let delayed = made.unit;
+    match answer {
+        Answer::Refused(why) => print_refusal(why),
+        Answer::Done => {
+            io::write_all(1, b" columns");
+            print_number(delayed.columns as u32);
+            io::write_all(1, b" vector");
+            print_vector(collision::vector(delayed, Tag(1)));
+            let cycle = [latency];
+            print_judged(delayed, &cycle, 1);
+        }
+    }
+}
+
+fn show_delays(name: &[u8], u: FunctionUnit, tag: u8, latency: u8) {
+    begin(name, b" delays");
+    print_number(latency as u32);
+    print_delays(delays::delays(u, Tag(tag), latency), latency);
+    end_line();
+}
+
+fn try_delays() {
+    let u = with_row(unit_of(1, 1, 6), 1, 1, b"\x01\x03\x06");
+    show_delays(b"marks 1 3 6", u, 1, 3);
+    show_delays(b"marks 1 3 6", u, 1, 2);
+    show_delays(b"marks 1 3 6 of function 2", u, 2, 2);
+    let crowded = with_row(unit_of(1, 2, 1), 1, 1, b"\x01");
+    show_delays(b"marks 1; 1", with_mark(crowded, 1, 2, 1), 1, 0);
+    let wide = with_row(unit_of(1, 1, 32), 1, 1, b"\x01\x03");
+    show_delays(b"marks 1 3 of 32 columns", wide, 1, 2);
+    let made = unit::fresh(5, 5, 9);
+    show_delays(b"no unit", made.unit, 1, 0);
+}
+
 fn try_limit() {
     let full = one_segment(b"\x01\x0a");
     show_states(b"marks 1 10", full);
@@ -621,6 +659,7 @@ fn main() {
     try_controller();
     try_simulator();
     try_other_tables();
+    try_delays();
     try_limit();
     try_stale_plan();
     try_refusals();

@@ -2,7 +2,7 @@
 use mathlib.Core.List.{List, [], _∷_}
 use Prim.Native.Nat.{ℕ}
 use Rattle.unit.specs.declared.Refusal.{Refusal}
-use Rattle.unit.specs.declared.Refusal.the-variants.{NotSound, NoSuchTag, NoSuchSegment, NoSuchColumn, ShortWork, ShortOutput, TooManyStates, NoPlan, BadCycle, NotGranted, BadLength, BadHeader, MarkBeyondColumns, BadRecord, BadLoop}
+use Rattle.unit.specs.declared.Refusal.the-variants.{NotSound, NoSuchTag, NoSuchSegment, NoSuchColumn, ShortWork, ShortOutput, TooManyStates, NoPlan, BadCycle, NotGranted, BadLength, BadHeader, MarkBeyondColumns, BadRecord, BadLoop, TwoMarks, BadInterval, PlaceBeyond}
 use Rattle.unit.specs.declared.Answer.{Answer}
 use Rattle.unit.specs.declared.Answer.the-variants.{Done, Refused}
 
@@ -35,12 +35,18 @@ numberOf MarkBeyondColumns = 13
 numberOf BadRecord = 15
 -- a loop of no tags, or of more than 8
 numberOf BadLoop = 17
+-- two marks of a function in a column
+numberOf TwoMarks = 19
+-- a wanted latency of 0, above 32 or below the largest number of marks in a segment
+numberOf BadInterval = 20
+-- a place beyond 32
+numberOf PlaceBeyond = 21
 
 -- the refusals, by rising number
 abbrev pub refusals : List Refusal
 refusals =
     NotSound ∷ NoSuchTag ∷ NoSuchSegment ∷ NoSuchColumn ∷ ShortWork ∷ ShortOutput ∷ TooManyStates ∷ NoPlan ∷ BadCycle ∷ NotGranted ∷ BadLength
-    ∷ BadHeader ∷ MarkBeyondColumns ∷ BadRecord ∷ BadLoop ∷ []
+    ∷ BadHeader ∷ MarkBeyondColumns ∷ BadRecord ∷ BadLoop ∷ TwoMarks ∷ BadInterval ∷ PlaceBeyond ∷ []
 
 -- the number that an answer tells: 0 where the call was accepted
 abbrev pub numberIn : Answer → ℕ

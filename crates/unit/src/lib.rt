@@ -49,6 +49,9 @@ pub enum Refusal {
     MarkBeyondColumns,
     BadRecord,
     BadLoop,
+    TwoMarks,
+    BadInterval,
+    PlaceBeyond,
 }
 
 pub enum Answer {
@@ -82,6 +85,9 @@ fn number(why: Refusal) -> u8
         Refusal::MarkBeyondColumns => 13,
         Refusal::BadRecord => 15,
         Refusal::BadLoop => 17,
+        Refusal::TwoMarks => 19,
+        Refusal::BadInterval => 20,
+        Refusal::PlaceBeyond => 21,
     }
 }
 

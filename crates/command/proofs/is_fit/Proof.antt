@@ -19,6 +19,12 @@ enum-known-form-3 c = search needs
 is-file-requires : tie.Need-is-file-requires
 is-file-requires c κs = search needs
 
+enum-known-form-4 : tie.Need-enum-known-form-4
+enum-known-form-4 c = search needs
+
+is-optional-file-requires : tie.Need-is-optional-file-requires
+is-optional-file-requires c κs = search needs
+
 enum-told : tie.Need-enum-told
 enum-told c = search needs
 
@@ -38,13 +44,16 @@ returns-4 : tie.Need-returns-4
 returns-4 c = rw (c .before .before .form3 .given .1) (c .is-file .ensures)
 
 returns-5 : tie.Need-returns-5
-returns-5 c = let e = c .before .before in rw (e .enum-told .given .1) (fit-cycle (e .before .before .args .words) (c .if2 .taken))
+returns-5 c = rw (c .before .before .form4 .given .1) (c .is-optional-file .ensures)
 
 returns-6 : tie.Need-returns-6
-returns-6 c = let e = c .before .before in rw (e .enum-told .given .1) (fit-cycle-not (e .before .before .args .words) (c .if2 .left))
+returns-6 c = let e = c .before .before in rw (e .enum-told .given .1) (fit-cycle (e .before .before .args .words) (c .if2 .taken))
 
 returns-7 : tie.Need-returns-7
-returns-7 c = rw (c .enum-told2 .given .1)
+returns-7 c = let e = c .before .before in rw (e .enum-told .given .1) (fit-cycle-not (e .before .before .args .words) (c .if2 .left))
+
+returns-8 : tie.Need-returns-8
+returns-8 c = rw (c .enum-told2 .given .1)
 
 pub is-fit-spec : {M : Type 1} → statement M
 is-fit-spec =
@@ -55,6 +64,8 @@ is-fit-spec =
     is-optional-requires
     enum-known-form-3
     is-file-requires
+    enum-known-form-4
+    is-optional-file-requires
     enum-told
     enum-told-2
     returns
@@ -63,4 +74,5 @@ is-fit-spec =
     returns-4
     returns-5
     returns-6
-    returns-7)
+    returns-7
+    returns-8)

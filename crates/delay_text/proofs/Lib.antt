@@ -1,0 +1,3 @@
+mod ShownLaws
+pub mod Claims
+pub mod Examples

@@ -1,0 +1,8 @@
+mod RemainderLaws
+pub mod PlaceLaws
+mod RuleLaws
+pub mod Claims
+mod WordLaws
+mod MoveLaws
+mod EndLaws
+pub mod Examples

@@ -1,0 +1,177 @@
+-- Marks moved into a unit column by column. Assumes nothing.
+use Prim.Native.Nat.{ℕ, _+_, _-_, _≤_, _<_}
+use mathlib.Core.Path.{_≡_, refl, sym, ap, ap₂, _∙_}
+use mathlib.Core.Bool.{Bool, true, false, cond, _&&_}
+use mathlib.Core.Logic.{⊎-elim}
+use mathlib.Core.List.{List}
+use native.Mathlib.Nat.{eq-or-lt-of-le}
+use native.Mathlib.Omega.{arith}
+use borrow.Author.Tests.{eqb-true, eq-eqb}
+use lib.Dec.{eqb}
+use lib.ListN.{length, getD}
+use Rattle.words.specs.Bits.{isSet}
+use Rattle.words.specs.Below.{someBelow}
+use Rattle.words.proofs.Tests.{nowhere, and-left, and-right, and-true, same-test}
+use Rattle.words.proofs.BelowLaws.{some-intro, some-elim}
+use Rattle.words.proofs.BitLaws.{set-below}
+use Rattle.unit.specs.declared.FunctionUnit.{FunctionUnit}
+use Rattle.unit.specs.Table.{Table, empty}
+use Rattle.unit.specs.Unit.{inside, somewhere, goodCounts, marked}
+use Rattle.unit.specs.Calls.{blank, unitOf, freshOf, columnOf}
+use Rattle.unit.proofs.Laws.{inside-of, somewhere-of}
+use Rattle.unit.proofs.EditLaws.{blank-words, blank-table}
+use Rattle.unit.proofs.TableLaws.{unit-of-words, unit-of-table, unit-of-sound, unit-of-same, column-done, columnChanged, column-given}
+use Rattle.delays.specs.Delays.{Marks, placeOf, places, movedTable}
+use Rattle.delays.specs.Inner.{columnMarks, Movable}
+use Rattle.delays.proofs.PlaceLaws.{places-length, placeAt, place-at, place-first, place-one}
+use Rattle.delays.proofs.WordLaws.{mark-has}
+
+module _ (R : Marks) (m : ℕ) where
+  abbrev spot : ℕ → ℕ
+  spot = placeAt R m
+
+  abbrev movedTo : ℕ → Table
+  movedTo n = movedTable R (places R m n)
+
+  -- a moved mark is that of a column
+  record Old (n s z : ℕ) : Type 0 where
+    pub index : ℕ
+    pub inside : index < n
+    pub place : spot index ≡ z
+    pub mark : R s (index + 1) ≡ true
+
+  moved-has : (n x s z : ℕ) → movedTo n x s z ≡ true → (x ≡ 1) × Old n s z
+  unfolding movedTable
+  moved-has n x s z e =
+      let l = places R m n in
+      let p = some-elim (length l) (λ i. eqb (placeOf l (i + 1)) z && R s (i + 1)) (and-right (eqb x 1) _ e) in
+      let h : p .at < n = omega (arith, p .inside, places-length R m n) in (
+        eqb-true x 1 (and-left (eqb x 1) _ e),
+        record {
+          index = p .at;
+          inside = h;
+          place = sym (place-at R m n (p .at) h) ∙ eqb-true (placeOf l (p .at + 1)) z (and-left (eqb (placeOf l (p .at + 1)) z) _ (p .passed));
+          mark = and-right (eqb (placeOf l (p .at + 1)) z) _ (p .passed);
+        },
+      )
+
+  moved-of : (n s z : ℕ) → Old n s z → movedTo n 1 s z ≡ true
+  unfolding movedTable
+  moved-of n s z o =
+      let l = places R m n in
+      some-intro (length l) (λ k. eqb (placeOf l (k + 1)) z && R s (k + 1)) (o .index) (omega (arith, o .inside, places-length R m n))
+      (and-true (eq-eqb (placeOf l (o .index + 1)) z (place-at R m n (o .index) (o .inside) ∙ o .place)) (o .mark))
+
+  moved-one : (n x s z : ℕ) → x ≡ 1 → Old n s z → movedTo n x s z ≡ true
+  moved-one n x s z e o = ap (λ k. movedTo n k s z) e ∙ moved-of n s z o
+
+  -- one column more
+  old-more : (n s z : ℕ) → Old n s z → Old (n + 1) s z
+  old-more n s z o = record { index = o .index; inside = omega (arith, o .inside); place = o .place; mark = o .mark }
+
+  old-less : (n s z : ℕ) → Old (n + 1) s z → (z ≡ spot n → ⊥) → Old n s z
+  old-less n s z o other =
+      ⊎-elim (λ e. absurd (other (sym (o .place) ∙ ap spot e)))
+      (λ l. record { index = o .index; inside = l; place = o .place; mark = o .mark })
+      (eq-or-lt-of-le (below (o .inside)))
+    where
+      below : o .index < n + 1 → o .index ≤ n
+      below h = omega arith
+
+  table-more : (n w : ℕ) → ((s : ℕ) → inside s 16 && isSet w (s - 1) ≡ R s (n + 1)) → columnChanged (movedTo n) 1 (spot n) w ≡ movedTo (n + 1)
+  table-more n w word = λ i x y z. at x y z i
+    where
+      at : (x y z : ℕ) → columnChanged (movedTo n) 1 (spot n) w x y z ≡ movedTo (n + 1) x y z
+      at x y z = go (eqb x 1 && eqb z (spot n)) refl
+        where
+          go : (b : Bool) → eqb x 1 && eqb z (spot n) ≡ b → cond b (inside y 16 && isSet w (y - 1)) (movedTo n x y z) ≡ movedTo (n + 1) x y z
+          go true e =
+              let p = eqb-true x 1 (and-left (eqb x 1) _ e) in
+              let q = eqb-true z (spot n) (and-right (eqb x 1) _ e) in
+              word y
+              ∙ same-test (R y (n + 1)) (movedTo (n + 1) x y z)
+              (λ h. moved-one (n + 1) x y z p (record { index = n; inside = omega arith; place = sym q; mark = h }))
+              (λ h.
+              let o = moved-has (n + 1) x y z h .1 in
+              ap (λ k. R y (k + 1)) (sym (place-one R m (o .index) n (o .place ∙ q))) ∙ o .mark)
+          go false e =
+              same-test (movedTo n x y z) (movedTo (n + 1) x y z)
+              (λ h. let k = moved-has n x y z h in moved-one (n + 1) x y z (k .0) (old-more n y z (k .1)))
+              (λ h.
+              let k = moved-has (n + 1) x y z h in
+              moved-one n x y z (k .0) (old-less n y z (k .1) (λ q. nowhere (sym e ∙ and-true (eq-eqb x 1 (k .0)) (eq-eqb z (spot n) q)))))
+
+  table-none : empty ≡ movedTo 0
+  unfolding movedTable places someBelow
+  table-none = λ i x y z. at x i
+    where
+      at : (x : ℕ) → false ≡ eqb x 1 && false
+      at x = no (eqb x 1)
+        where
+          no : (b : Bool) → false ≡ b && false
+          no true = refl
+          no false = refl
+
+module _ (columns spots : List ℕ) (m n segments width : ℕ) (a : Movable columns spots m n segments width) where
+  abbrev M : Marks
+  M = columnMarks columns
+
+  abbrev unitAt : ℕ → FunctionUnit
+  unitAt i = unitOf 1 segments width (movedTo M m i)
+
+  pub unit-none : blank 1 segments width ≡ unitAt 0
+  unit-none = unit-of-same (blank 1 segments width) (movedTo M m 0) (blank-words 1 segments width) refl (blank-table 1 segments width ∙ table-none M m)
+
+  spot-is : (i : ℕ) → i < n → getD spots i 0 ≡ spot M m i
+  spot-is i h = a .placed .each i h ∙ place-at M m n i h
+
+  counts : goodCounts 1 segments width ≡ true
+  counts = and-true (inside-of segments 16 (a .segment1) (a .segment16)) (inside-of width 32 (a .width1) (a .width32))
+
+  segment-most : (s i : ℕ) → M s (i + 1) ≡ true → (1 ≤ s) × (s ≤ segments)
+  segment-most s i e =
+      let w = mark-has columns s (i + 1) e in
+      let b : i + 1 - 1 < 32 = omega (arith, w .column .most) in
+      let l : s - 1 < segments = set-below (getD columns (i + 1 - 1) 0) segments (s - 1) (a .small (i + 1 - 1) b) (w .bit) in
+      (w .segment .least, omega (arith, w .segment .least))
+
+  inside-counts : (i : ℕ) → i ≤ n → (x s z : ℕ) → movedTo M m i x s z ≡ true → (somewhere x s z ≡ true) × (x ≤ 1) × (s ≤ segments) × (z ≤ width)
+  inside-counts i h x s z e =
+      let k = moved-has M m i x s z e in
+      let o = k .1 in
+      let g = segment-most s (o .index) (o .mark) in
+      let w : spot M m (o .index) ≤ width = omega (arith, spot-is (o .index) (omega (arith, o .inside)), a .within (o .index) (omega (arith, o .inside))) in
+      let f = place-first M m (o .index) in (
+        somewhere-of x s z (omega (arith, k .0)) (omega (arith, k .0)) (g .0) (omega (arith, g .1, a .segment16)) (omega (arith, o .place)) (omega (arith, o .place, a .width32)),
+        omega (arith, k .0),
+        g .1,
+        omega (arith, o .place),
+      )
+
+  word-says : (i : ℕ) → i < 32 → (s : ℕ) → inside s 16 && isSet (getD columns i 0) (s - 1) ≡ M s (i + 1)
+  unfolding columnMarks
+  word-says i h s =
+      let b : i ≡ i + 1 - 1 = omega arith in
+      ap (λ k. inside s 16 && isSet (getD columns k 0) (s - 1)) b
+      ∙ ap (λ t. inside s 16 && (t && isSet (getD columns (i + 1 - 1) 0) (s - 1))) (sym (inside-of (i + 1) 32 (omega arith) (omega arith)))
+
+  pub unit-more : (i : ℕ) → i < n → columnOf (unitAt i) 1 (getD spots i 0) (getD columns i 0) .unit ≡ unitAt (i + 1)
+  unfolding unitOf
+  unit-more i h =
+      let u = unitAt i in
+      let w = getD columns i 0 in
+      let c = getD spots i 0 in
+      let T = movedTo M m i in
+      let e = column-done u 1 c w (unit-of-sound 1 segments width T counts (inside-counts i (omega arith))) (inside-of 1 1 (omega arith) (omega arith))
+      (inside-of c width (omega (arith, spot-is i h, place-first M m i)) (a .within i h)) (a .small i (omega (arith, a .few))) in
+      let g = column-given u 1 c w (unit-of-words 1 segments width T) e in
+      let v = columnOf u 1 c w .unit in
+      let same : marked u ≡ T = unit-of-table 1 segments width T (λ x y z k. inside-counts i (omega arith) x y z k .0) in
+      let table : marked v ≡ movedTo M m (i + 1) =
+      (λ j x y z. g .table x y z j) ∙ ap₂ (λ (U : Table) (k : ℕ). columnChanged U 1 k w) same (spot-is i h) ∙ table-more M m i w (word-says i (omega (arith, a .few))) in
+      unit-of-same v (movedTo M m (i + 1)) (g .words) (g .plan) table
+      ∙ rw (g .functions, g .segments, g .columns)
+
+pub fresh-is : (s w : ℕ) → freshOf 1 s w .unit ≡ blank 1 s w
+unfolding freshOf
+fresh-is s w = refl

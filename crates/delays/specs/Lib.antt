@@ -1,0 +1,3 @@
+pub mod Delays
+pub mod Claims
+pub mod Inner
