@@ -4,6 +4,8 @@
 
 mod charts;
 mod charts_check;
+mod delays;
+mod delays_check;
 mod facts;
 mod loops;
 mod loops_check;
@@ -13,6 +15,7 @@ mod random;
 mod record_files;
 mod records;
 mod records_check;
+mod routes;
 mod sheet;
 mod tally;
 mod units;
@@ -20,7 +23,8 @@ mod units;
 fn main() {
     let checked = model_check::run().and_then(|units| loops_check::run().map(|_| units));
     let checked = checked.and_then(|units| records_check::run().map(|_| units));
-    match checked.and_then(|units| charts_check::run().map(|_| units)) {
+    let checked = checked.and_then(|units| charts_check::run().map(|_| units));
+    match checked.and_then(|units| delays_check::run().map(|_| units)) {
         Ok(units) => println!("model: agrees with the paper's tables and, on {units} random units, with itself"),
         Err(why) => {
             println!("model: {why}");

@@ -1,9 +1,9 @@
 //! A test of the program `designer` from outside.
 //!
 //! Scripts of 100,000 lines and more, good lines and bad ones, are made from fixed seeds; each line's answer is worked out by the tests'
-//! own implementation of the paper (`model.rs`, `loops.rs`, `records.rs`, `charts.rs`, `console_model.rs`) before the program is run; then
-//! the program answers the scripts, and the first difference ends the run. Before them come runs of a few lines, each with special files
-//! or a special output (`console_outside.rs`).
+//! own implementation of the paper (`model.rs`, `loops.rs`, `records.rs`, `charts.rs`, `delays.rs`, `console_model.rs`) before the program
+//! is run; then the program answers the scripts, and the first difference ends the run. Before them come runs of a few lines, each with
+//! special files or a special output (`console_outside.rs`).
 //!
 //!     console PROGRAM            everything
 //!     console PROGRAM special    everything, and how often each special case was met
@@ -20,6 +20,9 @@ mod console_model;
 mod console_outside;
 mod console_program;
 mod console_script;
+mod delays;
+mod delays_check;
+mod delays_met;
 mod facts;
 mod loops;
 mod loops_check;
@@ -29,6 +32,7 @@ mod random;
 mod record_files;
 mod records;
 mod records_check;
+mod routes;
 mod sheet;
 mod tally;
 mod units;

@@ -42,7 +42,7 @@ pub struct Counts {
 }
 
 /// The refusals and the words that each command can answer with. Besides, each can be told what was expected.
-const ANSWERS: [(&str, &[u32], &[&str]); 26] = [
+const ANSWERS: [(&str, &[u32], &[&str]); 27] = [
     ("fresh", &[1], &["ok"]),
     ("mark", &[2, 3, 4], &["ok", "no unit"]),
     ("unmark", &[2, 3, 4], &["ok", "no unit"]),
@@ -69,6 +69,7 @@ const ANSWERS: [(&str, &[u32], &[&str]); 26] = [
     ("report", &[15], &["ok", "no file"]),
     ("ring", &[15], &["ok", "no file"]),
     ("simulate", &[2, 6, 8], &["ok", "no unit"]),
+    ("delays", &[2, 19, 20, 21], &["ok", "not written", "no unit"]),
 ];
 
 const OTHERS: [(Sort, &str); 4] = [

@@ -5,7 +5,7 @@ use crate::console_folder::{File, Folder};
 use crate::console_model::Console;
 use crate::console_program::Ending;
 use crate::console_script::{Feed, Line, Script};
-use crate::{charts_check, loops_check, model_check, records_check};
+use crate::{charts_check, delays_check, loops_check, model_check, records_check};
 
 /// A session as it is to be seen: after `>` what is typed. The paper's Fig. 1 and Fig. 2, its tables "No marks" and "Marks 1 11", loops
 /// over them and over a table whose second function no loop names, and the lines of the console's description.
@@ -772,6 +772,237 @@ refused 6
 plan 1 cycle 1 sum 1
 ";
 
+/// Delays: forms and refusals; the paper's marks 1 3 6, whose best cycle is 1 6 and whose constant latency is 4, and with delays 3; both of
+/// Fig. 2's functions, and one more mark in a column of the first; places at 32 and beyond it; and no marks.
+const DELAYS: &str = "\
+>delays 1 3
+no unit
+>delays 0 4294967295 made
+no unit
+>delays
+line 3: expected delays Q M [FILE]
+>delays 1
+line 4: expected delays Q M [FILE]
+>delays 1 made
+line 5: expected delays Q M [FILE]
+>delays made 3
+line 6: expected delays Q M [FILE]
+>delays made 1 3
+line 7: expected delays Q M [FILE]
+>delays 1 3 made 1
+line 8: expected delays Q M [FILE]
+>delays 1 -3 made
+line 9: expected delays Q M [FILE]
+>delays 1 4294967296
+line 10: expected delays Q M [FILE]
+>delays 4294967296 3
+line 11: expected delays Q M [FILE]
+>delay 1 3
+line 12: expected a command
+>Delays 1 3
+line 13: expected a command
+>fresh 1 1 6
+ok
+>mark 1 1 1
+ok
+>mark 1 1 3
+ok
+>mark 1 1 6
+ok
+>constant 1
+constant 4
+>search 1
+ok
+>start 1
+ok
+>delays 1 3
+     1  2  3  4  5  6  7  8
+  1  x  .  x  .  .  .  .  x
+>bank
+22 0 0 0
+>read
+plan 1 cycle 1 6 sum 7
+>table 1
+     1  2  3  4  5  6
+  1  x  .  x  .  .  x
+>delays 1 4
+     1  2  3  4  5  6
+  1  x  .  x  .  .  x
+>delays 1 32
+     1  2  3  4  5  6
+  1  x  .  x  .  .  x
+>delays 1 33
+refused 20
+>delays 1 2
+refused 20
+>delays 1 0
+refused 20
+>delays 1 259
+refused 20
+>delays 1 4294967295
+refused 20
+>delays 0 3
+refused 2
+>delays 2 3
+refused 2
+>delays 257 3
+refused 2
+>delays 2 0
+refused 2
+>delays 1 2 made
+refused 20
+>delays 2 3 made
+refused 2
+>load made
+no file
+>delays 1 3 missing/made
+not written
+>delays 1 3 inner
+not written
+>delays 1 3 made/
+not written
+>delays 1 3 made
+ok
+>bank
+22 0 0 0
+>read
+plan 1 cycle 1 6 sum 7
+>table 1
+     1  2  3  4  5  6
+  1  x  .  x  .  .  x
+>load made
+ok
+>table 1
+     1  2  3  4  5  6  7  8
+  1  x  .  x  .  .  .  .  x
+>read
+refused 8
+>bank
+0 0 0 0
+>constant 1
+constant 3
+>judge 1 3
+yes
+>\tdelays\t01  003 \r
+     1  2  3  4  5  6  7  8
+  1  x  .  x  .  .  .  .  x
+>delays 1 3 0007
+ok
+>delays 1 3  4294967296\r
+ok
+>report made
+refused 15
+>fresh 2 3 5
+ok
+>mark 1 1 1
+ok
+>mark 1 1 4
+ok
+>mark 1 2 2
+ok
+>mark 1 3 3
+ok
+>mark 1 3 5
+ok
+>mark 2 1 2
+ok
+>mark 2 1 5
+ok
+>mark 2 2 4
+ok
+>mark 2 3 1
+ok
+>mark 2 3 3
+ok
+>delays 1 2
+     1  2  3  4  5  6
+  1  x  .  .  x  .  .
+  2  .  x  .  .  .  .
+  3  .  .  x  .  .  x
+>delays 1 3
+     1  2  3  4  5  6  7
+  1  x  .  .  .  x  .  .
+  2  .  x  .  .  .  .  .
+  3  .  .  x  .  .  .  x
+>delays 2 2
+     1  2  3  4  5  6  7
+  1  .  x  .  .  .  .  x
+  2  .  .  .  .  x  .  .
+  3  x  .  .  x  .  .  .
+>delays 2 1
+refused 20
+>mark 1 1 2
+ok
+>delays 1 3
+refused 19
+>delays 1 0
+refused 19
+>delays 1 3 two
+refused 19
+>load two
+no file
+>delays 3 0
+refused 2
+>delays 2 2 two
+ok
+>load two
+ok
+>table 1
+     1  2  3  4  5  6  7
+  1  .  x  .  .  .  .  x
+  2  .  .  .  .  x  .  .
+  3  x  .  .  x  .  .  .
+>table 2
+refused 2
+>fresh 1 1 32
+ok
+>mark 1 1 1
+ok
+>mark 1 1 3
+ok
+>delays 1 2
+refused 21
+>delays 1 2 wide
+refused 21
+>delays 1 1
+refused 20
+>delays 1 3
+     1  2  3  4  5  6  7  8  9 10 11 12 13 14 15 16 17 18 19 20 21 22 23 24 25 26 27 28 29 30 31 32
+  1  x  .  x  .  .  .  .  .  .  .  .  .  .  .  .  .  .  .  .  .  .  .  .  .  .  .  .  .  .  .  .  .
+>fresh 1 1 31
+ok
+>mark 1 1 1
+ok
+>mark 1 1 3
+ok
+>delays 1 2
+     1  2  3  4  5  6  7  8  9 10 11 12 13 14 15 16 17 18 19 20 21 22 23 24 25 26 27 28 29 30 31 32
+  1  x  .  .  x  .  .  .  .  .  .  .  .  .  .  .  .  .  .  .  .  .  .  .  .  .  .  .  .  .  .  .  .
+>fresh 1 2 3
+ok
+>delays 1 1
+     1  2  3
+  1  .  .  .
+  2  .  .  .
+>delays 1 1 made/none
+not written
+>delays 1 1 none
+ok
+";
+
+/// The files that the first lines write: Fig. 1's unit, whose table begins at byte 6 and has a word for each segment.
+const FOUND_FILES: [(&str, &[u8]); 2] = [("figure", FIGURE_1), ("a\rb", FIGURE_1)];
+const FIGURE_1: &[u8] = &[1, 5, 9, 0, 6, 0, 0x01, 0x01, 0, 0, 0x86, 0, 0, 0, 0x08, 0, 0, 0, 0x30, 0, 0, 0, 0xC0, 0, 0, 0];
+
+/// The units with delays that are found after the lines above: marks 1 3 8; 2 7, 5 and 1 4; and none.
+const FOUND_DELAYS: [(&str, &[u8]); 5] = [
+    ("made", &[1, 1, 8, 0, 6, 0, 0x85, 0, 0, 0]),
+    ("0007", &[1, 1, 8, 0, 6, 0, 0x85, 0, 0, 0]),
+    ("4294967296", &[1, 1, 8, 0, 6, 0, 0x85, 0, 0, 0]),
+    ("two", &[1, 3, 7, 0, 6, 0, 0x42, 0, 0, 0, 0x10, 0, 0, 0, 0x09, 0, 0, 0]),
+    ("none", &[1, 2, 3, 0, 6, 0, 0, 0, 0, 0, 0, 0, 0, 0]),
+];
+
 /// The paper's record, the same with a byte more, and with its spare bit 0; a unit file; and a file of no bytes.
 const RECORD_FILES: [(&str, &[u8]); 5] = [
     ("paper", &[0x02, 0x00, 0x07, 0x00, 0x08, 0x00, 0x0A, 0x00, 0x03, 0x04, 0xF6]),
@@ -781,13 +1012,20 @@ const RECORD_FILES: [(&str, &[u8]); 5] = [
     ("empty", &[]),
 ];
 
-/// The records that are found after the lines above.
-const FOUND_RECORDS: [(&str, &[u8]); 5] = [
+/// The records that are found after the lines about them, and the unit of two functions that is saved over one.
+const FOUND_RECORDS: [(&str, &[u8]); 6] = [
     ("made", &[0x02, 0x00, 0x09, 0x00, 0x08, 0x00, 0x0A, 0x00, 0x02, 0x07, 0xFA, 0xFF]),
     ("again", &[0x02, 0x00, 0x07, 0x00, 0x08, 0x00, 0x0A, 0x00, 0x03, 0x04, 0xF6]),
     ("0001", &[0x02, 0x00, 0x07, 0x00, 0x08, 0x00, 0x0A, 0x00, 0x03, 0x04, 0xF6]),
     ("unit", &[0x02, 0x00, 0x07, 0x00, 0x08, 0x00, 0x0A, 0x00, 0x03, 0x04, 0xF6]),
     ("two", &[0x01, 0x00, 0x01, 0x00, 0x08, 0x00, 0x09, 0x00, 0x01, 0xFE]),
+    (
+        "paper",
+        &[
+            2, 5, 9, 0, 8, 0, 28, 0, 0x01, 0x01, 0, 0, 0x86, 0, 0, 0, 0x08, 0, 0, 0, 0x30, 0, 0, 0, 0xC0, 0, 0, 0, 0, 0, 0, 0, 0, 0, 0, 0,
+            0, 0, 0, 0, 0, 0, 0, 0, 0, 0, 0, 0,
+        ],
+    ),
 ];
 
 /// A script of lines, with the answers that the model gives.
@@ -804,30 +1042,31 @@ fn put_files(folder: &mut Folder, files: &[(&str, &[u8])]) {
     folder.files.extend(files.iter().map(|(name, bytes)| (name.as_bytes().to_vec(), File::Bytes(bytes.to_vec()))));
 }
 
-/// The model's answers are those written by hand, and so are the records that it says are written.
-fn session(name: &str, seen: &str, before: Folder, records: &[(&str, &[u8])]) -> Result<(), String> {
+/// The model's answers are those written by hand, and so are the files that it says are written.
+fn session(name: &str, seen: &str, before: Folder, found: &[(&str, &[u8])]) -> Result<(), String> {
     // `lines` would pass over carriage returns at the end
     let lines: Vec<&str> = seen.split_terminator('\n').collect();
     let typed: Vec<&str> = lines.iter().filter_map(|line| line.strip_prefix('>')).collect();
     let seen: String = lines.iter().filter(|line| !line.starts_with('>')).map(|line| format!("{line}\n")).collect();
     let script = script_of(name, &typed, before);
-    let written = script.after.files.iter().filter(|(_, file)| matches!(file, File::Record(_))).count();
-    if written != records.len() {
-        return Err(format!("{name}: {written} records are written"));
+    let written = script.after.files.iter().filter(|(name, file)| script.before.files.get(*name) != Some(*file)).count();
+    if written != found.len() {
+        return Err(format!("{name}: {written} files are written"));
     }
     let mut folder = script.after.clone();
-    put_files(&mut folder, records);
+    put_files(&mut folder, found);
     let run = Run { output: seen.into_bytes(), ending: Ending::Status(0), unanswered: None, folder };
     check(&script, &run, &mut Counts::default()).map_err(|difference| difference.why)
 }
 
 /// The model's answers are those written by hand above.
 pub fn examples() -> Result<(), String> {
-    session("the examples", EXAMPLES, Folder::default(), &[])?;
+    session("the examples", EXAMPLES, Folder::default(), &FOUND_FILES)?;
     let mut before = Folder::default();
     put_files(&mut before, &RECORD_FILES);
     session("the examples of records", RECORDS, before, &FOUND_RECORDS)?;
-    session("the examples of charts", CHARTS, Folder::default(), &[])
+    session("the examples of charts", CHARTS, Folder::default(), &[])?;
+    session("the examples of delays", DELAYS, Folder::default(), &FOUND_DELAYS)
 }
 
 /// The model against the paper's tables and its own definitions, and against the examples.
@@ -836,5 +1075,6 @@ pub fn check_model() -> Result<(), String> {
     loops_check::run()?;
     records_check::run()?;
     charts_check::run()?;
+    delays_check::run()?;
     examples()
 }

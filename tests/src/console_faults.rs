@@ -2,13 +2,17 @@
 //! the comparison works, a console that is wrong shows that the lines reach the fault.
 
 use crate::charts;
-use crate::console_folder::{Content, File, Folder, Shelf, PART};
+use crate::console_folder::{part_of, Content, File, Folder, Shelf};
 use crate::console_model::*;
 use crate::console_script::LINES;
 use crate::console_words::{one_turn, Draw};
+use crate::delays::*;
+use crate::delays_check::{after, is_taken, marks_in, tried_places, Placed};
 use crate::loops::Loops;
 use crate::model::*;
 use crate::records;
+use std::cell::Cell;
+use std::rc::Rc;
 
 /// What a faulty console is made of.
 pub struct Faulty {
@@ -216,9 +220,126 @@ impl Faulty {
         answer
     }
 
+    /// With something done to the files where this command has written one, from the files before and the name of that one.
+    fn having_written(&mut self, line: &[u8], place: usize, name: &str, then: fn(&mut Folder, &Folder, &[u8])) -> Answer {
+        let Some(file) = file_of(line, name) else { return self.answer(line, place) };
+        let before = self.console.shelf.clone();
+        let answer = self.answer(line, place);
+        if is(&answer, name, "ok") {
+            then(&mut self.console.shelf, &before, file);
+        }
+        answer
+    }
+
+    /// With other words, where the line has a name and so many words after it.
+    fn with_words_of(&mut self, line: &[u8], place: usize, name: &str, count: usize, change: impl Fn(&mut Vec<Vec<u8>>)) -> Answer {
+        self.with_words(line, place, |words| {
+            if words[0] == name.as_bytes() && words.len() == count + 1 {
+                change(words);
+            }
+        })
+    }
+
+    /// With a word too many, where the last of so many words after a name, which is a file's, is such a number.
+    fn with_no_number(&mut self, line: &[u8], place: usize, name: &str, count: usize, is: fn(&[u8]) -> bool) -> Answer {
+        self.with_words_of(line, place, name, count, |words| {
+            if is(&words[count]) {
+                words.push(b"x".to_vec());
+            }
+        })
+    }
+
+    /// With another command about the same function carried out after an accepted one.
+    fn and_then(&mut self, line: &[u8], place: usize, name: &str, then: &str) -> Answer {
+        let answer = self.answer(line, place);
+        if is(&answer, name, "ok") {
+            let line = [then.as_bytes(), b" ", words_of(line)[1]].concat();
+            self.answer(&line, place);
+        }
+        answer
+    }
+
+    /// The unit with delays that was shown or written.
+    fn delayed_by(&self, line: &[u8], answer: &Answer) -> Option<Unit> {
+        let unit = self.console.unit.as_ref().filter(|_| is(answer, "delays", "ok"))?;
+        let words = words_of(line);
+        delayed(unit, number(words[1])?, number(words[2])?).ok()
+    }
+
+    /// With another text, from the unit with delays, where that was written or where it was shown.
+    fn telling_delays(&mut self, line: &[u8], place: usize, is_written: bool, text: impl Fn(&Unit) -> String) -> Answer {
+        let mut answer = self.answer(line, place);
+        if let (Some(result), true) = (self.delayed_by(line, &answer), file_of(line, "delays").is_some() == is_written) {
+            answer.parts = vec![Part::Text(text(&result))];
+        }
+        answer
+    }
+
+    /// With the unit with delays in place of the session's, where that was written or where it was shown.
+    fn taking_delays(&mut self, line: &[u8], place: usize, is_written: bool) -> Answer {
+        let answer = self.answer(line, place);
+        if let (Some(result), true) = (self.delayed_by(line, &answer), file_of(line, "delays").is_some() == is_written) {
+            change_unit(&mut self.console, |unit| *unit = result);
+        }
+        answer
+    }
+
+    /// With the session's unit written where delays with a file get this answer.
+    fn saving_at(&mut self, line: &[u8], place: usize, told: &str) -> Answer {
+        let answer = self.answer(line, place);
+        if let (true, Some(file), Some(unit)) = (is(&answer, "delays", told), file_of(line, "delays"), &self.console.unit) {
+            let content = Content::Bytes(encode(unit));
+            self.console.shelf.save(file, &content);
+        }
+        answer
+    }
+
     /// With a loop in place of a refusal in this special case.
     fn unrefused(&mut self, line: &[u8], place: usize, what: &'static str) -> Answer {
         self.instead(line, place, |answer, _| answer.met.contains(&what).then(|| "loop cycle 1 sum 1\n".to_string()))
+    }
+}
+
+/// The file that a line of this name asks to be written.
+pub fn file_of<'a>(line: &'a [u8], name: &str) -> Option<&'a [u8]> {
+    match words_of(line)[..] {
+        [first @ b"save", file] | [first @ b"record", _, file] | [first @ b"delays", _, _, file] if first == name.as_bytes() => Some(file),
+        _ => None,
+    }
+}
+
+/// A `.part` is left beside a file.
+fn leave_part(folder: &mut Folder, _: &Folder, name: &[u8]) {
+    if let Some(file @ (File::Bytes(_) | File::Record(_))) = folder.files.get(name).cloned() {
+        folder.files.insert(part_of(name), file);
+    }
+}
+
+/// The old file itself is written, and a `.part` that stood is still there.
+fn keep_part(folder: &mut Folder, before: &Folder, name: &[u8]) {
+    let part = part_of(name);
+    folder.files.extend(before.files.get(&part).map(|file| (part, file.clone())));
+}
+
+/// The file stands where a link stood.
+fn replace_link(folder: &mut Folder, before: &Folder, name: &[u8]) {
+    let (Some(File::Link(_)), Some(content)) = (before.files.get(name), folder.load(name)) else { return };
+    let file = match content {
+        Content::Bytes(bytes) => File::Bytes(bytes),
+        Content::Record(planned) => File::Record(planned),
+    };
+    *folder = before.clone();
+    folder.files.insert(name.to_vec(), file);
+}
+
+/// The end of a longer file is left.
+fn keep_end(folder: &mut Folder, before: &Folder, _: &[u8]) {
+    for (name, file) in &mut folder.files {
+        if let (File::Bytes(new), Some(File::Bytes(old))) = (file, before.files.get(name)) {
+            if new.len() < old.len() {
+                new.extend_from_slice(&old[new.len()..]);
+            }
+        }
     }
 }
 
@@ -292,6 +413,14 @@ fn digits(text: &str) -> Option<u128> {
     text.parse().ok()
 }
 
+fn is_number(word: &[u8]) -> bool {
+    number(word).is_some()
+}
+
+fn is_large_number(word: &[u8]) -> bool {
+    digits(&String::from_utf8_lossy(word)).is_some_and(|number| number >= 1 << 32)
+}
+
 fn refused(told: &str) -> bool {
     told.starts_with("refused")
 }
@@ -308,14 +437,24 @@ fn drop_plan(console: &mut Console<Folder>) {
     console.plan = None;
 }
 
-/// Takes the last mark away. A plan is kept where its function can still have one.
-fn take_mark(console: &mut Console<Folder>) {
+/// Changes the unit. A plan is kept where its function has the diagram that it had, so that the plan still runs along its arcs.
+fn change_unit(console: &mut Console<Folder>, change: impl FnOnce(&mut Unit)) {
+    let diagram = |console: &mut Console<Folder>| console.plan.and_then(|plan| console.drawn(plan.tag)).map(|drawn| drawn.graph);
+    let before = diagram(console);
     if let Some(unit) = &mut console.unit {
-        unit.marks.pop_last();
+        change(unit);
     }
-    if console.plan.is_some_and(|plan| console.drawn(plan.tag).is_none()) {
+    let after = diagram(console);
+    if !matches!((before, after), (Some(before), Some(after)) if Rc::ptr_eq(&before, &after)) {
         drop_plan(console);
     }
+}
+
+/// Takes the last mark away.
+fn take_mark(console: &mut Console<Folder>) {
+    change_unit(console, |unit| {
+        unit.marks.pop_last();
+    });
 }
 
 fn is(answer: &Answer, name: &str, told: &str) -> bool {
@@ -649,13 +788,7 @@ pub const FAULTS: &[(&str, Fault)] = &[
         it.unrefused(line, place, "loop: refused by 7 for latencies of a function not named")
     }),
     // rows
-    ("row: Q and R are exchanged", |it, line, place| {
-        it.with_words(line, place, |words| {
-            if words[0] == b"row" && words.len() == 3 {
-                words.swap(1, 2);
-            }
-        })
-    }),
+    ("row: Q and R are exchanged", |it, line, place| it.with_words_of(line, place, "row", 2, |words| words.swap(1, 2))),
     ("row: its own columns alone", |it, line, place| {
         it.instead(line, place, |_, text| {
             let row = text.strip_prefix("row ")?.trim_start_matches('0').trim_end();
@@ -742,25 +875,11 @@ pub const FAULTS: &[(&str, Fault)] = &[
     ("a loop empties the bank", |it, line, place| it.after(line, place, &["loop"], ok, empty)),
     ("a refused loop empties the bank", |it, line, place| it.after(line, place, &["loop"], refused, empty)),
     ("a loop takes a time unit", |it, line, place| it.after(line, place, &["loop"], ok, |console| console.bank.tick())),
-    ("a loop starts its first tag", |it, line, place| {
-        let answer = it.answer(line, place);
-        if is(&answer, "loop", "ok") {
-            let start = [b"start ", words_of(line)[1]].concat();
-            it.answer(&start, place);
-        }
-        answer
-    }),
+    ("a loop starts its first tag", |it, line, place| it.and_then(line, place, "loop", "start")),
     ("a loop takes a mark away", |it, line, place| it.after(line, place, &["loop"], ok, take_mark)),
     ("a loop drops the plan", |it, line, place| it.after(line, place, &["loop"], ok, drop_plan)),
     ("a refused loop drops the plan", |it, line, place| it.after(line, place, &["loop"], refused, drop_plan)),
-    ("a loop makes a plan", |it, line, place| {
-        let answer = it.answer(line, place);
-        if is(&answer, "loop", "ok") {
-            let search = [b"search ", words_of(line)[1]].concat();
-            it.answer(&search, place);
-        }
-        answer
-    }),
+    ("a loop makes a plan", |it, line, place| it.and_then(line, place, "loop", "search")),
     ("a mark that stood keeps the plan", |it, line, place| {
         it.keeping(line, place, &["mark"], true, |_, answer| answer.met.contains(&"a mark that stood"))
     }),
@@ -781,60 +900,10 @@ pub const FAULTS: &[(&str, Fault)] = &[
         it.after(line, place, &["start"], |told| told == "refused 10", |console| console.bank.tick())
     }),
     // files
-    ("a save over a longer file leaves its end", |it, line, place| {
-        if !first_is(line, &[b"save"]) {
-            return it.answer(line, place);
-        }
-        let before = it.console.shelf.clone();
-        let answer = it.answer(line, place);
-        for (name, file) in &mut it.console.shelf.files {
-            if let (File::Bytes(new), Some(File::Bytes(old))) = (file, before.files.get(name)) {
-                if new.len() < old.len() && is(&answer, "save", "ok") {
-                    new.extend_from_slice(&old[new.len()..]);
-                }
-            }
-        }
-        answer
-    }),
-    ("a save leaves its `.part`", |it, line, place| {
-        let answer = it.answer(line, place);
-        if is(&answer, "save", "ok") {
-            let name = words_of(line)[1].to_vec();
-            if let Some(File::Bytes(bytes)) = it.console.shelf.files.get(&name).cloned() {
-                it.console.shelf.files.insert([&name[..], PART.as_bytes()].concat(), File::Bytes(bytes));
-            }
-        }
-        answer
-    }),
-    ("a save writes over the old file itself", |it, line, place| {
-        if !first_is(line, &[b"save"]) {
-            return it.answer(line, place);
-        }
-        let before = it.console.shelf.clone();
-        let answer = it.answer(line, place);
-        if is(&answer, "save", "ok") {
-            let part = [words_of(line)[1], PART.as_bytes()].concat();
-            if let Some(file) = before.files.get(&part) {
-                it.console.shelf.files.insert(part, file.clone());
-            }
-        }
-        answer
-    }),
-    ("a save to a symbolic link replaces the link", |it, line, place| {
-        if !first_is(line, &[b"save"]) {
-            return it.answer(line, place);
-        }
-        let mut before = it.console.shelf.clone();
-        let answer = it.answer(line, place);
-        if is(&answer, "save", "ok") {
-            let name = words_of(line)[1].to_vec();
-            if let (Some(File::Link(_)), Some(unit)) = (before.files.get(&name), &it.console.unit) {
-                before.files.insert(name, File::Bytes(encode(unit)));
-                it.console.shelf = before;
-            }
-        }
-        answer
-    }),
+    ("a save over a longer file leaves its end", |it, line, place| it.having_written(line, place, "save", keep_end)),
+    ("a save leaves its `.part`", |it, line, place| it.having_written(line, place, "save", leave_part)),
+    ("a save writes over the old file itself", |it, line, place| it.having_written(line, place, "save", keep_part)),
+    ("a save to a symbolic link replaces the link", |it, line, place| it.having_written(line, place, "save", replace_link)),
     ("a save to a name without room for `.part` is written", |it, line, place| {
         let mut answer = it.answer(line, place);
         if answer.met.contains(&"a save to a name without room for `.part`") {
@@ -846,7 +915,7 @@ pub const FAULTS: &[(&str, Fault)] = &[
         answer
     }),
     ("a NUL ends a file's name", |it, line, place| {
-        let named = first_is(line, &[b"load", b"save", b"record", b"report", b"ring"]);
+        let named = first_is(line, &[b"load", b"save", b"record", b"report", b"ring", b"delays"]);
         let end = line.iter().position(|byte| *byte == 0).filter(|_| named).unwrap_or(line.len());
         it.answer(&line[..end], place)
     }),
@@ -904,89 +973,29 @@ pub const FAULTS: &[(&str, Fault)] = &[
     ("record: an unknown function is refused by 8 beside a plan", |it, line, place| {
         it.in_case(line, place, "a record refused by 2 beside a plan", "refused 8\n")
     }),
-    ("record: a file's name may be no number", |it, line, place| {
-        it.with_words(line, place, |words| {
-            if words[0] == b"record" && words.len() == 3 && number(&words[2]).is_some() {
-                words.push(b"x".to_vec());
-            }
-        })
-    }),
+    ("record: a file's name may be no number", |it, line, place| it.with_no_number(line, place, "record", 2, is_number)),
     ("record: a file's name may be no number above 4294967295", |it, line, place| {
-        it.with_words(line, place, |words| {
-            if words[0] == b"record"
-                && words.len() == 3
-                && digits(&String::from_utf8_lossy(&words[2])).is_some_and(|number| number >= 1 << 32)
-            {
-                words.push(b"x".to_vec());
-            }
-        })
+        it.with_no_number(line, place, "record", 2, is_large_number)
     }),
-    ("report: a file's name may be no number", |it, line, place| {
-        it.with_words(line, place, |words| {
-            if words[0] == b"report" && words.len() == 2 && number(&words[1]).is_some() {
-                words.push(b"x".to_vec());
-            }
-        })
-    }),
-    ("ring: a file's name may be no number", |it, line, place| {
-        it.with_words(line, place, |words| {
-            if words[0] == b"ring" && words.len() == 2 && number(&words[1]).is_some() {
-                words.push(b"x".to_vec());
-            }
-        })
-    }),
+    ("report: a file's name may be no number", |it, line, place| it.with_no_number(line, place, "report", 1, is_number)),
+    ("ring: a file's name may be no number", |it, line, place| it.with_no_number(line, place, "ring", 1, is_number)),
     ("record: the file may come first", |it, line, place| {
-        it.with_words(line, place, |words| {
-            if words[0] == b"record" && words.len() == 3 && number(&words[1]).is_none() && number(&words[2]).is_some() {
+        it.with_words_of(line, place, "record", 2, |words| {
+            if !is_number(&words[1]) && is_number(&words[2]) {
                 words.swap(1, 2);
             }
         })
     }),
     ("record: without a number it is the plan's", |it, line, place| {
         let tag = it.console.plan.map_or(1, |plan| plan.tag);
-        it.with_words(line, place, |words| {
-            if words[0] == b"record" && words.len() == 2 {
-                words.insert(1, tag.to_string().into_bytes());
-            }
-        })
+        it.with_words_of(line, place, "record", 1, |words| words.insert(1, tag.to_string().into_bytes()))
     }),
     ("record: no unit comes after refused 2", |it, line, place| {
         it.instead(line, place, |answer, _| is(answer, "record", "no unit").then(|| "refused 2\n".to_string()))
     }),
-    ("a record leaves its `.part`", |it, line, place| {
-        let answer = it.answer(line, place);
-        if is(&answer, "record", "ok") {
-            let name = words_of(line)[2].to_vec();
-            if let Some(File::Record(planned)) = it.console.shelf.files.get(&name).cloned() {
-                it.console.shelf.files.insert([&name[..], PART.as_bytes()].concat(), File::Record(planned));
-            }
-        }
-        answer
-    }),
-    ("a record writes over the old file itself", |it, line, place| {
-        let part = words_of(line).get(2).map(|name| [name, PART.as_bytes()].concat()).unwrap_or_default();
-        let stood = it.console.shelf.files.get(&part).cloned();
-        let answer = it.answer(line, place);
-        if is(&answer, "record", "ok") {
-            it.console.shelf.files.extend(stood.map(|file| (part, file)));
-        }
-        answer
-    }),
-    ("a record to a symbolic link replaces the link", |it, line, place| {
-        if !first_is(line, &[b"record"]) {
-            return it.answer(line, place);
-        }
-        let mut before = it.console.shelf.clone();
-        let answer = it.answer(line, place);
-        if is(&answer, "record", "ok") {
-            let name = words_of(line)[2];
-            if let (Some(File::Link(_)), Some(Content::Record(planned))) = (before.files.get(name), it.console.shelf.load(name)) {
-                before.files.insert(name.to_vec(), File::Record(planned));
-                it.console.shelf = before;
-            }
-        }
-        answer
-    }),
+    ("a record leaves its `.part`", |it, line, place| it.having_written(line, place, "record", leave_part)),
+    ("a record writes over the old file itself", |it, line, place| it.having_written(line, place, "record", keep_part)),
+    ("a record to a symbolic link replaces the link", |it, line, place| it.having_written(line, place, "record", replace_link)),
     ("a record to a name without room for `.part` is written", |it, line, place| {
         let mut answer = it.answer(line, place);
         if answer.met.contains(&"a record to a name without room for `.part`") {
@@ -1112,8 +1121,8 @@ pub const FAULTS: &[(&str, Fault)] = &[
     }),
     ("simulate: no units are refused", |it, line, place| it.refusing(line, place, "a chart of no units", 6)),
     ("simulate: no units are not what was expected", |it, line, place| {
-        it.with_words(line, place, |words| {
-            if words[0] == b"simulate" && words.len() == 3 && number(&words[2]) == Some(0) {
+        it.with_words_of(line, place, "simulate", 2, |words| {
+            if number(&words[2]) == Some(0) {
                 words.push(b"x".to_vec());
             }
         })
@@ -1122,13 +1131,7 @@ pub const FAULTS: &[(&str, Fault)] = &[
     ("simulate: the units are taken modulo 256", |it, line, place| it.with_units(line, place, |units| units % 256)),
     ("simulate: the units are taken modulo 65,536", |it, line, place| it.with_units(line, place, |units| units % 65_536)),
     ("simulate: one unit more", |it, line, place| it.with_units(line, place, |units| units.saturating_add(1))),
-    ("simulate: Q and UNITS are exchanged", |it, line, place| {
-        it.with_words(line, place, |words| {
-            if words[0] == b"simulate" && words.len() == 3 {
-                words.swap(1, 2);
-            }
-        })
-    }),
+    ("simulate: Q and UNITS are exchanged", |it, line, place| it.with_words_of(line, place, "simulate", 2, |words| words.swap(1, 2))),
     ("simulate: 8,192 units are the most", |it, line, place| it.refusing(line, place, "a chart of more than 8,192 units", 6)),
     ("simulate: 8,191 units are the most", |it, line, place| it.refusing(line, place, "a chart of 8,192 units", 6)),
     ("simulate: 147,857 bytes are the most", |it, line, place| it.refusing(line, place, "a chart of 147,858 bytes", 6)),
@@ -1161,14 +1164,7 @@ pub const FAULTS: &[(&str, Fault)] = &[
     ("a chart empties the bank", |it, line, place| it.after(line, place, &["simulate"], ok, empty)),
     ("a refused chart empties the bank", |it, line, place| it.after(line, place, &["simulate"], refused, empty)),
     ("a chart takes a time unit", |it, line, place| it.after(line, place, &["simulate"], ok, |console| console.bank.tick())),
-    ("a chart starts its function", |it, line, place| {
-        let answer = it.answer(line, place);
-        if is(&answer, "simulate", "ok") {
-            let start = [b"start ", words_of(line)[1]].concat();
-            it.answer(&start, place);
-        }
-        answer
-    }),
+    ("a chart starts its function", |it, line, place| it.and_then(line, place, "simulate", "start")),
     ("a chart leaves an empty bank with one start", |it, line, place| {
         let answer = it.answer(line, place);
         if is(&answer, "simulate", "ok") {
@@ -1179,13 +1175,410 @@ pub const FAULTS: &[(&str, Fault)] = &[
         answer
     }),
     ("a chart takes a mark away", |it, line, place| it.after(line, place, &["simulate"], ok, take_mark)),
-    ("a chart makes a new plan", |it, line, place| {
+    ("a chart makes a new plan", |it, line, place| it.and_then(line, place, "simulate", "search")),
+    // delays: what is asked for, what becomes of files, and what is to be as it was
+    ("delays: no unit comes after refused 2", |it, line, place| {
+        it.instead(line, place, |answer, _| is(answer, "delays", "no unit").then(|| "refused 2\n".to_string()))
+    }),
+    ("delays: Q and M are exchanged", |it, line, place| it.with_words_of(line, place, "delays", 2, |words| words.swap(1, 2))),
+    ("delays: Q and M are exchanged where a file is named", |it, line, place| {
+        it.with_words_of(line, place, "delays", 3, |words| words.swap(1, 2))
+    }),
+    ("delays: a file has to be named", |it, line, place| it.with_words_of(line, place, "delays", 2, |words| words.truncate(2))),
+    ("delays: no file may be named", |it, line, place| it.with_words_of(line, place, "delays", 3, |words| words.push(b"x".to_vec()))),
+    ("delays: a file that is named is passed over", |it, line, place| {
+        it.with_words_of(line, place, "delays", 3, |words| words.truncate(3))
+    }),
+    ("delays: a file's name may be no number", |it, line, place| it.with_no_number(line, place, "delays", 3, is_number)),
+    ("delays: a file's name may be no number above 4294967295", |it, line, place| {
+        it.with_no_number(line, place, "delays", 3, is_large_number)
+    }),
+    ("delays: a file's name that is a number is passed over", |it, line, place| {
+        it.with_words_of(line, place, "delays", 3, |words| words.truncate(if is_number(&words[3]) { 3 } else { 4 }))
+    }),
+    ("delays: the file may come first", |it, line, place| {
+        it.with_words_of(line, place, "delays", 3, |words| {
+            if !is_number(&words[1]) {
+                words[1..].rotate_left(1);
+            }
+        })
+    }),
+    ("delays: without M it is 32", |it, line, place| it.with_words_of(line, place, "delays", 1, |words| words.push(b"32".to_vec()))),
+    ("delays: without M it is 32, and a file may be named", |it, line, place| {
+        it.with_words_of(line, place, "delays", 2, |words| {
+            if !is_number(&words[2]) {
+                words.insert(2, b"32".to_vec());
+            }
+        })
+    }),
+    ("delays: the table is shown where a file is written", |it, line, place| {
+        it.telling_delays(line, place, true, |result| table(result, 1))
+    }),
+    ("delays: ok comes before the table", |it, line, place| {
+        it.telling_delays(line, place, false, |result| format!("ok\n{}", table(result, 1)))
+    }),
+    ("delays: ok comes after the table", |it, line, place| it.telling_delays(line, place, false, |result| table(result, 1) + "ok\n")),
+    ("delays: ok in place of the table", |it, line, place| it.telling_delays(line, place, false, |_| "ok\n".to_string())),
+    ("delays: the line of column numbers is left out", |it, line, place| {
+        it.telling_delays(line, place, false, |result| table(result, 1).split_inclusive('\n').skip(1).collect())
+    }),
+    ("delays: the columns are numbered as before", |it, line, place| {
+        let columns = it.console.unit.as_ref().map_or(0, |unit| unit.columns as usize);
+        it.telling_delays(line, place, false, |result| {
+            let text = table(result, 1);
+            let (numbers, rows) = text.split_once('\n').expect("two lines");
+            format!("{}\n{rows}", &numbers[..3 + 3 * columns])
+        })
+    }),
+    ("delays over a longer file leave its end", |it, line, place| it.having_written(line, place, "delays", keep_end)),
+    ("delays leave their `.part`", |it, line, place| it.having_written(line, place, "delays", leave_part)),
+    ("delays write over the old file itself", |it, line, place| it.having_written(line, place, "delays", keep_part)),
+    ("delays to a symbolic link replace the link", |it, line, place| it.having_written(line, place, "delays", replace_link)),
+    ("delays to a name without room for `.part` are written", |it, line, place| {
+        it.in_case(line, place, "delays to a name without room for `.part`", "ok\n")
+    }),
+    ("delays are not written over a unit file", |it, line, place| it.in_case(line, place, "delays over a unit file", "not written\n")),
+    ("delays write no file", |it, line, place| it.having_written(line, place, "delays", |folder, before, _| *folder = before.clone())),
+    ("delays write the unit as it is", |it, line, place| it.saving_at(line, place, "ok")),
+    ("delays write the table", |it, line, place| {
         let answer = it.answer(line, place);
-        if is(&answer, "simulate", "ok") {
-            let search = [b"search ", words_of(line)[1]].concat();
-            it.answer(&search, place);
+        if let (Some(result), Some(file)) = (it.delayed_by(line, &answer), file_of(line, "delays")) {
+            it.console.shelf.save(file, &Content::Bytes(table(&result, 1).into_bytes()));
         }
         answer
+    }),
+    ("delays that are refused by 2 write a file", |it, line, place| it.saving_at(line, place, "refused 2")),
+    ("delays that are refused by 19 write a file", |it, line, place| it.saving_at(line, place, "refused 19")),
+    ("delays that are refused by 20 write a file", |it, line, place| it.saving_at(line, place, "refused 20")),
+    ("delays that are refused by 21 write a file", |it, line, place| it.saving_at(line, place, "refused 21")),
+    ("delays that are refused take their file away", |it, line, place| {
+        let answer = it.answer(line, place);
+        if let (Sort::Of("delays", told), Some(file)) = (&answer.sort, file_of(line, "delays")) {
+            if refused(told) {
+                it.console.shelf.files.remove(file);
+            }
+        }
+        answer
+    }),
+    ("delays: what is refused is not written", |it, line, place| {
+        let has_file = file_of(line, "delays").is_some();
+        it.instead(line, place, |answer, text| {
+            (has_file && text.starts_with("refused") && matches!(answer.sort, Sort::Of("delays", _))).then(|| "not written\n".to_string())
+        })
+    }),
+    ("delays: a file that can't be written comes before what is refused", |it, line, place| {
+        let Some(file) = file_of(line, "delays") else { return it.answer(line, place) };
+        let can_be_written = it.console.shelf.clone().save(file, &Content::Bytes(Vec::new()));
+        it.instead(line, place, |_, text| (!can_be_written && text.starts_with("refused")).then(|| "not written\n".to_string()))
+    }),
+    ("delays that are shown are the unit from then on", |it, line, place| it.taking_delays(line, place, false)),
+    ("delays that are written are the unit from then on", |it, line, place| it.taking_delays(line, place, true)),
+    ("delays drop the plan", |it, line, place| it.after(line, place, &["delays"], ok, drop_plan)),
+    ("refused delays drop the plan", |it, line, place| it.after(line, place, &["delays"], refused, drop_plan)),
+    ("delays that are not written drop the plan", |it, line, place| {
+        it.after(line, place, &["delays"], |told| told == "not written", drop_plan)
+    }),
+    ("delays empty the bank", |it, line, place| it.after(line, place, &["delays"], ok, empty)),
+    ("refused delays empty the bank", |it, line, place| it.after(line, place, &["delays"], refused, empty)),
+    ("delays that are not written empty the bank", |it, line, place| {
+        it.after(line, place, &["delays"], |told| told == "not written", empty)
+    }),
+    ("delays take a time unit", |it, line, place| it.after(line, place, &["delays"], ok, |console| console.bank.tick())),
+    ("delays take a mark away", |it, line, place| it.after(line, place, &["delays"], ok, take_mark)),
+    ("delays make a plan", |it, line, place| it.and_then(line, place, "delays", "search")),
+    ("delays start their function", |it, line, place| it.and_then(line, place, "delays", "start")),
+];
+
+/// Delays by another rule, where nothing is refused before the columns are placed.
+fn ruled(
+    unit: &Unit,
+    tag: u32,
+    latency: u32,
+    first: impl Fn(u32, u32) -> u32,
+    taken: impl Fn(Option<u32>, &[Placed], u32) -> bool,
+) -> Reply<Unit> {
+    places(unit, tag, latency)?;
+    moved(unit, tag, &tried_places(unit, tag, first, taken))
+}
+
+/// The same where one of the earlier marks alone is looked at.
+fn ruled_by_one(unit: &Unit, tag: u32, latency: u32, which: fn(&[&Placed]) -> Option<u32>) -> Reply<Unit> {
+    ruled(unit, tag, latency, after, |segment, earlier, place| {
+        let marks: Vec<&Placed> = earlier.iter().filter(|mark| Some(mark.segment) == segment).collect();
+        which(&marks).is_some_and(|other| other % latency == place % latency)
+    })
+}
+
+/// The same where a column is taken for free, though it may not be: from its segment and the place, and whether it is the unit's last.
+fn freed(unit: &Unit, tag: u32, latency: u32, is_free: impl Fn(Option<u32>, u32, bool) -> bool) -> Reply<Unit> {
+    let is_last = Cell::new(false);
+    let first = |column: u32, predecessor: u32| {
+        is_last.set(column == unit.columns);
+        after(column, predecessor)
+    };
+    ruled(unit, tag, latency, first, |segment, earlier, place| {
+        !is_free(segment, place, is_last.get()) && is_taken(segment, earlier, place, latency)
+    })
+}
+
+/// With the right unit changed.
+fn reshaped(unit: &Unit, tag: u32, latency: u32, change: impl Fn(&mut Unit)) -> Reply<Unit> {
+    let mut result = delayed(unit, tag, latency)?;
+    change(&mut result);
+    Ok(result)
+}
+
+/// Refused by this number, where all else is good and it is so.
+fn refused_by(number: u32, holds: bool, unit: &Unit, tag: u32, latency: u32) -> Reply<Unit> {
+    match delayed(unit, tag, latency) {
+        Ok(_) | Err(BEYOND) if holds => Err(number),
+        reply => reply,
+    }
+}
+
+/// Refused by another number, where it is so.
+fn renumbered(number: u32, other: u32, holds: bool, unit: &Unit, tag: u32, latency: u32) -> Reply<Unit> {
+    delayed(unit, tag, latency).map_err(|refusal| if refusal == number && holds { other } else { refusal })
+}
+
+/// M that is below the marks of a segment is refused by 21, where it is below those of none of these segments.
+fn looking_at(mut segments: impl Iterator<Item = u32>, unit: &Unit, tag: u32, latency: u32) -> Reply<Unit> {
+    let is_below = segments.any(|segment| latency < marks_in(&unit.spots(tag), segment));
+    renumbered(NO_LATENCY, BEYOND, is_latency(latency) && !is_below, unit, tag, latency)
+}
+
+/// With the marks passed over that stand in a column besides its first one, where they are such ones.
+fn uncrowded(unit: &Unit, tag: u32, latency: u32, is_passed_over: impl Fn(Spot) -> bool) -> Reply<Unit> {
+    let mut other = unit.clone();
+    let spots = unit.spots(tag);
+    let is_second = |mark: &Mark| spots.iter().any(|spot| spot.1 == mark.column && spot.0 < mark.segment);
+    other.marks.retain(|mark| mark.tag != tag || !is_second(mark) || !is_passed_over((mark.segment, mark.column)));
+    delayed(&other, tag, latency)
+}
+
+/// The place of the last column, and of the last mark.
+fn last_places(unit: &Unit, tag: u32, latency: u32) -> (u32, u32) {
+    let places = places(unit, tag, latency).unwrap_or_default();
+    let last_mark = unit.spots(tag).iter().filter_map(|spot| places.get(spot.1 as usize - 1)).copied().max();
+    (places.last().copied().unwrap_or(0), last_mark.unwrap_or(0))
+}
+
+/// The same for the rule of delays, for the unit that they make, and for what is refused.
+pub const DELAY_FAULTS: &[(&str, Delay)] = &[
+    ("a place is compared with the last mark of the segment alone", |unit, tag, latency| {
+        ruled_by_one(unit, tag, latency, |marks| marks.last().map(|mark| mark.place))
+    }),
+    ("a place is compared with the first mark of the segment alone", |unit, tag, latency| {
+        ruled_by_one(unit, tag, latency, |marks| marks.first().map(|mark| mark.place))
+    }),
+    ("a place is compared with marks where they stood before", |unit, tag, latency| {
+        ruled(unit, tag, latency, after, |segment, earlier, place| {
+            earlier.iter().any(|mark| Some(mark.segment) == segment && mark.column % latency == place % latency)
+        })
+    }),
+    ("a place is compared with the marks of all segments", |unit, tag, latency| {
+        ruled(unit, tag, latency, after, |segment, earlier, place| {
+            segment.is_some() && earlier.iter().any(|mark| mark.place % latency == place % latency)
+        })
+    }),
+    ("a place is compared with the mark just before it", |unit, tag, latency| {
+        ruled(unit, tag, latency, after, |segment, earlier, place| {
+            earlier.last().is_some_and(|mark| Some(mark.segment) == segment && mark.place % latency == place % latency)
+        })
+    }),
+    ("remainders are those modulo M + 1", |unit, tag, latency| {
+        ruled(unit, tag, latency, after, |segment, earlier, place| is_taken(segment, earlier, place, latency + 1))
+    }),
+    ("remainders are those modulo M - 1", |unit, tag, latency| {
+        ruled(unit, tag, latency, after, |segment, earlier, place| is_taken(segment, earlier, place, latency.max(2) - 1))
+    }),
+    ("no mark moves", |unit, tag, latency| ruled(unit, tag, latency, after, |_, _, _| false)),
+    ("a column may have its predecessor's place", |unit, tag, latency| {
+        ruled(unit, tag, latency, |_, predecessor| predecessor.max(1), |segment, earlier, place| is_taken(segment, earlier, place, latency))
+    }),
+    ("a column without a mark has its predecessor's place", |unit, tag, latency| {
+        let spots = unit.spots(tag);
+        let first = |column: u32, predecessor: u32| {
+            let is_marked = spots.iter().any(|spot| spot.1 == column);
+            if is_marked {
+                after(column, predecessor)
+            } else {
+                predecessor.max(1)
+            }
+        };
+        ruled(unit, tag, latency, first, |segment, earlier, place| is_taken(segment, earlier, place, latency))
+    }),
+    ("a column is looked for from its own number on", |unit, tag, latency| {
+        ruled(unit, tag, latency, |column, _| column, |segment, earlier, place| is_taken(segment, earlier, place, latency))
+    }),
+    ("columns are placed from 2 on", |unit, tag, latency| {
+        let first = |column: u32, predecessor: u32| if column == 1 { 2 } else { predecessor + 1 };
+        ruled(unit, tag, latency, first, |segment, earlier, place| is_taken(segment, earlier, place, latency))
+    }),
+    ("a mark moves on by one place at most", |unit, tag, latency| {
+        let tries = Cell::new(0);
+        let first = |column: u32, predecessor: u32| {
+            tries.set(0);
+            after(column, predecessor)
+        };
+        ruled(unit, tag, latency, first, |segment, earlier, place| {
+            tries.set(tries.get() + 1);
+            tries.get() == 1 && is_taken(segment, earlier, place, latency)
+        })
+    }),
+    ("a place of remainder 0 is always free", |unit, tag, latency| freed(unit, tag, latency, |_, place, _| place % latency == 0)),
+    ("a mark of segment 1 never moves", |unit, tag, latency| freed(unit, tag, latency, |segment, _, _| segment == Some(1))),
+    ("a mark of segment 16 never moves", |unit, tag, latency| freed(unit, tag, latency, |segment, _, _| segment == Some(16))),
+    ("a mark of the last segment never moves", |unit, tag, latency| {
+        freed(unit, tag, latency, |segment, _, _| segment == Some(unit.segments))
+    }),
+    ("the last column never moves", |unit, tag, latency| freed(unit, tag, latency, |_, _, is_last| is_last)),
+    ("a column without a mark moves on as a mark of segment 1 would", |unit, tag, latency| {
+        ruled(unit, tag, latency, after, |segment, earlier, place| is_taken(segment.or(Some(1)), earlier, place, latency))
+    }),
+    ("a column without a mark moves on as a mark of the segment before it would", |unit, tag, latency| {
+        ruled(unit, tag, latency, after, |segment, earlier, place| {
+            let last = earlier.last().map(|mark| mark.segment);
+            is_taken(segment.or(last), earlier, place, latency)
+        })
+    }),
+    // the unit
+    ("the columns end with the last mark", |unit, tag, latency| {
+        reshaped(unit, tag, latency, |result| {
+            result.columns = result.marks.iter().map(|mark| mark.column).max().unwrap_or(result.columns);
+        })
+    }),
+    ("there are as many columns as before", |unit, tag, latency| reshaped(unit, tag, latency, |result| result.columns = unit.columns)),
+    ("there are always 32 columns", |unit, tag, latency| reshaped(unit, tag, latency, |result| result.columns = MOST_COLUMNS)),
+    ("there is a column more", |unit, tag, latency| {
+        reshaped(unit, tag, latency, |result| result.columns = MOST_COLUMNS.min(result.columns + 1))
+    }),
+    ("the marks stay function Q's", |unit, tag, latency| {
+        reshaped(unit, tag, latency, |result| {
+            result.functions = unit.functions;
+            result.marks = result.marks.iter().map(|mark| Mark { tag, ..*mark }).collect();
+        })
+    }),
+    ("there are as many functions as before", |unit, tag, latency| {
+        reshaped(unit, tag, latency, |result| result.functions = unit.functions)
+    }),
+    ("the other functions keep their marks", |unit, tag, latency| {
+        reshaped(unit, tag, latency, |result| {
+            result.functions = unit.functions;
+            result.marks = result.marks.iter().map(|mark| Mark { tag, ..*mark }).collect();
+            result.marks.extend(unit.marks.iter().filter(|mark| mark.tag != tag));
+        })
+    }),
+    ("segments after the last marked one are left out", |unit, tag, latency| {
+        reshaped(unit, tag, latency, |result| {
+            result.segments = result.marks.iter().map(|mark| mark.segment).max().unwrap_or(result.segments);
+        })
+    }),
+    ("there are always 16 segments", |unit, tag, latency| reshaped(unit, tag, latency, |result| result.segments = MOST_SEGMENTS)),
+    ("the marks stay in their columns", |unit, tag, latency| {
+        reshaped(unit, tag, latency, |result| {
+            result.marks = unit.spots(tag).into_iter().map(|(segment, column)| Mark { tag: 1, segment, column }).collect();
+        })
+    }),
+    ("the marks that moved stand in their old columns too", |unit, tag, latency| {
+        reshaped(unit, tag, latency, |result| {
+            result.marks.extend(unit.spots(tag).into_iter().map(|(segment, column)| Mark { tag: 1, segment, column }));
+        })
+    }),
+    ("a mark at place 1 is left out", |unit, tag, latency| {
+        reshaped(unit, tag, latency, |result| result.marks.retain(|mark| mark.column > 1))
+    }),
+    ("a mark at place 32 is left out", |unit, tag, latency| {
+        reshaped(unit, tag, latency, |result| result.marks.retain(|mark| mark.column < MOST_COLUMNS))
+    }),
+    ("the function is the first one", |unit, tag, latency| unit.check_tag(tag).and_then(|_| delayed(unit, 1, latency))),
+    ("the function is the last one", |unit, tag, latency| unit.check_tag(tag).and_then(|_| delayed(unit, unit.functions, latency))),
+    // what is refused
+    ("Q is taken modulo 256", |unit, tag, latency| delayed(unit, tag % 256, latency)),
+    ("M is taken modulo 256", |unit, tag, latency| delayed(unit, tag, latency % 256)),
+    ("M is taken modulo 32", |unit, tag, latency| delayed(unit, tag, latency % 32)),
+    ("M above 32 is taken for 32", |unit, tag, latency| delayed(unit, tag, latency.min(MOST_COLUMNS))),
+    ("M of 33 is taken", |unit, tag, latency| delayed(unit, tag, if latency == 33 { 32 } else { latency })),
+    ("M of 32 is refused", |unit, tag, latency| refused_by(NO_LATENCY, latency == 32, unit, tag, latency)),
+    ("M of 0 is taken for 1", |unit, tag, latency| delayed(unit, tag, latency.max(1))),
+    ("M of 1 is refused", |unit, tag, latency| refused_by(NO_LATENCY, latency == 1, unit, tag, latency)),
+    ("M just the most marks of a segment is refused", |unit, tag, latency| {
+        refused_by(NO_LATENCY, latency == most_marks(&unit.spots(tag)), unit, tag, latency)
+    }),
+    ("M below the most marks of a segment is refused by 21", |unit, tag, latency| looking_at(1..1, unit, tag, latency)),
+    ("M one below the most marks of a segment is refused by 21", |unit, tag, latency| {
+        renumbered(NO_LATENCY, BEYOND, is_latency(latency) && latency + 1 == most_marks(&unit.spots(tag)), unit, tag, latency)
+    }),
+    ("20 is by the bound", |unit, tag, latency| {
+        let bound = bound(&collision_vector(&unit.spots(tag), &mut Yard::new()));
+        refused_by(NO_LATENCY, latency < bound, unit, tag, latency)
+    }),
+    ("20 is by the number of all marks", |unit, tag, latency| {
+        refused_by(NO_LATENCY, latency < unit.spots(tag).len() as u32, unit, tag, latency)
+    }),
+    ("20 is by the marks of any function", |unit, tag, latency| {
+        let is_below = (1..=unit.functions).any(|tag| latency < most_marks(&unit.spots(tag)));
+        refused_by(NO_LATENCY, is_below, unit, tag, latency)
+    }),
+    ("20 looks at segment 1 alone", |unit, tag, latency| looking_at(1..=1, unit, tag, latency)),
+    ("20 does not look at segment 1", |unit, tag, latency| looking_at(2..=unit.segments, unit, tag, latency)),
+    ("20 does not look at the last segment", |unit, tag, latency| looking_at(1..unit.segments, unit, tag, latency)),
+    ("no marks are refused by 20", |unit, tag, latency| refused_by(NO_LATENCY, unit.spots(tag).is_empty(), unit, tag, latency)),
+    ("20 is tried before 2", |unit, tag, latency| renumbered(2, NO_LATENCY, !is_latency(latency), unit, tag, latency)),
+    ("20 is tried before 19", |unit, tag, latency| {
+        let is_refused = !is_latency(latency) || latency < most_marks(&unit.spots(tag));
+        renumbered(TWO_MARKS, NO_LATENCY, is_refused, unit, tag, latency)
+    }),
+    ("M outside 1 to 32 is tried before 19", |unit, tag, latency| {
+        renumbered(TWO_MARKS, NO_LATENCY, !is_latency(latency), unit, tag, latency)
+    }),
+    ("two marks in a column are refused by 20", |unit, tag, latency| renumbered(TWO_MARKS, NO_LATENCY, true, unit, tag, latency)),
+    ("19 is for two marks of any function in a column", |unit, tag, latency| {
+        let is_crowded = (1..=unit.functions).any(|tag| places(unit, tag, MOST_COLUMNS) == Err(TWO_MARKS));
+        refused_by(TWO_MARKS, is_crowded, unit, tag, latency)
+    }),
+    ("19 is for the marks of two functions in a column", |unit, tag, latency| {
+        let is_crowded = unit.spots(tag).iter().any(|spot| unit.marks.iter().any(|mark| mark.tag != tag && mark.column == spot.1));
+        refused_by(TWO_MARKS, is_crowded, unit, tag, latency)
+    }),
+    ("19 is for two marks in a segment", |unit, tag, latency| refused_by(TWO_MARKS, most_marks(&unit.spots(tag)) > 1, unit, tag, latency)),
+    ("two marks in a column are taken for one", |unit, tag, latency| uncrowded(unit, tag, latency, |_| true)),
+    ("19 does not look at column 1", |unit, tag, latency| uncrowded(unit, tag, latency, |spot| spot.1 == 1)),
+    ("19 does not look at column 32", |unit, tag, latency| uncrowded(unit, tag, latency, |spot| spot.1 == 32)),
+    ("19 does not look at the last column", |unit, tag, latency| uncrowded(unit, tag, latency, |spot| spot.1 == unit.columns)),
+    ("19 does not look at segment 16", |unit, tag, latency| uncrowded(unit, tag, latency, |spot| spot.0 == 16)),
+    ("19 does not look at the last segment", |unit, tag, latency| uncrowded(unit, tag, latency, |spot| spot.0 == unit.segments)),
+    ("21 is for marks alone", |unit, tag, latency| {
+        let places = places(unit, tag, latency)?;
+        let (_, last_mark) = last_places(unit, tag, latency);
+        let within: Vec<u32> = places.iter().map(|place| (*place).min(MOST_COLUMNS)).collect();
+        moved(unit, tag, if last_mark <= MOST_COLUMNS { &within } else { &places })
+    }),
+    ("21 is for the last column alone where it has a mark", |unit, tag, latency| {
+        let is_marked = unit.spots(tag).iter().any(|spot| spot.1 == unit.columns);
+        let places = places(unit, tag, latency)?;
+        let within: Vec<u32> = places.iter().map(|place| (*place).min(MOST_COLUMNS)).collect();
+        moved(unit, tag, if is_marked { &places } else { &within })
+    }),
+    ("places beyond 32 are taken for 32", |unit, tag, latency| {
+        let within: Vec<u32> = places(unit, tag, latency)?.into_iter().map(|place| place.min(MOST_COLUMNS)).collect();
+        moved(unit, tag, &within)
+    }),
+    ("place 32 is refused", |unit, tag, latency| refused_by(BEYOND, last_places(unit, tag, latency).0 == 32, unit, tag, latency)),
+    ("place 32 of a mark is refused", |unit, tag, latency| refused_by(BEYOND, last_places(unit, tag, latency).1 == 32, unit, tag, latency)),
+    ("place 33 is taken", |unit, tag, latency| {
+        let places = places(unit, tag, latency)?;
+        let mut within = places.clone();
+        let is_33 = within.pop() == Some(33) && within.iter().all(|place| *place <= MOST_COLUMNS);
+        if !is_33 {
+            return moved(unit, tag, &places);
+        }
+        moved(unit, tag, &[&within[..], &[MOST_COLUMNS]].concat()).map(|result| Unit { columns: 33, ..result })
+    }),
+    ("a place beyond 32 is refused by 20", |unit, tag, latency| renumbered(BEYOND, NO_LATENCY, true, unit, tag, latency)),
+    ("a place beyond 32 is refused by 4", |unit, tag, latency| renumbered(BEYOND, 4, true, unit, tag, latency)),
+    ("a unit that gets wider is refused", |unit, tag, latency| {
+        refused_by(BEYOND, last_places(unit, tag, latency).0 > unit.columns, unit, tag, latency)
     }),
 ];
 

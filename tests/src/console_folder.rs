@@ -1,4 +1,4 @@
-//! The folder that the program is started in: what its files hold before, after each `save` and `record`, and at the end.
+//! The folder that the program is started in: what its files hold before, after each `save`, `record` and `delays`, and at the end.
 
 use crate::console_model::Planned;
 use crate::model::decode;
@@ -19,8 +19,8 @@ pub const FULL: &str = "/dev/full";
 /// The longest name of a file, and the longest path to one, on the systems that the test is for.
 const LONGEST_NAME: usize = 255;
 const LONGEST_PATH: usize = 4_095;
-/// "A save writes the new file beside the old one, under the file's name with `.part` after it, and then renames it." A record is written in
-/// the same way.
+/// "A save writes the new file beside the old one, under the file's name with `.part` after it, and then renames it." A record and a unit
+/// with delays are written in the same way.
 pub const PART: &str = ".part";
 /// No file in order, a unit or a record, has so many bytes, and one that is longer is refused by the same number, whatever comes after them.
 pub const HEAD: usize = 1_400;
@@ -61,16 +61,30 @@ pub trait Shelf {
     fn save(&mut self, name: &[u8], content: &Content) -> bool;
     /// The length of the file of this name, where there is one and its length is known.
     fn length(&self, name: &[u8]) -> Option<u64>;
-    /// The special cases that a file written under this name is one of, for a save and for a record.
-    fn special(&self, name: &[u8]) -> Vec<[&'static str; 2]>;
+    /// The special cases that a file written under this name is one of.
+    fn special(&self, name: &[u8]) -> Vec<OfWritten>;
 }
 
-/// A special case of a file that is written: for a save, and for a record.
+/// What is written to a file: the unit, the record of a plan, or the unit with delays.
+#[derive(Clone, Copy, PartialEq, Eq)]
+pub enum Written {
+    Unit,
+    Record,
+    Delays,
+}
+
+/// A special case of a file that is written, for each thing that is.
+pub type OfWritten = [&'static str; 3];
+
 macro_rules! written {
     ($what:literal) => {
-        [concat!("a save ", $what), concat!("a record ", $what)]
+        written!("", $what)
+    };
+    ($front:literal, $what:literal) => {
+        [concat!($front, "a save ", $what), concat!($front, "a record ", $what), concat!($front, "delays ", $what)]
     };
 }
+pub(crate) use written;
 
 /// What a file's name leads to.
 enum Place {
@@ -149,7 +163,7 @@ impl Folder {
     }
 }
 
-fn part_of(name: &[u8]) -> Vec<u8> {
+pub fn part_of(name: &[u8]) -> Vec<u8> {
     [name, PART.as_bytes()].concat()
 }
 
@@ -207,7 +221,7 @@ impl Shelf for Folder {
         }
     }
 
-    fn special(&self, name: &[u8]) -> Vec<[&'static str; 2]> {
+    fn special(&self, name: &[u8]) -> Vec<OfWritten> {
         let (is_link, no_part, old) = (self.is_link(name), self.has_no_part(name), self.load(name));
         let part_stands = !is_link && matches!(self.place_of(name), Place::File(key) if self.files.contains_key(&part_of(&key)));
         let cases = [

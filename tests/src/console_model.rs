@@ -4,10 +4,11 @@
 //! the search that made it is known here: which best cycle it holds is free, and is seen when the program first shows it.
 
 use crate::charts;
-use crate::console_folder::{Content, Shelf};
+use crate::console_folder::{written, Content, Shelf, Written};
 use crate::loops::*;
 use crate::model::*;
 use crate::records::{self, Wrong, LONGEST_LATENCY, LONGEST_RECORD};
+use crate::{delays, delays_met};
 use std::cell::OnceCell;
 use std::collections::{HashMap, HashSet};
 use std::fmt;
@@ -16,9 +17,9 @@ use std::rc::Rc;
 /// "over 4,096 bytes: `line N: too long`"
 pub const LONGEST_LINE: usize = 4_096;
 
-/// Each command with what it wants after its name: `FILE` is a file's name, which may be any word, `L L ..` and `Q Q ..` are any number of
-/// numbers, none too, and all else is a number.
-pub const COMMANDS: [(&str, &str); 26] = [
+/// Each command with what it wants after its name: `FILE` is a file's name, which may be any word, `[FILE]` is one or nothing, `L L ..` and
+/// `Q Q ..` are any number of numbers, none too, and all else is a number.
+pub const COMMANDS: [(&str, &str); 27] = [
     ("fresh", " P S C"),
     ("mark", " Q R C"),
     ("unmark", " Q R C"),
@@ -45,6 +46,7 @@ pub const COMMANDS: [(&str, &str); 26] = [
     ("report", " FILE"),
     ("ring", " FILE"),
     ("simulate", " Q UNITS"),
+    ("delays", " Q M [FILE]"),
 ];
 
 /// A special case of the two readers of a record, `report` and `ring`.
@@ -262,10 +264,10 @@ impl fmt::Debug for Planned {
 }
 
 impl Planned {
-    /// More bytes than its record has. No state occurs twice in a plan's cycle, and no latency is above 32.
-    fn more_than_record(&self) -> usize {
+    /// The most bytes that its record can have. No state occurs twice in a plan's cycle, and no latency is above 32.
+    fn longest_record(&self) -> usize {
         let states = self.drawn.graph.diagram.states.len();
-        records::LIST + states + states * LONGEST_LATENCY as usize / 8 + 1
+        records::LIST + states + states * LONGEST_LATENCY as usize / 8
     }
 }
 
@@ -424,6 +426,11 @@ fn said(text: String) -> Vec<Part> {
     vec![Part::Text(text + "\n")]
 }
 
+/// What is said of a file.
+fn told_of(is_written: bool) -> Vec<Part> {
+    said(if is_written { "ok" } else { "not written" }.to_string())
+}
+
 /// The sort of a command's answer: `refused N`, `yes`, `no`, `no unit`, `no file`, `not written`, and else `ok`.
 fn sort_of(name: &'static str, parts: &[Part]) -> Sort {
     let text = match &parts[0] {
@@ -469,10 +476,14 @@ pub fn number(word: &[u8]) -> Option<u32> {
 /// The words after a command's name, where they are what it wants.
 struct Arguments<'a> {
     numbers: Vec<u32>,
+    /// Empty where there is none, as no word is.
     file: &'a [u8],
 }
 
 fn arguments<'a>(wants: &str, words: &[&'a [u8]]) -> Option<Arguments<'a>> {
+    if let Some(first) = wants.strip_suffix(" [FILE]") {
+        return arguments(first, words).or_else(|| arguments(&format!("{first} FILE"), words));
+    }
     if let Some(first) = wants.strip_suffix(" FILE") {
         let (file, others) = words.split_last()?;
         return arguments(first, others).map(|arguments| Arguments { file, ..arguments });
@@ -492,6 +503,9 @@ pub struct Plan {
     search: usize,
 }
 
+/// How a function of a unit is given the delays that a latency wants.
+pub type Delay = fn(&Unit, u32, u32) -> Reply<Unit>;
+
 /// What the console holds between lines.
 pub struct Console<S: Shelf> {
     book: Book,
@@ -500,6 +514,8 @@ pub struct Console<S: Shelf> {
     searches: usize,
     pub bank: Bank,
     pub shelf: S,
+    /// Another one than the right one where the console is to have a fault.
+    pub delay: Delay,
     met: Vec<&'static str>,
     /// What the line before did, for the special cases.
     before: Before,
@@ -511,6 +527,8 @@ pub struct Console<S: Shelf> {
     charted: HashSet<usize>,
     /// Whether the last edit dropped a plan and no search was accepted since then.
     dropped: bool,
+    /// The names under which units with delays were written last.
+    delayed: HashSet<Vec<u8>>,
 }
 
 #[derive(Clone, Copy, PartialEq, Eq)]
@@ -534,6 +552,9 @@ enum Before {
     NotShown,
     Charted,
     RefusedChart,
+    Delayed,
+    RefusedDelays,
+    DelaysNotWritten,
     Bad,
     Other,
 }
@@ -546,8 +567,9 @@ impl<S: Shelf> Console<S> {
     pub fn new(shelf: S) -> Console<S> {
         let book = Book { functions: HashMap::new(), graphs: HashMap::new(), lists: HashMap::new(), yard: Yard::new() };
         let (bank, found, before) = (empty_bank(), empty_bank(), Before::Other);
-        let (met, shown, charted) = (Vec::new(), HashSet::new(), HashSet::new());
-        Console { book, unit: None, plan: None, searches: 0, bank, shelf, met, before, found, shown, charted, dropped: false }
+        let (met, shown, charted, dropped, delayed) = (Vec::new(), HashSet::new(), HashSet::new(), false, HashSet::new());
+        let (unit, plan, searches, delay) = (None, None, 0, delays::delayed);
+        Console { book, unit, plan, searches, bank, shelf, delay, met, before, found, shown, charted, dropped, delayed }
     }
 
     /// A console as a new process has it, which knows of the same functions and lists.
@@ -614,6 +636,7 @@ impl<S: Shelf> Console<S> {
                     let length = self.shelf.length(file);
                     self.met_if(read == Err(11) && length.is_some_and(|length| length >= 1 << 32), "a file longer than 2^32 bytes");
                     self.met_if(bytes.len() <= LONGEST_RECORD && records::wrongs(&bytes).is_empty(), "a load of a record");
+                    self.met_if(self.delayed.contains(file), "a load of delays that were written");
                     read.map(|unit| self.take_unit(unit))
                 }
             },
@@ -626,7 +649,10 @@ impl<S: Shelf> Console<S> {
             },
             // "before the first fresh every call but `load` and `fresh` answers `no unit`": and but `report` and `ring`
             _ => match self.unit.take() {
-                None => return said("no unit".to_string()),
+                None => {
+                    self.met_if(name == "delays" && !file.is_empty(), "delays: no unit, with a file");
+                    return said("no unit".to_string());
+                }
                 Some(mut unit) => {
                     let reply = self.ask(&mut unit, name, numbers, file);
                     self.unit = Some(unit);
@@ -674,17 +700,10 @@ impl<S: Shelf> Console<S> {
             }
             ("list", []) => Ok(self.list(unit)),
             ("loop", tags) => self.loop_over(unit, tags),
-            ("save", []) => {
-                let shorter = self.shelf.length(file).is_some_and(|length| length > file_length(unit.functions, unit.segments) as u64);
-                let known = self.shelf.length(file).is_some();
-                self.met.extend(self.shelf.special(file).into_iter().map(|what| what[0]));
-                let written = self.shelf.save(file, &Content::Bytes(encode(unit)));
-                self.met_if(written && known, "a save over another file");
-                self.met_if(written && shorter, "a save over a longer file");
-                Ok(said(if written { "ok" } else { "not written" }.to_string()))
-            }
+            ("save", []) => Ok(self.write_unit(Written::Unit, file, unit)),
             ("record", &[tag]) => self.record(unit, tag, file),
             ("simulate", &[tag, units]) => self.simulate(unit, tag, units),
+            ("delays", &[tag, latency]) => self.delays(unit, tag, latency, file),
             // all others have a tag first
             (_, &[tag, ref others @ ..]) => {
                 unit.check_tag(tag)?;
@@ -707,6 +726,29 @@ impl<S: Shelf> Console<S> {
         Ok(vec![begin, Part::Plan(search, drawn), Part::Text("\n".to_string())])
     }
 
+    /// Writes what has at most so many bytes, and answers whether it is written.
+    fn write(&mut self, written: Written, file: &[u8], content: Content, most: usize) -> bool {
+        let of_written = written as usize;
+        let length = self.shelf.length(file);
+        self.met.extend(self.shelf.special(file).into_iter().map(|what| what[of_written]));
+        let is_written = self.shelf.save(file, &content);
+        if is_written {
+            self.met_if(length.is_some(), written!("over another file")[of_written]);
+            self.met_if(length.is_some_and(|length| length > most as u64), written!("over a longer file")[of_written]);
+            match written {
+                Written::Delays => self.delayed.insert(file.to_vec()),
+                Written::Unit | Written::Record => self.delayed.remove(file),
+            };
+        }
+        is_written
+    }
+
+    fn write_unit(&mut self, written: Written, file: &[u8], unit: &Unit) -> Vec<Part> {
+        let bytes = encode(unit);
+        let length = bytes.len();
+        told_of(self.write(written, file, Content::Bytes(bytes), length))
+    }
+
     /// `refused 2` where the unit has no function Q; `refused 8` where there is no plan, or the plan is another function's.
     fn record(&mut self, unit: &Unit, tag: u32, file: &[u8]) -> Reply<Vec<Part>> {
         self.meet_record(unit, tag);
@@ -714,15 +756,22 @@ impl<S: Shelf> Console<S> {
         let Plan { search, .. } = self.plan.filter(|plan| plan.tag == tag).ok_or(8u32)?;
         let drawn = self.book.drawn(unit, tag).expect("a search that was accepted");
         let planned = Planned { search, drawn };
-        let length = self.shelf.length(file);
-        self.met.extend(self.shelf.special(file).into_iter().map(|what| what[1]));
-        let written = self.shelf.save(file, &Content::Record(planned.clone()));
-        self.met_if(written && length.is_some(), "a record over another file");
-        let is_shorter = length.is_some_and(|length| length >= planned.more_than_record() as u64);
-        self.met_if(written && is_shorter, "a record over a longer file");
+        let most = planned.longest_record();
+        let written = self.write(Written::Record, file, Content::Record(planned), most);
         self.met_if(written && !self.shown.contains(&search), "a record of a plan that was not read before");
         self.met_if(written && number(file).is_some(), "a record to a file whose name is a number");
-        Ok(said(if written { "ok" } else { "not written" }.to_string()))
+        Ok(told_of(written))
+    }
+
+    /// The unit with delays: its table, or where a file is named its unit file. "The session stays as it is".
+    fn delays(&mut self, unit: &Unit, tag: u32, latency: u32, file: &[u8]) -> Reply<Vec<Part>> {
+        self.met.extend(delays_met::special(unit, tag, latency));
+        let reply = (self.delay)(unit, tag, latency);
+        if file.is_empty() {
+            return Ok(vec![Part::Text(table(&reply?, 1))]);
+        }
+        self.meet_file_of_delays(&reply, file);
+        Ok(self.write_unit(Written::Delays, file, &reply?))
     }
 
     /// `refused 2` and `refused 8` as for a record, then `refused 6` where the chart has no room. "The session stays as it is".
@@ -788,6 +837,7 @@ impl<S: Shelf> Console<S> {
             }
             "table" => {
                 self.met_if(unit.segments > 9 && unit.columns > 9, "a table of 10 or more rows and columns");
+                self.met_if(self.before == Before::Delayed, "a table kept by delays");
                 return Ok(vec![Part::Text(table(unit, tag))]);
             }
             _ => return self.ask_diagram(unit, tag, name),
@@ -1006,7 +1056,7 @@ impl<S: Shelf> Console<S> {
         self.met_if(words[1..].iter().any(and_return), "a number with a carriage return in its word");
         let later = words.get(257..).unwrap_or(&[]);
         self.met_if(words[0] == b"loop" && later.iter().any(|word| number(word).is_none()), "loop: no number after 256 tags");
-        if let [b"load" | b"save" | b"report" | b"ring", file] | [b"record", _, file] = words {
+        if let [b"load" | b"save" | b"report" | b"ring", file] | [b"record", _, file] | [b"delays", _, _, file] = words {
             let least = words.iter().map(|word| word.len() + 1).sum::<usize>() - 1;
             self.met_if(returned && !is_blank(last), "a file's name with a carriage return after it");
             self.met_if(file.contains(&b'\r'), "a file's name with a carriage return in it");
@@ -1019,6 +1069,14 @@ impl<S: Shelf> Console<S> {
         }
         if let [b"simulate", tag, units] = words {
             self.met_if(number(tag).is_some() && large(units), "a chart of more than 4294967295 units");
+        }
+        if let [b"delays", tag, latency, rest @ ..] = words {
+            let is_function = number(tag).is_some();
+            self.met_if(is_function && large(latency), "delays: M above 4294967295");
+            self.met_if(is_function && rest.is_empty() && number(latency).is_none(), "delays: a file in place of M");
+            let is_asked = is_function && number(latency).is_some();
+            self.met_if(is_asked && rest.len() > 1, "delays: words after the file");
+            self.met_if(is_asked && rest.len() == 1 && large(&rest[0]), "delays: a file whose name is a number above 4294967295");
         }
     }
 
@@ -1103,6 +1161,17 @@ impl<S: Shelf> Console<S> {
         self.met_if(!has_room && length % (1 << 32) <= charts::ROOM, "a chart whose length has room in 32 bits");
     }
 
+    /// A file that is named beside delays.
+    fn meet_file_of_delays(&mut self, reply: &Reply<Unit>, file: &[u8]) {
+        match reply {
+            Ok(_) => self.met_if(number(file).is_some(), "delays: a file whose name is a number"),
+            Err(2) => self.met.push("delays: refused by 2, with a file"),
+            Err(delays::TWO_MARKS) => self.met.push("delays: refused by 19, with a file"),
+            Err(delays::NO_LATENCY) => self.met.push("delays: refused by 20, with a file"),
+            Err(_) => self.met.push("delays: refused by 21, with a file"),
+        }
+    }
+
     fn met_view(&mut self, name: &str, holds: bool, what: [&'static str; 2]) {
         self.met_if(holds, what[(name == "ring") as usize]);
     }
@@ -1180,6 +1249,9 @@ impl<S: Shelf> Console<S> {
             ("report" | "ring", "refused 15" | "no file") => Before::NotShown,
             ("simulate", "ok") => Before::Charted,
             ("simulate", "refused 2" | "refused 6" | "refused 8") => Before::RefusedChart,
+            ("delays", "ok") => Before::Delayed,
+            ("delays", "refused 2" | "refused 19" | "refused 20" | "refused 21") => Before::RefusedDelays,
+            ("delays", "not written") => Before::DelaysNotWritten,
             // what only looks leaves what was done before in place
             ("read" | "bank" | "diagram" | "vector" | "bound" | "upper" | "constant" | "row" | "list" | "table", _) => before,
             (_, "expected") => Before::Bad,
@@ -1203,6 +1275,9 @@ impl<S: Shelf> Console<S> {
             Before::NotShown => "a plan kept by a file that is no record",
             Before::Charted => "a plan kept by a chart",
             Before::RefusedChart => "a plan kept by a refused chart",
+            Before::Delayed => "a plan kept by delays",
+            Before::RefusedDelays => "a plan kept by refused delays",
+            Before::DelaysNotWritten => "a plan kept by delays that were not written",
             Before::Bad => "a plan kept by a line that is no command",
             _ => "a plan",
         };
@@ -1234,6 +1309,9 @@ impl<S: Shelf> Console<S> {
             Before::NotShown => "a bank kept by a file that is no record",
             Before::Charted => "a bank kept by a chart",
             Before::RefusedChart => "a bank kept by a refused chart",
+            Before::Delayed => "a bank kept by delays",
+            Before::RefusedDelays => "a bank kept by refused delays",
+            Before::DelaysNotWritten => "a bank kept by delays that were not written",
             Before::Bad => "a bank kept by a line that is no command",
             _ => "a bank in use",
         };
@@ -1329,6 +1407,9 @@ pub const WANTED: &[&str] = &[
     "a plan kept by a file that is no record",
     "a plan kept by a chart",
     "a plan kept by a refused chart",
+    "a plan kept by delays",
+    "a plan kept by refused delays",
+    "a plan kept by delays that were not written",
     "a plan kept by a line that is no command",
     "a plan with a sum above 255",
     "a plan of two or more latencies",
@@ -1516,6 +1597,71 @@ pub const WANTED: &[&str] = &[
     "a chart found: 53 tasks or more",
     "a chart found: a segment that is never busy",
     "a chart found: a segment that is always busy",
+    "delays: no unit, with a file",
+    "delays: M above 4294967295",
+    "delays: a file in place of M",
+    "delays: words after the file",
+    "delays: a file whose name is a number",
+    "delays: a file whose name is a number above 4294967295",
+    "delays: refused by 2, with a file",
+    "delays: refused by 19, with a file",
+    "delays: refused by 20, with a file",
+    "delays: refused by 21, with a file",
+    "delays: a tag 0",
+    "delays: a tag after the last",
+    "delays: a tag that would do without its higher bytes",
+    "delays: M that would do without its higher bytes",
+    "delays: refused by 2 and not by 20",
+    "delays: refused by 19 and not by 20",
+    "delays: 19 for column 1 alone",
+    "delays: 19 for the last column alone",
+    "delays: 19 for column 32 alone",
+    "delays: 19 for a mark of segment 16 alone",
+    "delays: M of 0",
+    "delays: M of 33",
+    "delays: M of 256",
+    "delays: M of 4294967295",
+    "delays: M one below the most marks of a segment",
+    "delays: 20 for the first of several segments alone",
+    "delays: 20 for the last of several segments alone",
+    "delays: 21 for a mark",
+    "delays: 21 for columns without marks alone",
+    "delays: 21 after a mark at place 32",
+    "delays: place 33 for a mark",
+    "delays: place 33 for a column without a mark",
+    "delays: M of 1",
+    "delays: M of 32",
+    "delays: M just the most marks of a segment",
+    "delays: M below the bound",
+    "delays: M below the number of all marks",
+    "delays: no marks",
+    "delays: of a function that is not the first",
+    "delays: of a function that is not the last",
+    "delays: of a unit of 32 columns",
+    "delays: of a unit of 16 segments",
+    "delays: M below another function's marks in a segment",
+    "delays: two marks of another function in a column",
+    "delays: a mark in a column where another function has one elsewhere",
+    "delays: columns that move",
+    "delays: no column that moves",
+    "delays: a mark that moves on by two places or more",
+    "delays: a mark kept from a place by another than the last one",
+    "delays: a mark kept from a place of remainder 0",
+    "delays: a place whose remainder another segment's mark has",
+    "delays: a column without a mark where some mark could not be",
+    "delays: place 32 for a mark",
+    "delays: place 32 for a column without a mark",
+    "delays: a column without a mark at the end",
+    "a load of delays that were written",
+    "a table kept by delays",
+    "delays over another file",
+    "delays over a longer file",
+    "delays to a link to a file",
+    "delays to a link to something else",
+    "delays to a name without room for `.part`",
+    "delays where a file has its name with `.part`",
+    "delays over a record that was written",
+    "delays over a unit file",
     "no plan after a loop",
     "a bank in use",
     "a bank emptied",
@@ -1541,6 +1687,9 @@ pub const WANTED: &[&str] = &[
     "a bank kept by a file that is no record",
     "a bank kept by a chart",
     "a bank kept by a refused chart",
+    "a bank kept by delays",
+    "a bank kept by refused delays",
+    "a bank kept by delays that were not written",
     "a bank kept by a line that is no command",
     "an input of no bytes",
     "an input that comes byte by byte",
@@ -1584,6 +1733,25 @@ pub const WANTED: &[&str] = &[
     "files: a record with room for no byte",
     "files: a record with room for all but one byte",
     "files: a record with room for just its bytes",
+    "files: delays to a FIFO",
+    "files: delays to a symbolic link to a FIFO",
+    "files: delays to a new name and over other files",
+    "files: delays over a file that has a second name",
+    "files: delays to a symbolic link to a file",
+    "files: delays to a symbolic link in another folder",
+    "files: delays to a symbolic link to another one",
+    "files: delays to a symbolic link to nothing",
+    "files: delays to a symbolic link to a folder",
+    "files: delays to a symbolic link to a full device",
+    "files: delays into a folder that is not there",
+    "files: delays into a file",
+    "files: delays onto a folder",
+    "files: delays with a folder in the way of its `.part`",
+    "files: delays where a `.part` stands",
+    "files: delays to a name without room for `.part`",
+    "files: delays with room for no byte",
+    "files: delays with room for all but one byte",
+    "files: delays with room for just its bytes",
     "output: a full device",
     "output: a full device, and more input may come",
     "output: a pipe that nobody reads",
@@ -1598,11 +1766,14 @@ pub const WHERE_POSSIBLE: &[&str] = &[
     "files: a record over a file that may not be written",
     "files: a record into a folder that may not be written",
     "files: a record that can't be renamed",
+    "files: delays over a file that may not be written",
+    "files: delays into a folder that may not be written",
+    "files: delays that can't be renamed",
     "files: a file that may not be read",
 ];
 
 /// "the reservation table, a row for each segment, `x` for a mark and `.` for none, with column numbers": cells of three bytes.
-fn table(unit: &Unit, tag: u32) -> String {
+pub fn table(unit: &Unit, tag: u32) -> String {
     let mut lines = vec![String::from("   ")];
     for column in 1..=unit.columns {
         lines[0] += &format!("{column:>3}");

@@ -1,8 +1,8 @@
-//! Runs of a few lines each, in which what stands in the folder or what becomes of the output is special: what a save or a record leaves
-//! behind, and what is done after an answer that can't be written. Answers and files are those of the console's description, by hand.
+//! Runs of a few lines each, in which what stands in the folder or what becomes of the output is special: what a save, a record or delays
+//! leave behind, and what is done after an answer that can't be written. Answers and files are those of the console's description, by hand.
 
 use crate::console_check::Counts;
-use crate::console_folder::{File, Folder, FULL, INNER, PART};
+use crate::console_folder::{written, File, Folder, OfWritten, Written, FULL, INNER, PART};
 use crate::console_program::{wait, Ending, Place};
 use std::fs::{self, OpenOptions, Permissions};
 use std::io::{self, Read, Write};
@@ -76,22 +76,28 @@ const NEW: &[u8] = &[1, 1, 2, 0, 6, 0, 2, 0, 0, 0];
 /// spare ones.
 const RECORD: &[u8] = &[1, 0, 1, 0, 8, 0, 9, 0, 1, 0xFE];
 
-/// How a new file is made: by a save, or by a record.
+/// A unit with delays as a file: marks 1 3 have moved to 1 4 of 4 columns, and the table's one word has the bits of these.
+const DELAYED: &[u8] = &[1, 1, 4, 0, 6, 0, 9, 0, 0, 0];
+
+/// How a new file is made: by a save, by a record, or by delays.
 struct Way {
-    /// The place of its special cases among those of both.
-    place: usize,
+    written: Written,
     make: &'static str,
     verb: &'static str,
     bytes: &'static [u8],
 }
 
-const SAVE: Way = Way { place: 0, make: "fresh 1 1 2\nmark 1 1 2\n", verb: "save", bytes: NEW };
-const WAYS: [Way; 2] = [SAVE, Way { place: 1, make: "fresh 1 1 2\nmark 1 1 2\nsearch 1\n", verb: "record 1", bytes: RECORD }];
+const SAVE: Way = Way { written: Written::Unit, make: "fresh 1 1 2\nmark 1 1 2\n", verb: "save", bytes: NEW };
+const WAYS: [Way; 3] = [
+    SAVE,
+    Way { written: Written::Record, make: "fresh 1 1 2\nmark 1 1 2\nsearch 1\n", verb: "record 1", bytes: RECORD },
+    Way { written: Written::Delays, make: "fresh 2 1 3\nmark 2 1 1\nmark 2 1 3\n", verb: "delays 2 2", bytes: DELAYED },
+];
 
-/// A special case of a file that is written: by a save, and by a record.
+/// A special case of a file that is written, in a run of a few lines.
 macro_rules! files {
     ($what:literal) => {
-        [concat!("files: a save ", $what), concat!("files: a record ", $what)]
+        written!("files: ", $what)
     };
 }
 
@@ -134,13 +140,13 @@ impl Way {
     }
 
     /// A unit is made and written under each of these names, each with whether it is to be written.
-    fn writing(&self, what: [&'static str; 2], before: &[(&str, File)], names: &[(&str, bool)], after: &[(&str, File)]) -> Case {
+    fn writing(&self, what: OfWritten, before: &[(&str, File)], names: &[(&str, bool)], after: &[(&str, File)]) -> Case {
         let (mut typed, mut answers) = (self.make.to_string(), "ok\n".repeat(self.make.lines().count()));
         for (name, written) in names {
             typed += &format!("{} {name}\n", self.verb);
             answers += if *written { "ok\n" } else { "not written\n" };
         }
-        lines(what[self.place], typed, answers, before, after)
+        lines(what[self.written as usize], typed, answers, before, after)
     }
 }
 

@@ -3,13 +3,14 @@
 use crate::charts;
 use crate::console_folder::{has_devices, File, Folder, FULL, INNER, NULL, PART};
 use crate::console_model::*;
+use crate::delays_check::EXAMPLES;
 use crate::loops::MOST_TAGS;
-use crate::loops_check;
 use crate::model::*;
+use crate::model_check::{figure_1, unit_of};
 use crate::random::{seed_of, Random};
 use crate::record_files::*;
 use crate::records::laid_out;
-use crate::units;
+use crate::{delays, loops_check, routes, units};
 
 pub struct Line {
     /// Without the newline.
@@ -90,6 +91,8 @@ const TORN_FILES: usize = 80;
 const REPLACED_FILES: u64 = 30;
 /// How many files records are written to again and again.
 const PLAN_NAMES: u64 = 8;
+/// Units for delays: one for each table worked out by hand, and random ones.
+const DELAY_FILES: usize = EXAMPLES.len() + 43;
 
 fn good_name(place: usize) -> String {
     format!("unit{place}")
@@ -117,6 +120,14 @@ fn torn_name(place: usize) -> String {
 fn list_name(place: usize) -> String {
     format!("list{place}")
 }
+
+/// A unit for delays.
+fn delay_name(place: usize) -> String {
+    format!("delay{place}")
+}
+
+/// Fig. 1's unit.
+const FIGURE: &str = "figure";
 
 /// Where symbolic links lead: to files that are saved now and then, to a file in order, to a file that is not there before one is saved along
 /// the link, to another link, to the inner folder, into a folder that is not there, to a device and around in a circle.
@@ -158,6 +169,27 @@ fn good_unit(place: usize, random: &mut Random) -> Unit {
         4 => Unit::fresh(1, 1, 1).expect("counts in their ranges"),
         _ => units::unit(random),
     }
+}
+
+/// The function that a table worked out by hand is in its unit, and how many there are.
+fn tag_of_example(place: usize) -> (u32, u32) {
+    let functions = place as u32 % MOST_FUNCTIONS + 1;
+    (place as u32 / MOST_FUNCTIONS % functions + 1, functions)
+}
+
+/// Beside a table worked out by hand there are functions with up to two marks in a column.
+fn delay_unit(place: usize, random: &mut Random) -> Unit {
+    let Some(example) = EXAMPLES.get(place) else { return routes::unit(random) };
+    let (tag, functions) = tag_of_example(place);
+    let mut rows: Vec<&[&[u32]]> = vec![&[]; functions as usize];
+    rows[tag as usize - 1] = example.rows;
+    let mut unit = unit_of(example.rows.len() as u32, example.columns, &rows);
+    for other in (1..=functions).filter(|other| *other != tag) {
+        for _ in 0..random.between(1, 2) {
+            routes::route(&mut unit, other, random);
+        }
+    }
+    unit
 }
 
 fn files(random: &mut Random) -> Folder {
@@ -204,6 +236,10 @@ fn files(random: &mut Random) -> Folder {
             }
         };
         put(torn_name(place), File::Bytes(some.clone()));
+    }
+    put(FIGURE.to_string(), File::Bytes(encode(&figure_1())));
+    for place in 0..DELAY_FILES {
+        put(delay_name(place), File::Bytes(encode(&delay_unit(place, random))));
     }
     // lengths that are right if one takes their last 32 bits alone, and zeros after a file in order
     let file = encode(&units::unit(random));
@@ -283,6 +319,7 @@ fn harmless(line: &[u8]) -> bool {
     match line.split(|byte| *byte == b' ').collect::<Vec<_>>()[..] {
         [b"load" | b"save" | b"report" | b"ring", file] if devices.contains(&file) => return true,
         [b"record", tag, file] if devices.contains(&file) && number(tag).is_some() => return true,
+        [b"delays", tag, latency, file] if devices.contains(&file) && number(tag).is_some() && number(latency).is_some() => return true,
         _ => {}
     }
     let inside = |byte: u8| byte.is_ascii_alphanumeric() || byte == b'.' || byte == b'/';
@@ -328,7 +365,7 @@ const NO_NUMBERS: [&[u8]; 23] = [
     b"Q",
     b"1/1",
 ];
-const NO_COMMANDS: [&[u8]; 34] = [
+const NO_COMMANDS: [&[u8]; 37] = [
     b"help",
     b"quit",
     b"exit",
@@ -361,6 +398,9 @@ const NO_COMMANDS: [&[u8]; 34] = [
     b"simulates 1 9",
     b"simulat 1 9",
     b"simulate1 9",
+    b"delay 1 3",
+    b"delayss 1 3",
+    b"delays1 3",
     b"\xef\xbb\xbftick",
     b"line 1: expected a command",
 ];
@@ -419,12 +459,18 @@ const BARE_LINES: [&[u8]; 22] = [
     b"\0",
 ];
 /// In how many forms long lines come.
-const LONG_FORMS: u64 = 39;
+const LONG_FORMS: u64 = 42;
 /// Lengths of lines: around the limit, around multiples of it, and far above it.
 const LENGTHS: [usize; 21] = [
     4_095, 4_095, 4_096, 4_096, 4_096, 4_097, 4_097, 4_098, 5_000, 8_190, 8_191, 8_192, 8_193, 8_194, 12_288, 12_289, 16_384, 65_535,
     65_536, 65_537, 100_000,
 ];
+
+/// What a command wants: a file that is not there, two numbers for any number of them, and this number for each other.
+fn words_for(wants: &str, number: &str) -> String {
+    let words = wants.replace("[FILE]", "missing").replace("FILE", "missing").replace("UNITS", "9");
+    words.replace(" L L ..", " 1 1").replace(" Q Q ..", " 1 1").replace(['P', 'S', 'Q', 'R', 'C', 'M'], number)
+}
 
 impl Writer {
     fn new(seed: u64, most: usize, console: Console<Folder>) -> Writer {
@@ -571,7 +617,7 @@ impl Writer {
     fn load_name(&mut self) -> Vec<u8> {
         let random = &mut self.random;
         let good = good_name(random.below(GOOD_FILES as u64) as usize);
-        let text = match random.below(70) {
+        let text = match random.below(72) {
             0..=15 => damaged_name(random.below(DAMAGED_FILES as u64) as usize),
             16 => long_name(random.below(LONG_FILES as u64) as usize),
             17..=24 => format!("again{}", random.below(12)),
@@ -599,6 +645,7 @@ impl Writer {
             54 => format!("kept{}", random.below(self.kept as u64 + 1)),
             55 | 56 => record_name(random.below(RECORD_FILES as u64) as usize),
             57 => torn_name(random.below(TORN_FILES as u64) as usize),
+            58 | 59 => delay_name(random.below(DELAY_FILES as u64) as usize),
             _ => good,
         };
         text.into_bytes()
@@ -655,6 +702,20 @@ impl Writer {
         text.into_bytes()
     }
 
+    /// Where a unit with delays goes: mostly to what a save may name.
+    fn delayed_name(&mut self) -> Vec<u8> {
+        let random = &mut self.random;
+        let text = match random.below(16) {
+            0 => return random.pick(&ODD_NAMES).to_vec(),
+            1 => link_name(random.below(LINKS.len() as u64) as usize),
+            2 => format!("again{}{PART}", random.below(12)),
+            3 => "n".repeat(random.pick(&[250, 251, 255])),
+            4 => random.pick(&["1", "007", "4294967295", "4294967296", "99999999999"]).to_string(),
+            _ => return self.save_name(),
+        };
+        text.into_bytes()
+    }
+
     /// What a reader of records is given: records of all sorts, and what a load may name.
     fn view_name(&mut self) -> Vec<u8> {
         let random = &mut self.random;
@@ -702,7 +763,7 @@ impl Writer {
     }
 
     fn judge(&mut self) -> Vec<u8> {
-        let tag = self.tag();
+        let mut tag = self.tag();
         let drawn = number(tag.as_bytes()).and_then(|tag| self.console.drawn(tag));
         let mut latencies: Vec<String> = match self.random.below(60) {
             0 => (0..2_000).map(|_| self.random.between(1, 9).to_string()).collect(),
@@ -726,6 +787,10 @@ impl Writer {
                 4 => self.random.pick(&TOO_MANY).to_string(),
                 _ => format!("000{}", latencies[place]),
             };
+            // a bad tag beside a bad latency
+            if self.random.chance(1, 8) {
+                tag = self.bad_tag();
+            }
         }
         let mut line = format!("judge {tag}");
         for latency in latencies {
@@ -831,6 +896,82 @@ impl Writer {
         self.digits(units)
     }
 
+    /// A tag of the unit, mostly one of a function that has marks and no two of them in a column, where there is one.
+    fn route_tag(&mut self) -> u32 {
+        let any = self.good_tag();
+        let Some(unit) = &self.console.unit else { return any };
+        let is_route = |tag: &u32| !unit.spots(*tag).is_empty() && delays::places(unit, *tag, MOST_COLUMNS).is_ok();
+        let tags: Vec<u32> = (1..=unit.functions).filter(is_route).collect();
+        if tags.is_empty() || self.random.chance(1, 6) {
+            any
+        } else {
+            self.random.pick(&tags)
+        }
+    }
+
+    /// A latency that delays are wanted for: mostly one with a remainder for each mark of a segment, and with few more.
+    fn latency(&mut self, tag: u32) -> String {
+        let most = self.console.unit.as_ref().map_or(2, |unit| most_marks(&unit.spots(tag)));
+        let some = most + self.random.between(0, 6);
+        let latency = match self.random.below(52) {
+            0 | 1 => 0,
+            2 => MOST_COLUMNS,
+            3 => MOST_COLUMNS + 1,
+            4..=8 => most.saturating_sub(1),
+            9..=24 => most,
+            25..=28 => most + 1,
+            29 | 30 => self.random.pick(&[256, 65_536, 1 << 24, u32::MAX - 255]) + some,
+            31 => self.random.between(1, MOST_COLUMNS),
+            32 => return self.random.pick(&MANY).to_string(),
+            33 => return self.random.pick(&TOO_MANY).to_string(),
+            34 => return ((1u64 << 32) + some as u64).to_string(),
+            35..=38 => self.last_latency(tag).unwrap_or(some),
+            _ => some,
+        };
+        self.digits(latency)
+    }
+
+    /// A latency for which a function's columns move just as far as there is room, or one place further.
+    fn last_latency(&mut self, tag: u32) -> Option<u32> {
+        let unit = self.console.unit.as_ref()?;
+        let last_place = |latency: u32| delays::places(unit, tag, latency).ok()?.last().copied();
+        let is_near = |place: u32| place > unit.columns && (MOST_COLUMNS..=MOST_COLUMNS + 1).contains(&place);
+        let is_last = |latency: &u32| last_place(*latency).is_some_and(is_near);
+        let latencies: Vec<u32> = (1..=MOST_COLUMNS).filter(is_last).collect();
+        (!latencies.is_empty()).then(|| self.random.pick(&latencies))
+    }
+
+    /// Delays that are shown or written.
+    fn delays(&mut self) -> Vec<u8> {
+        let tag = match self.random.below(12) {
+            0 => self.bad_tag(),
+            1 | 2 => self.tag(),
+            _ => {
+                let tag = self.route_tag();
+                self.digits(tag)
+            }
+        };
+        // also of a tag that has one of the unit in its lowest byte
+        let (latency, name) = (self.latency(number(tag.as_bytes()).unwrap_or(1) % 256), self.delayed_name());
+        let asked = format!("delays {tag} {latency}").into_bytes();
+        match self.random.below(100) {
+            // the other way about, too few words or too many, and the file elsewhere
+            0 | 1 => format!("delays {latency} {tag}").into_bytes(),
+            2 => format!("delays {tag}").into_bytes(),
+            3 => [b"delays ", tag.as_bytes(), b" ", &name].concat(),
+            4 => [&asked[..], b" ", &name, b" 1"].concat(),
+            5 => [b"delays ", &name[..], b" ", tag.as_bytes(), b" ", latency.as_bytes()].concat(),
+            6..=45 => [&asked[..], b" ", &name].concat(),
+            _ => asked,
+        }
+    }
+
+    /// Delays that are good but for where they shall be written.
+    fn unwritten_delays(&mut self) -> Vec<u8> {
+        let name = self.random.pick(&["missing/delays", INNER, "again1/"]);
+        format!("delays {} {MOST_COLUMNS} {name}", self.route_tag()).into_bytes()
+    }
+
     fn view(&mut self) -> Vec<u8> {
         let reader: &[u8] = self.random.pick(&[b"report ", b"ring "]);
         [reader, &self.view_name()].concat()
@@ -865,7 +1006,7 @@ impl Writer {
     }
 
     fn command(&mut self) -> Vec<u8> {
-        match self.random.below(131) {
+        match self.random.below(135) {
             0..=22 => self.mark(),
             23..=29 => self.unmark(),
             30..=38 => self.about("search"),
@@ -895,6 +1036,7 @@ impl Writer {
             110..=115 => self.loop_over(),
             116..=120 => self.record(),
             121..=125 => self.view(),
+            126..=129 => self.delays(),
             _ => self.simulate(),
         }
     }
@@ -1066,6 +1208,11 @@ impl Writer {
                 self.long_name_line(&begin, &name, length)
             }
             37 => filled(format!("simulate {tag} "), "21".to_string()),
+            39 => filled(format!("delays {tag} "), "32".to_string()),
+            40 => {
+                let name = format!("again{}", self.random.below(12));
+                self.long_name_line(&format!("delays {tag} 32"), &name, length)
+            }
             // blanks in place of what is missing: in front, between, at the end
             _ => {
                 let mut blank = || self.random.pick(&[b' ', b' ', b'\t']);
@@ -1083,6 +1230,7 @@ impl Writer {
                     32 => long(format!("loop {tag}"), tag.to_string()),
                     36 => long(format!("record {tag}"), "plan1".to_string()),
                     38 => long(format!("simulate {tag}"), "9".to_string()),
+                    41 => long(format!("delays {tag} 32"), "again1".to_string()),
                     _ => long(format!("\tvector {tag}"), "x".to_string()),
                 }
             }
@@ -1127,7 +1275,7 @@ impl Writer {
     fn search_and_read(&mut self) {
         let tag = self.good_tag();
         self.put(format!("search {tag}"));
-        match self.random.below(26) {
+        match self.random.below(29) {
             0 => {
                 let line = self.refused_fresh();
                 self.put(line);
@@ -1181,6 +1329,14 @@ impl Writer {
                 let line = self.simulate();
                 self.put(line);
             }
+            22 | 23 => {
+                let line = self.delays();
+                self.put(line);
+            }
+            24 => {
+                let line = self.unwritten_delays();
+                self.put(line);
+            }
             _ => {}
         }
         self.put("read");
@@ -1204,6 +1360,13 @@ impl Writer {
         let states = self.console.drawn(tag).map_or(0, |drawn| drawn.graph.diagram.states.len());
         if states <= 60 || self.random.chance(1, 15) {
             self.put(format!("diagram {tag}"));
+        }
+    }
+
+    /// Fig. 1, whose greedy cycle is not the best, drawn before its plan is shown in another way.
+    fn figure(&mut self) {
+        for line in [&format!("load {FIGURE}"), "search 1", "diagram 1", "read"] {
+            self.put(line);
         }
     }
 
@@ -1353,6 +1516,82 @@ impl Writer {
         }
     }
 
+    /// Delays of a function, what is to be as it was before them, and what they wrote.
+    fn some_delays(&mut self) {
+        if self.random.chance(1, 2) {
+            let name = delay_name(self.random.below(DELAY_FILES as u64) as usize);
+            self.put(format!("load {name}"));
+        }
+        let tag = self.route_tag();
+        if self.random.chance(1, 2) {
+            let line = self.random.pick(&["search", "start"]);
+            self.put(format!("{line} {tag}"));
+        }
+        for _ in 0..self.random.between(1, 3) {
+            let latency = self.latency(tag);
+            self.put(format!("delays {tag} {latency}"));
+            let line = match self.random.below(8) {
+                0 | 1 => b"read".to_vec(),
+                2 | 3 => b"bank".to_vec(),
+                4 | 5 => format!("table {tag}").into_bytes(),
+                6 => format!("start {tag}").into_bytes(),
+                _ => self.delays(),
+            };
+            self.put(line);
+        }
+        if self.random.chance(1, 2) {
+            let (latency, name) = (self.latency(tag), format!("again{}", self.random.below(12)));
+            self.put(format!("delays {tag} {latency} {name}"));
+            let seen = self.random.pick(&["read", "bank", "list", "table 1"]);
+            self.put(seen);
+            self.put(format!("load {name}"));
+            for _ in 0..self.random.between(1, 3) {
+                let line = match self.random.below(8) {
+                    0 => format!("delays 1 {latency}"),
+                    1 => format!("judge 1 {latency}"),
+                    _ => self.random.pick(&["table 1", "table 1", "table 2", "constant 1", "list"]).to_string(),
+                };
+                self.put(line);
+            }
+        }
+    }
+
+    /// The tables worked out by hand: shown, written and taken up again, and with a latency beside theirs.
+    fn hard_delays(&mut self) {
+        for (place, example) in EXAMPLES.iter().enumerate() {
+            let ((tag, _), latency) = (tag_of_example(place), example.latency);
+            self.put(format!("load {}", delay_name(place)));
+            self.put(format!("delays {tag} {latency}"));
+            self.put(format!("delays {tag} {latency} delayed{place}"));
+            self.put(format!("table {tag}"));
+            self.put(format!("delays {tag} {}", latency + 1));
+            self.put(format!("load delayed{place}"));
+            self.put("table 1");
+            self.put(format!("delays 1 {latency}"));
+        }
+    }
+
+    /// Files that are too long. And each command that writes a file: along a link to a file of another sort, over a file with a `.part`
+    /// beside it, to a name without room for `.part`, and to names that are numbers; with what shows what became of it.
+    fn hard_names(&mut self) {
+        for place in 0..LONG_FILES {
+            self.put(format!("load {}", long_name(place)));
+        }
+        let (link, target) = (link_name(0), LINKS[0]);
+        for (write, read) in [("save", "load"), ("record 1", "report"), ("delays 1 3", "load")] {
+            self.put(format!("load {}", delay_name(0)));
+            self.put("search 1");
+            self.put(format!("{write} {link}"));
+            self.put(format!("{read} {target}"));
+            self.put(format!("save {target}{PART}"));
+            self.put(format!("{write} {target}"));
+            self.put(format!("load {target}{PART}"));
+            self.put(format!("{write} {}", "n".repeat(251)));
+            self.put(format!("{write} 007"));
+            self.put(format!("{write} 4294967296"));
+        }
+    }
+
     /// A chart of the plan of each hard diagram, the longest that has room, and one of many turns, before the plan is shown and after.
     fn hard_charts(&mut self) {
         let names: Vec<String> = (0..units::HARD.len()).map(good_name).chain([list_name(loops_check::HARD.len() - 1)]).collect();
@@ -1375,7 +1614,8 @@ impl Writer {
             let tag = self.standing().map_or(1, |mark| mark.tag);
             self.put(format!("search {tag}"));
             self.put(format!("record {tag} hard{place}"));
-            for line in [format!("ring hard{place}"), format!("report hard{place}"), "read".to_string()] {
+            let (ring, report) = (format!("ring hard{place}"), format!("report hard{place}"));
+            for line in [&ring, &report, "read", &ring] {
                 if self.random.chance(3, 4) {
                     self.put(line);
                 }
@@ -1383,7 +1623,7 @@ impl Writer {
         }
     }
 
-    /// The hard lists, and a list of one tag for each hard diagram.
+    /// The hard lists, a list of one tag for each hard diagram, and a list with a word after many tags that is no number.
     fn hard_loops(&mut self) {
         for (place, (_, _, _, tags, _)) in loops_check::HARD.into_iter().enumerate() {
             let words: Vec<String> = tags.iter().map(|tag| tag.to_string()).collect();
@@ -1395,6 +1635,7 @@ impl Writer {
             let tag = self.standing().map_or(1, |mark| mark.tag);
             self.put(format!("loop {tag}"));
         }
+        self.put(format!("loop{} x", " 1".repeat(256)));
     }
 
     /// The issue controller at work, and what leaves its bank as it is or empties it; then the bank is seen, and a start is tried.
@@ -1427,7 +1668,7 @@ impl Writer {
         let (functions, segments, columns) = self.counts();
         let tag = self.good_tag();
         let edit = self.random.pick(&["mark", "unmark"]);
-        match self.random.below(38) {
+        match self.random.below(44) {
             0 => self.refused_fresh(),
             1 => format!("load {}", damaged_name(self.random.below(DAMAGED_FILES as u64) as usize)).into_bytes(),
             2 => self.fresh(),
@@ -1454,6 +1695,8 @@ impl Writer {
             28..=30 => self.record(),
             31 | 32 => self.view(),
             33..=36 => self.simulate(),
+            37..=40 => self.delays(),
+            41 | 42 => self.unwritten_delays(),
             _ => b"tick".to_vec(),
         }
     }
@@ -1484,10 +1727,10 @@ impl Writer {
     /// A new unit.
     fn begin(&mut self) {
         if self.random.chance(1, 3) {
-            let name = if self.random.chance(1, 8) {
-                list_name(self.random.below(loops_check::HARD.len() as u64) as usize)
-            } else {
-                good_name(self.random.below(GOOD_FILES as u64) as usize)
+            let name = match self.random.below(8) {
+                0 => list_name(self.random.below(loops_check::HARD.len() as u64) as usize),
+                1 => delay_name(self.random.below(DELAY_FILES as u64) as usize),
+                _ => good_name(self.random.below(GOOD_FILES as u64) as usize),
             };
             return self.put(format!("load {name}"));
         }
@@ -1545,7 +1788,7 @@ impl Writer {
             if self.console.unit.as_ref().is_some_and(|unit| unit.marks.len() < 3) && self.random.chance(1, 3) {
                 self.marks();
             }
-            match self.random.below(67) {
+            match self.random.below(68) {
                 0..=5 => self.search_and_read(),
                 6 => self.questions(),
                 7 => self.events(),
@@ -1553,6 +1796,7 @@ impl Writer {
                 9 => self.loops(),
                 10 | 11 => self.records(),
                 12 => self.charts(),
+                13 => self.some_delays(),
                 _ => self.some_line(),
             }
         }
@@ -1562,8 +1806,7 @@ impl Writer {
     fn no_unit(&mut self, count: usize) {
         let end = (self.lines.len() + count).min(self.most);
         for (name, wants) in COMMANDS {
-            let words = wants.replace("FILE", "missing").replace("UNITS", "9").replace(" L L ..", " 1 1").replace(" Q Q ..", " 1 1");
-            let words = words.replace(['P', 'S', 'Q', 'R', 'C'], "0");
+            let words = words_for(wants, "0");
             self.put(format!("{name}{words}"));
             self.put(format!("{name}{words} 1 x"));
         }
@@ -1610,17 +1853,23 @@ const SHORT_SCRIPTS: u64 = 12;
 fn sessions(lines: usize, before: &Folder, console: Console<Folder>) -> (Script, Console<Folder>) {
     let mut writer = Writer::new(seed_of(200, 0), lines - 1, console.again(before.clone()));
     writer.no_unit(400);
-    // every length once in each form, at the first unit
+    // at the first unit every command about a function that it does not have, and every length once in each form
     writer.put("fresh 3 4 9");
+    for (name, wants) in COMMANDS.into_iter().filter(|(_, wants)| wants.starts_with(" Q")) {
+        writer.put(format!("{name}{}", words_for(wants, "4")));
+    }
     for form in 0..LONG_FORMS {
         for length in [4_095, 4_096, 4_097, 4_098, 100_000] {
             let line = writer.long(form, length);
             writer.put(line);
         }
     }
+    writer.figure();
     writer.hard_loops();
     writer.hard_records();
     writer.hard_charts();
+    writer.hard_delays();
+    writer.hard_names();
     while !writer.full() {
         writer.session();
     }
@@ -1719,7 +1968,7 @@ pub fn scripts(lines: usize) -> Vec<Script> {
     let command = format!("vector {}1", "0".repeat(LONGEST_LINE - 8));
     let returned = format!("vector {}1\r", "0".repeat(LONGEST_LINE - 9));
     let too_long = format!("{command}\r");
-    let lasts: [&[u8]; 32] = [
+    let lasts: [&[u8]; 35] = [
         b"",
         b"table 1",
         b"tick",
@@ -1745,6 +1994,9 @@ pub fn scripts(lines: usize) -> Vec<Script> {
         b"simulate 1 12",
         b"simulate 1 12 \r",
         b"simulate 1 0",
+        b"delays 1 2",
+        b"delays 1 2 out",
+        b"delays 1 2 out \r",
         command.as_bytes(),
         returned.as_bytes(),
         too_long.as_bytes(),

@@ -18,6 +18,9 @@ mod console_outside;
 mod console_program;
 mod console_script;
 mod console_words;
+mod delays;
+mod delays_check;
+mod delays_met;
 mod facts;
 mod loops;
 mod loops_check;
@@ -27,18 +30,20 @@ mod random;
 mod record_files;
 mod records;
 mod records_check;
+mod routes;
 mod sheet;
 mod tally;
 mod units;
 
 use console_check::{check, Counts, Difference, Run};
-use console_faults::{sketched, Fault, Faulty, CHART_FAULTS, FAULTS, RECORD_FAULTS};
-use console_folder::{store, Content, File, Folder, Shelf, HEAD, PART};
+use console_faults::{file_of, sketched, Fault, Faulty, CHART_FAULTS, DELAY_FAULTS, FAULTS, RECORD_FAULTS};
+use console_folder::{store, Content, File, Folder, OfWritten, Shelf, HEAD, PART};
 use console_model::*;
 use console_outside::{cases, Outcome, Program};
 use console_program::{Ending, Place};
 use console_script::{scripts, Feed, Line, Script, LINES, RECORDS};
 use console_words::{one_turn, plan_drawing, Draw, Filler, Finder};
+use delays_check::by_trial;
 use loops::Loops;
 use model::*;
 use random::{seed_of, Random};
@@ -107,7 +112,7 @@ impl Shelf for Disk {
         fs::metadata(OsStr::from_bytes(name)).ok().map(|about| about.len())
     }
 
-    fn special(&self, _: &[u8]) -> Vec<[&'static str; 2]> {
+    fn special(&self, _: &[u8]) -> Vec<OfWritten> {
         Vec::new()
     }
 }
@@ -126,6 +131,7 @@ fn stand_in(store: Store, fetch: Fetch, unwritten: Unwritten) -> io::Result<()> 
     let mut output = fs::File::from(io::stdout().as_fd().try_clone_to_owned()?);
     let choice = Rc::new(RefCell::new(Choice { filler: Filler::new(sketched), random: Random::new(seed_of(208, 0)) }));
     let mut console = Console::new(Disk { store, fetch, choice: choice.clone() });
+    console.delay = by_trial;
     let mut line = Vec::new();
     let mut held = Vec::new();
     for place in 1.. {
@@ -269,10 +275,49 @@ impl Spoiler<'_> {
 
     fn change_file(&mut self, edit: impl Fn(&mut Vec<u8>)) -> Placed {
         let name = self.saved_file()?;
-        if let Some(File::Bytes(bytes)) = self.fake.folder.files.get_mut(&name) {
-            edit(bytes);
+        self.change_file_of(&name, edit)
+    }
+
+    fn change_file_of(&mut self, name: &[u8], edit: impl Fn(&mut Vec<u8>)) -> Placed {
+        let Some(File::Bytes(bytes)) = self.fake.folder.files.get_mut(name) else { return None };
+        let old = bytes.clone();
+        edit(bytes);
+        if *bytes == old {
+            return None;
         }
         self.end()
+    }
+
+    /// The names of the files that delays wrote last and that hold units, in any order.
+    fn delayed_files(&mut self) -> Vec<Vec<u8>> {
+        let mut files: BTreeMap<Vec<u8>, bool> = BTreeMap::new();
+        for line in &self.script.lines {
+            let Sort::Of(name, told) = &line.answer.sort else { continue };
+            if let (Some(file), "ok") = (file_of(&line.bytes, name), told.as_str()) {
+                files.insert(file.to_vec(), *name == "delays");
+            }
+        }
+        // what a link leads to may have been written by another name
+        let holds_unit = |name: &Vec<u8>| matches!(self.fake.folder.files.get(name), Some(File::Bytes(bytes)) if decode(bytes).is_ok());
+        let mut names: Vec<Vec<u8>> =
+            files.into_iter().filter(|(_, by_delays)| *by_delays).map(|(name, _)| name).filter(holds_unit).collect();
+        let begin = self.random.below(names.len() as u64) as usize;
+        names.rotate_left(begin);
+        names
+    }
+
+    /// A file that delays wrote, any that the change makes another one.
+    fn change_delayed(&mut self, edit: impl Fn(&mut Vec<u8>)) -> Placed {
+        self.delayed_files().iter().find_map(|name| self.change_file_of(name, &edit))
+    }
+
+    /// The same from the unit that the file holds.
+    fn change_delayed_unit(&mut self, edit: impl Fn(&mut Unit)) -> Placed {
+        self.change_delayed(|bytes| {
+            let mut unit = decode(bytes).expect("a unit file");
+            edit(&mut unit);
+            *bytes = encode(&unit);
+        })
     }
 
     fn end(&self) -> Placed {
@@ -411,7 +456,7 @@ fn worse(drawn: &Drawn, latencies: &[u8]) -> bool {
 
 type Wrong = (&'static str, fn(&mut Spoiler) -> Placed);
 
-const WRONG: [Wrong; 194] = [
+const WRONG: [Wrong; 231] = [
     ("mark: ok in place of refused 2", |it| it.change_of("mark", "refused 2", |_| "ok\n".to_string())),
     ("mark: refused 3 in place of refused 4", |it| it.change_of("mark", "refused 4", |_| "refused 3\n".to_string())),
     ("unmark: refused 2 in place of ok", |it| it.change_of("unmark", "ok", |_| "refused 2\n".to_string())),
@@ -863,6 +908,63 @@ const WRONG: [Wrong; 194] = [
             (chart.units > 40 && chart.text_of(&all).is_err()).then(|| sketched(chart, &[1]))
         })
     }),
+    ("delays: refused 20 in place of refused 2", |it| it.change_of("delays", "refused 2\n", |_| "refused 20\n".to_string())),
+    ("delays: refused 20 in place of refused 19", |it| it.change_of("delays", "refused 19", |_| "refused 20\n".to_string())),
+    ("delays: refused 19 in place of refused 20", |it| it.change_of("delays", "refused 20", |_| "refused 19\n".to_string())),
+    ("delays: refused 21 in place of refused 20", |it| it.change_of("delays", "refused 20", |_| "refused 21\n".to_string())),
+    ("delays: refused 20 in place of refused 21", |it| it.change_of("delays", "refused 21", |_| "refused 20\n".to_string())),
+    ("delays: refused 4 in place of refused 21", |it| it.change_of("delays", "refused 21", |_| "refused 4\n".to_string())),
+    ("delays: refused 20 in place of a table", |it| it.change_of("delays", " ", |_| "refused 20\n".to_string())),
+    ("delays: refused 21 in place of ok", |it| it.change_of("delays", "ok", |_| "refused 21\n".to_string())),
+    ("delays: a table in place of refused 19", |it| it.change_of("delays", "refused 19", |_| "     1\n  1  .\n".to_string())),
+    ("delays: a table in place of refused 20", |it| it.change_of("delays", "refused 20", |_| "     1\n  1  .\n".to_string())),
+    ("delays: a table in place of refused 21", |it| it.change_of("delays", "refused 21", |_| "     1\n  1  .\n".to_string())),
+    ("delays: a table in place of ok", |it| it.change_of("delays", "ok", |_| "     1\n  1  .\n".to_string())),
+    ("delays: ok in place of a table", |it| it.change_of("delays", " ", |_| "ok\n".to_string())),
+    ("delays: ok in place of a refusal", |it| it.change_of("delays", "refused", |_| "ok\n".to_string())),
+    ("delays: ok in place of not written", |it| it.change_of("delays", "not written", |_| "ok\n".to_string())),
+    ("delays: not written in place of ok", |it| it.change_of("delays", "ok", |_| "not written\n".to_string())),
+    ("delays: not written in place of a refusal", |it| it.change_of("delays", "refused", |_| "not written\n".to_string())),
+    ("delays: refused 2 in place of no unit", |it| it.change_of("delays", "no unit", |_| "refused 2\n".to_string())),
+    ("delays: refused 20 in place of what was expected", |it| it.change_of("delays", "line", |_| "refused 20\n".to_string())),
+    ("delays: two numbers alone were expected", |it| it.change_of("delays", "line", |text| text.replace(" [FILE]", ""))),
+    ("delays: a file too was expected", |it| it.change_of("delays", "line", |text| text.replace("[FILE]", "FILE"))),
+    ("delays: a mark left out", |it| it.change_of("delays", " ", |text| text.replacen('x', ".", 1))),
+    ("delays: a mark too many", |it| it.change_of("delays", " ", |text| text.replacen('.', "x", 1))),
+    ("delays: a mark one place later", |it| it.change_of("delays", " ", |text| text.replacen("x  .", ".  x", 1))),
+    ("delays: two segments exchanged", |it| it.change_of("delays", " ", lines_exchanged)),
+    ("delays: no column numbers", |it| it.change_of("delays", " ", |text| text.split_once('\n').expect("two lines").1.to_string())),
+    ("delays: the last column left out", |it| {
+        it.change_of("delays", " ", |text| text.lines().map(|line| format!("{}\n", &line[..line.len() - 3])).collect())
+    }),
+    ("delays: a column too many", |it| {
+        it.change_of("delays", " ", |text| {
+            let ends =
+                [format!("{:>3}\n", (text.find('\n').expect("a line") - 3) / 3 + 1)].into_iter().chain(std::iter::repeat("  .\n".into()));
+            text.lines().zip(ends).map(|(line, end)| line.to_string() + &end).collect()
+        })
+    }),
+    ("a unit with delays that was written has a column less", |it| it.change_delayed(|bytes| bytes[2] -= 1)),
+    ("a unit with delays that was written has a mark less", |it| {
+        it.change_delayed_unit(|unit| unit.marks = unit.marks.iter().skip(1).copied().collect())
+    }),
+    ("a unit with delays that was written has its marks one place later", |it| {
+        it.change_delayed_unit(|unit| unit.marks = unit.marks.iter().map(|mark| Mark { column: mark.column % 32 + 1, ..*mark }).collect())
+    }),
+    ("a unit with delays that was written has a function more", |it| it.change_delayed_unit(|unit| unit.functions += 1)),
+    ("a unit with delays that was written has segments with marks alone", |it| {
+        it.change_delayed_unit(|unit| unit.segments = unit.marks.iter().map(|mark| mark.segment).max().unwrap_or(1))
+    }),
+    ("a unit with delays that was written has a byte after its end", |it| it.change_delayed(|bytes| bytes.push(0))),
+    ("a unit with delays that was written is empty", |it| it.change_delayed(|bytes| bytes.clear())),
+    ("a unit with delays that was written is its table", |it| {
+        it.change_delayed(|bytes| *bytes = table(&decode(bytes).expect("a unit file"), 1).into_bytes())
+    }),
+    ("a unit with delays that was written is not there", |it| {
+        let name = it.delayed_files().pop()?;
+        it.fake.folder.files.remove(&name);
+        it.end()
+    }),
     ("line N: one more", |it| {
         it.change(|_, text, _, _| {
             let (number, rest) = text.strip_prefix("line ")?.split_once(':')?;
@@ -906,7 +1008,7 @@ const WRONG: [Wrong; 194] = [
 
 /// Wrong in how many lines there are, or at the end. A line too many or too few shows where the answers after it first differ. And charts of
 /// another cycle, which show when the plan is shown.
-const WRONG_AFTER: [Wrong; 10] = [
+const WRONG_AFTER: [Wrong; 11] = [
     ("simulate: another best cycle than the plan's, which is shown after it", |it| {
         let shown = it.shown();
         it.change_chart(false, |chart, _, finder, random| {
@@ -914,6 +1016,7 @@ const WRONG_AFTER: [Wrong; 10] = [
             is_shown.then(|| chart.text(&finder.best(&chart.planned.drawn.graph, random)))
         })
     }),
+    ("delays: ok after the table", |it| it.change_of("delays", " ", |text| format!("{text}ok\n"))),
     ("an answer to a comment", |it| it.change(|line, _, _, _| (line.answer.sort == Sort::Comment).then(|| "ok\n".to_string()))),
     ("an answer to blanks alone", |it| {
         it.change(|line, _, _, _| {
@@ -1012,18 +1115,19 @@ fn try_programs(script: &Script, right: &Run) -> Result<(), String> {
     Ok(())
 }
 
-/// A console with a fault in its answers or in how it draws charts: on the first lines of the script, and on all of it where these don't
-/// show the fault.
+/// A console with a fault in its answers, in how it draws charts or in how it gives delays: on the first lines of the script, and on all of
+/// it where these don't show the fault.
 fn try_fault(
     script: &Script,
     what: &str,
-    (answer, draw): (Fault, Draw),
+    (answer, draw, delay): (Fault, Draw, Delay),
     console: Console<Folder>,
 ) -> Result<(String, Console<Folder>), String> {
     let mut console = console;
     for count in [2_000, 20_000, script.lines.len()] {
         let count = count.min(script.lines.len());
         let mut faulty = Faulty::new(console.again(script.before.clone()));
+        faulty.console.delay = delay;
         let (mut filler, mut random) = (Filler::new(draw), Random::new(what.len() as u64));
         let mut output = Vec::new();
         for (place, line) in (1..).zip(&script.lines[..count]) {
@@ -1291,10 +1395,11 @@ fn run(lines: usize) -> Result<(), String> {
     let mut console = Console::new(Folder::default());
     let about_records = whole.iter().find(|script| script.name == RECORDS).expect("the script about records");
     let of_answers = |script, faults: &'static [(&'static str, Fault)]| {
-        faults.iter().map(move |(what, answer)| (script, *what, (*answer, sketched as Draw)))
+        faults.iter().map(move |(what, answer)| (script, *what, (*answer, sketched as Draw, by_trial as Delay)))
     };
-    let of_charts = CHART_FAULTS.iter().map(|(what, draw)| (&whole[0], *what, (Faulty::answer as Fault, *draw)));
-    let faults = of_answers(&whole[0], FAULTS).chain(of_answers(about_records, RECORD_FAULTS)).chain(of_charts);
+    let of_charts = CHART_FAULTS.iter().map(|(what, draw)| (&whole[0], *what, (Faulty::answer as Fault, *draw, by_trial as Delay)));
+    let of_delays = DELAY_FAULTS.iter().map(|(what, delay)| (&whole[0], *what, (Faulty::answer as Fault, sketched as Draw, *delay)));
+    let faults = of_answers(&whole[0], FAULTS).chain(of_answers(about_records, RECORD_FAULTS)).chain(of_charts).chain(of_delays);
     let mut faulty = 0;
     for (script, what, fault) in faults {
         let (told, after) = try_fault(script, what, fault, console)?;
