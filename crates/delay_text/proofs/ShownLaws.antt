@@ -41,40 +41,49 @@ module _ (u : FunctionUnit) (q m : ℕ) where
     unfolding delaysOf
     makes d = ap (λ (o : Outcome). o .unit) e ∙ ap (λ (a : Answer). outcome a u (delayedUnit u q m) .unit) (sym says ∙ d)
 
-    pub table-refused : (before : List ℕ) (why : Refusal) → made .answer ≡ Refused why → TableEnds before before (Drawn.Refused why)
+    -- what comes after the call is tried where it is done, and not where it is refused
+    ends : {A : Type 0} (answer : Answer → A) (out : Answer → List ℕ) (next a : Answer) → made .answer ≡ a
+        → (answer (andThen a next) ≡ answer (andThen (delaysAnswer u q m) next)) × (out (andThen a next) ≡ out (andThen (delaysAnswer u q m) next))
+    ends answer out next a d =
+        let by : andThen a next ≡ andThen (delaysAnswer u q m) next = ap (λ (b : Answer). andThen b next) (sym d ∙ says) in
+        (ap answer by, ap out by)
+
+    -- the table
+
+    table-ends : (before : List ℕ) (a : Answer) → made .answer ≡ a → let all : Answer = andThen a (tableRefusal (delayedUnit u q m) 1 (length before)) in
+        TableEnds before (written all (unitTable (delayedUnit u q m) 1) before) (drawn all (unitTable (delayedUnit u q m) 1))
     unfolding delayedTableAnswer delayedTableOut delayedTableRefusal
-    table-refused before why d =
-        let no : delayedTableRefusal u q m (length before) ≡ Refused why =
-        ap (λ (a : Answer). andThen a (tableRefusal (delayedUnit u q m) 1 (length before))) (sym says ∙ d) in (
-          sym (ap (λ (a : Answer). drawn a (unitTable (delayedUnit u q m) 1)) no),
-          sym (ap (λ (a : Answer). written a (unitTable (delayedUnit u q m) 1) before) no),
-        )
+    table-ends before a d =
+        ends (λ (b : Answer). drawn b (unitTable (delayedUnit u q m) 1)) (λ (b : Answer). written b (unitTable (delayedUnit u q m) 1) before) _ a d
+
+    pub table-refused : (before : List ℕ) (why : Refusal) → made .answer ≡ Refused why → TableEnds before before (Drawn.Refused why)
+    table-refused before why d = table-ends before (Refused why) d
 
     pub table-drawn : (before after : List ℕ) (r : Drawn) → made .answer ≡ Done
         → (r ≡ tableAnswer (made .unit) 1 (length before)) × (after ≡ tableOut (made .unit) 1 before) → TableEnds before after r
-    unfolding delayedTableAnswer delayedTableOut delayedTableRefusal tableAnswer tableOut
+    unfolding tableAnswer tableOut
     table-drawn before after r d w =
-        let by : delayedTableRefusal u q m (length before) ≡ tableRefusal (delayedUnit u q m) 1 (length before) =
-        ap (λ (a : Answer). andThen a (tableRefusal (delayedUnit u q m) 1 (length before))) (sym says ∙ d) in (
-          w .0 ∙ ap (λ (v : FunctionUnit). tableAnswer v 1 (length before)) (makes d) ∙ sym (ap (λ (a : Answer). drawn a (unitTable (delayedUnit u q m) 1)) by),
-          w .1 ∙ ap (λ (v : FunctionUnit). tableOut v 1 before) (makes d) ∙ sym (ap (λ (a : Answer). written a (unitTable (delayedUnit u q m) 1) before) by),
+        let k = table-ends before Done d in (
+          w .0 ∙ ap (λ (v : FunctionUnit). tableAnswer v 1 (length before)) (makes d) ∙ k .0,
+          w .1 ∙ ap (λ (v : FunctionUnit). tableOut v 1 before) (makes d) ∙ k .1,
         )
 
-    pub file-refused : (before : List ℕ) (why : Refusal) → made .answer ≡ Refused why → FileEnds before before (Written.Refused why)
+    -- the file
+
+    file-ends : (before : List ℕ) (a : Answer) → made .answer ≡ a → let all : Answer = andThen a (writeRefusal (delayedUnit u q m) (length before)) in
+        FileEnds before (fileInFront all (unitFile (delayedUnit u q m)) before) (lengthAnswer all (fileLength 1 (u .segments)))
     unfolding delayedFileAnswer delayedFileOut delayedFileRefusal
-    file-refused before why d =
-        let no : delayedFileRefusal u q m (length before) ≡ Refused why =
-        ap (λ (a : Answer). andThen a (writeRefusal (delayedUnit u q m) (length before))) (sym says ∙ d) in (
-          sym (ap (λ (a : Answer). lengthAnswer a (fileLength 1 (u .segments))) no),
-          sym (ap (λ (a : Answer). fileInFront a (unitFile (delayedUnit u q m)) before) no),
-        )
+    file-ends before a d =
+        ends (λ (b : Answer). lengthAnswer b (fileLength 1 (u .segments))) (λ (b : Answer). fileInFront b (unitFile (delayedUnit u q m)) before) _ a d
+
+    pub file-refused : (before : List ℕ) (why : Refusal) → made .answer ≡ Refused why → FileEnds before before (Written.Refused why)
+    file-refused before why d = file-ends before (Refused why) d
 
     pub file-written : (before after : List ℕ) (r : Written) → made .answer ≡ Done
         → (r ≡ writeAnswer (made .unit) (length before)) × (after ≡ writeOut (made .unit) before) → FileEnds before after r
-    unfolding delayedFileAnswer delayedFileOut delayedFileRefusal writeAnswer writeOut unitOf
+    unfolding writeAnswer writeOut unitOf
     file-written before after r d w =
-        let by : delayedFileRefusal u q m (length before) ≡ writeRefusal (delayedUnit u q m) (length before) =
-        ap (λ (a : Answer). andThen a (writeRefusal (delayedUnit u q m) (length before))) (sym says ∙ d) in (
-          w .0 ∙ ap (λ (v : FunctionUnit). writeAnswer v (length before)) (makes d) ∙ sym (ap (λ (a : Answer). lengthAnswer a (fileLength 1 (u .segments))) by),
-          w .1 ∙ ap (λ (v : FunctionUnit). writeOut v before) (makes d) ∙ sym (ap (λ (a : Answer). fileInFront a (unitFile (delayedUnit u q m)) before) by),
+        let k = file-ends before Done d in (
+          w .0 ∙ ap (λ (v : FunctionUnit). writeAnswer v (length before)) (makes d) ∙ k .0,
+          w .1 ∙ ap (λ (v : FunctionUnit). writeOut v before) (makes d) ∙ k .1,
         )

@@ -7,8 +7,8 @@ use mathlib.Core.List.{List, [], _∷_}
 use native.Mathlib.Decide.{decLt}
 use native.Mathlib.Nat.{eq-or-lt-of-le, mul-one, add-mul-mod-self-right, le-dest, suc-mul, add-mul}
 use native.Mathlib.Omega.{arith}
-use borrow.Author.Tests.{eqb-true, eq-eqb, leb-true, not-true}
-use lib.Dec.{eqb, leb}
+use borrow.Author.Tests.{leb-true, not-true}
+use lib.Dec.{leb}
 use lib.ListN.{length}
 use Rattle.words.specs.Below.{someBelow}
 use Rattle.words.proofs.Tests.{and-left, and-right, and-true, same-test}
@@ -20,7 +20,7 @@ use Rattle.unit.specs.declared.Answer.the-variants.{Done, Refused}
 use Rattle.unit.specs.Table.{Table}
 use Rattle.unit.specs.Unit.{inside, somewhere, goodCounts, marked, soundOf, SoundUnit}
 use Rattle.unit.specs.Calls.{andThen, tagAnswer, unitOf, outcome}
-use Rattle.unit.proofs.Laws.{within, inside-of, somewhere-of, never-done, check-ok, check-next, tag-accepted}
+use Rattle.unit.proofs.Laws.{within, inside-of, never-done, check-ok, check-next, tag-accepted}
 use Rattle.unit.proofs.SoundLaws.{sound-means, marked-place}
 use Rattle.unit.proofs.TableLaws.{unit-of-table, unit-of-sound}
 use Rattle.collision.specs.Pipeline.{startAt, NeverCollides}
@@ -30,6 +30,7 @@ use Rattle.collision.proofs.StartLaws.{startAt-turns}
 use Rattle.delays.specs.Delays.{Marks, placeOf, lastOf, places, widthOf, movedTable, crowded, delaysAnswer, delayedUnit, delaysOf}
 use Rattle.delays.specs.Claims.{ByRule, From, Delayed, DelaysPermit, OneUnit, TwoIn, CrowdedExactly, Beyond, BeyondExactly}
 use Rattle.delays.proofs.PlaceLaws.{places-length, placeAt, place-at, last-is, place-before, last-most, place-first, place-order, place-one, place-apart}
+use Rattle.delays.proofs.MovedLaws.{Old, moved-has, moved-of, moved-inside}
 use Rattle.delays.proofs.RuleLaws.{by-rule, one-way}
 
 -- What an accepted call has passed
@@ -96,33 +97,6 @@ module _ (u : FunctionUnit) (q m : ℕ) (a : Accepted u q m) where
       let e : suc (n - 1) ≡ n = omega (arith, means .columns .0) in
       ap (λ k. lastOf (places R m k)) (sym e) ∙ last-is R m (n - 1)
 
-  -- a moved mark is that of a column
-  record OldMark (s z : ℕ) : Type 0 where
-    pub index : ℕ
-    pub inside : index < n
-    pub place : placeAt R m index ≡ z
-    pub mark : R s (index + 1) ≡ true
-
-  old : (x s z : ℕ) → moved x s z ≡ true → (x ≡ 1) × OldMark s z
-  unfolding movedTable
-  old x s z e =
-      let p = some-elim (length l) (λ i. eqb (placeOf l (i + 1)) z && R s (i + 1)) (and-right (eqb x 1) _ e) in
-      let h : p .at < n = omega (arith, p .inside, size) in (
-        eqb-true x 1 (and-left (eqb x 1) _ e),
-        record {
-          index = p .at;
-          inside = h;
-          place = sym (place-at R m n (p .at) h) ∙ eqb-true (placeOf l (p .at + 1)) z (and-left (eqb (placeOf l (p .at + 1)) z) _ (p .passed));
-          mark = and-right (eqb (placeOf l (p .at + 1)) z) _ (p .passed);
-        },
-      )
-
-  new : (s i : ℕ) → i < n → R s (i + 1) ≡ true → moved 1 s (placeOf l (i + 1)) ≡ true
-  unfolding movedTable
-  new s i h e =
-      some-intro (length l) (λ k. eqb (placeOf l (k + 1)) (placeOf l (i + 1)) && R s (k + 1)) i (omega (arith, size))
-      (and-true (eq-eqb (placeOf l (i + 1)) (placeOf l (i + 1)) refl) e)
-
   within-width : (i : ℕ) → i < n → placeAt R m i ≤ width
   within-width i h = go (eq-or-lt-of-le (last h))
     where
@@ -134,17 +108,9 @@ module _ (u : FunctionUnit) (q m : ℕ) (a : Accepted u q m) where
       go (inr o) = omega (arith, width-is, place-order R m i (n - 1) o)
 
   inside-counts : (x s z : ℕ) → moved x s z ≡ true → (somewhere x s z ≡ true) × (x ≤ 1) × (s ≤ u .segments) × (z ≤ width)
-  inside-counts x s z e =
-      let o = old x s z e in
-      let k = o .1 in
-      let p = marked-place u q s (k .index + 1) (k .mark) in
-      let w = within-width (k .index) (k .inside) in
-      let f = place-first R m (k .index) in (
-        somewhere-of x s z (omega (arith, o .0)) (omega (arith, o .0)) (p .segment1) (p .segment16) (omega (arith, k .place)) (omega (arith, k .place, a .near)),
-        omega (arith, o .0),
-        means .marks q s (k .index + 1) (k .mark) .1,
-        omega (arith, k .place),
-      )
+  inside-counts =
+      moved-inside R m n (u .segments) width (means .segments .1) (a .near)
+      (λ s i h e. (marked-place u q s (i + 1) e .segment1, means .marks q s (i + 1) e .1)) within-width
 
   table-is : marked (delayedUnit u q m) ≡ moved
   table-is = unit-of-table 1 (u .segments) width moved (λ x s z e. inside-counts x s z e .0)
@@ -156,7 +122,7 @@ module _ (u : FunctionUnit) (q m : ℕ) (a : Accepted u q m) where
 
   -- marks of one segment
 
-  old-order : (s x y : ℕ) (j : OldMark s x) (i : OldMark s y) → x < y → j .index < i .index
+  old-order : (s x y : ℕ) (j : Old R m n s x) (i : Old R m n s y) → x < y → j .index < i .index
   old-order s x y j i h = go (decLt (j .index) (i .index))
     where
       go : Dec (j .index < i .index) → j .index < i .index
@@ -172,8 +138,8 @@ module _ (u : FunctionUnit) (q m : ℕ) (a : Accepted u q m) where
 
   apart : (s x y : ℕ) → moved 1 s x ≡ true → moved 1 s y ≡ true → x < y → x % m ≡ y % m → ⊥
   apart s x y e f h r =
-      let j = old 1 s x e .1 in
-      let i = old 1 s y f .1 in
+      let j = moved-has R m n 1 s x e .1 in
+      let i = moved-has R m n 1 s y f .1 in
       place-apart T q m (marked-bounded u) (a .single) (a .room) s (j .index) (i .index) (old-order s x y j i h) (j .mark) (i .mark)
       (ap (λ k. k % m) (j .place) ∙ r ∙ ap (λ k. k % m) (sym (i .place)))
 
@@ -199,7 +165,7 @@ module _ (u : FunctionUnit) (q m : ℕ) (a : Accepted u q m) where
 
   from : (s z : ℕ) → moved 1 s z ≡ true → From u q l s z
   from s z e =
-      let o = old 1 s z e .1 in
+      let o = moved-has R m n 1 s z e .1 in
       record {
         column = o .index + 1;
         least = omega arith;
@@ -214,10 +180,10 @@ module _ (u : FunctionUnit) (q m : ℕ) (a : Accepted u q m) where
       let here : placeOf l c ≡ placeAt R m (c - 1) = ap (placeOf l) (sym e) ∙ place-at R m n (c - 1) (omega arith) in
       same-test (moved 1 s (placeOf l c)) (marked u q s c)
       (λ t.
-      let o = old 1 s (placeOf l c) t .1 in
+      let o = moved-has R m n 1 s (placeOf l c) t .1 in
       let same : o .index ≡ c - 1 = place-one R m (o .index) (c - 1) (o .place ∙ here) in
       ap (marked u q s) (sym e ∙ ap (λ k. k + 1) (sym same)) ∙ o .mark)
-      (λ t. subst (λ (z : ℕ). moved 1 s (placeOf l z) ≡ true) e (new s (c - 1) (omega arith) (ap (marked u q s) e ∙ t)))
+      (λ t. subst (λ (z : ℕ). moved 1 s (placeOf l z) ≡ true) e (moved-of R m n s (placeOf l (c - 1 + 1)) (record { index = c - 1; inside = omega arith; place = sym (place-at R m n (c - 1) (omega arith)); mark = ap (marked u q s) e ∙ t })))
 
   delayed : Delayed u q m (delayedUnit u q m)
   unfolding unitOf

@@ -1,5 +1,6 @@
 mod RemainderLaws
 pub mod PlaceLaws
+mod MovedLaws
 mod RuleLaws
 pub mod Claims
 mod WordLaws

@@ -8,22 +8,22 @@ use native.Mathlib.Nat.{eq-or-lt-of-le}
 use native.Mathlib.Omega.{arith}
 use borrow.Author.Tests.{eqb-true, eq-eqb}
 use lib.Dec.{eqb}
-use lib.ListN.{length, getD}
+use lib.ListN.{getD}
 use Rattle.words.specs.Bits.{isSet}
 use Rattle.words.specs.Below.{someBelow}
 use Rattle.words.proofs.Tests.{nowhere, and-left, and-right, and-true, same-test}
-use Rattle.words.proofs.BelowLaws.{some-intro, some-elim}
 use Rattle.words.proofs.BitLaws.{set-below}
 use Rattle.unit.specs.declared.FunctionUnit.{FunctionUnit}
 use Rattle.unit.specs.Table.{Table, empty}
 use Rattle.unit.specs.Unit.{inside, somewhere, goodCounts, marked}
 use Rattle.unit.specs.Calls.{blank, unitOf, freshOf, columnOf}
-use Rattle.unit.proofs.Laws.{inside-of, somewhere-of}
+use Rattle.unit.proofs.Laws.{inside-of}
 use Rattle.unit.proofs.EditLaws.{blank-words, blank-table}
 use Rattle.unit.proofs.TableLaws.{unit-of-words, unit-of-table, unit-of-sound, unit-of-same, column-done, columnChanged, column-given}
-use Rattle.delays.specs.Delays.{Marks, placeOf, places, movedTable}
+use Rattle.delays.specs.Delays.{Marks, places, movedTable}
 use Rattle.delays.specs.Inner.{columnMarks, Movable}
-use Rattle.delays.proofs.PlaceLaws.{places-length, placeAt, place-at, place-first, place-one}
+use Rattle.delays.proofs.PlaceLaws.{placeAt, place-at, place-first, place-one}
+use Rattle.delays.proofs.MovedLaws.{Old, moved-has, moved-of, moved-inside}
 use Rattle.delays.proofs.WordLaws.{mark-has}
 
 module _ (R : Marks) (m : ℕ) where
@@ -33,43 +33,14 @@ module _ (R : Marks) (m : ℕ) where
   abbrev movedTo : ℕ → Table
   movedTo n = movedTable R (places R m n)
 
-  -- a moved mark is that of a column
-  record Old (n s z : ℕ) : Type 0 where
-    pub index : ℕ
-    pub inside : index < n
-    pub place : spot index ≡ z
-    pub mark : R s (index + 1) ≡ true
-
-  moved-has : (n x s z : ℕ) → movedTo n x s z ≡ true → (x ≡ 1) × Old n s z
-  unfolding movedTable
-  moved-has n x s z e =
-      let l = places R m n in
-      let p = some-elim (length l) (λ i. eqb (placeOf l (i + 1)) z && R s (i + 1)) (and-right (eqb x 1) _ e) in
-      let h : p .at < n = omega (arith, p .inside, places-length R m n) in (
-        eqb-true x 1 (and-left (eqb x 1) _ e),
-        record {
-          index = p .at;
-          inside = h;
-          place = sym (place-at R m n (p .at) h) ∙ eqb-true (placeOf l (p .at + 1)) z (and-left (eqb (placeOf l (p .at + 1)) z) _ (p .passed));
-          mark = and-right (eqb (placeOf l (p .at + 1)) z) _ (p .passed);
-        },
-      )
-
-  moved-of : (n s z : ℕ) → Old n s z → movedTo n 1 s z ≡ true
-  unfolding movedTable
-  moved-of n s z o =
-      let l = places R m n in
-      some-intro (length l) (λ k. eqb (placeOf l (k + 1)) z && R s (k + 1)) (o .index) (omega (arith, o .inside, places-length R m n))
-      (and-true (eq-eqb (placeOf l (o .index + 1)) z (place-at R m n (o .index) (o .inside) ∙ o .place)) (o .mark))
-
-  moved-one : (n x s z : ℕ) → x ≡ 1 → Old n s z → movedTo n x s z ≡ true
-  moved-one n x s z e o = ap (λ k. movedTo n k s z) e ∙ moved-of n s z o
+  moved-one : (n x s z : ℕ) → x ≡ 1 → Old R m n s z → movedTo n x s z ≡ true
+  moved-one n x s z e o = ap (λ k. movedTo n k s z) e ∙ moved-of R m n s z o
 
   -- one column more
-  old-more : (n s z : ℕ) → Old n s z → Old (n + 1) s z
+  old-more : (n s z : ℕ) → Old R m n s z → Old R m (n + 1) s z
   old-more n s z o = record { index = o .index; inside = omega (arith, o .inside); place = o .place; mark = o .mark }
 
-  old-less : (n s z : ℕ) → Old (n + 1) s z → (z ≡ spot n → ⊥) → Old n s z
+  old-less : (n s z : ℕ) → Old R m (n + 1) s z → (z ≡ spot n → ⊥) → Old R m n s z
   old-less n s z o other =
       ⊎-elim (λ e. absurd (other (sym (o .place) ∙ ap spot e)))
       (λ l. record { index = o .index; inside = l; place = o .place; mark = o .mark })
@@ -92,13 +63,13 @@ module _ (R : Marks) (m : ℕ) where
               ∙ same-test (R y (n + 1)) (movedTo (n + 1) x y z)
               (λ h. moved-one (n + 1) x y z p (record { index = n; inside = omega arith; place = sym q; mark = h }))
               (λ h.
-              let o = moved-has (n + 1) x y z h .1 in
+              let o = moved-has R m (n + 1) x y z h .1 in
               ap (λ k. R y (k + 1)) (sym (place-one R m (o .index) n (o .place ∙ q))) ∙ o .mark)
           go false e =
               same-test (movedTo n x y z) (movedTo (n + 1) x y z)
-              (λ h. let k = moved-has n x y z h in moved-one (n + 1) x y z (k .0) (old-more n y z (k .1)))
+              (λ h. let k = moved-has R m n x y z h in moved-one (n + 1) x y z (k .0) (old-more n y z (k .1)))
               (λ h.
-              let k = moved-has (n + 1) x y z h in
+              let k = moved-has R m (n + 1) x y z h in
               moved-one n x y z (k .0) (old-less n y z (k .1) (λ q. nowhere (sym e ∙ and-true (eq-eqb x 1 (k .0)) (eq-eqb z (spot n) q)))))
 
   table-none : empty ≡ movedTo 0
@@ -136,17 +107,9 @@ module _ (columns spots : List ℕ) (m n segments width : ℕ) (a : Movable colu
       (w .segment .least, omega (arith, w .segment .least))
 
   inside-counts : (i : ℕ) → i ≤ n → (x s z : ℕ) → movedTo M m i x s z ≡ true → (somewhere x s z ≡ true) × (x ≤ 1) × (s ≤ segments) × (z ≤ width)
-  inside-counts i h x s z e =
-      let k = moved-has M m i x s z e in
-      let o = k .1 in
-      let g = segment-most s (o .index) (o .mark) in
-      let w : spot M m (o .index) ≤ width = omega (arith, spot-is (o .index) (omega (arith, o .inside)), a .within (o .index) (omega (arith, o .inside))) in
-      let f = place-first M m (o .index) in (
-        somewhere-of x s z (omega (arith, k .0)) (omega (arith, k .0)) (g .0) (omega (arith, g .1, a .segment16)) (omega (arith, o .place)) (omega (arith, o .place, a .width32)),
-        omega (arith, k .0),
-        g .1,
-        omega (arith, o .place),
-      )
+  inside-counts i h =
+      moved-inside M m i segments width (a .segment16) (a .width32) (λ s k l. segment-most s k)
+      (λ k l. omega (arith, spot-is k (omega arith), a .within k (omega arith)))
 
   word-says : (i : ℕ) → i < 32 → (s : ℕ) → inside s 16 && isSet (getD columns i 0) (s - 1) ≡ M s (i + 1)
   unfolding columnMarks
