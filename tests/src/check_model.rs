@@ -11,6 +11,8 @@ mod loops;
 mod loops_check;
 mod model;
 mod model_check;
+mod queue;
+mod queue_check;
 mod random;
 mod record_files;
 mod records;
@@ -24,7 +26,8 @@ fn main() {
     let checked = model_check::run().and_then(|units| loops_check::run().map(|_| units));
     let checked = checked.and_then(|units| records_check::run().map(|_| units));
     let checked = checked.and_then(|units| charts_check::run().map(|_| units));
-    match checked.and_then(|units| delays_check::run().map(|_| units)) {
+    let checked = checked.and_then(|units| delays_check::run().map(|_| units));
+    match checked.and_then(|units| queue_check::run().map(|_| units)) {
         Ok(units) => println!("model: agrees with the paper's tables and, on {units} random units, with itself"),
         Err(why) => {
             println!("model: {why}");

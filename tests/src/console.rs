@@ -1,9 +1,9 @@
 //! A test of the program `designer` from outside.
 //!
 //! Scripts of 100,000 lines and more, good lines and bad ones, are made from fixed seeds; each line's answer is worked out by the tests'
-//! own implementation of the paper (`model.rs`, `loops.rs`, `records.rs`, `charts.rs`, `delays.rs`, `console_model.rs`) before the program
-//! is run; then the program answers the scripts, and the first difference ends the run. Before them come runs of a few lines, each with
-//! special files or a special output (`console_outside.rs`).
+//! own implementation of the paper (`model.rs`, `loops.rs`, `records.rs`, `charts.rs`, `delays.rs`, `queue.rs`, `console_model.rs`) before
+//! the program is run; then the program answers the scripts, and the first difference ends the run. Before them come runs of a few lines,
+//! each with special files or a special output (`console_outside.rs`).
 //!
 //!     console PROGRAM            everything
 //!     console PROGRAM special    everything, and how often each special case was met
@@ -20,6 +20,7 @@ mod console_model;
 mod console_outside;
 mod console_program;
 mod console_script;
+mod console_watch;
 mod delays;
 mod delays_check;
 mod delays_met;
@@ -28,6 +29,9 @@ mod loops;
 mod loops_check;
 mod model;
 mod model_check;
+mod queue;
+mod queue_check;
+mod queue_met;
 mod random;
 mod record_files;
 mod records;

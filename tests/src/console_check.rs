@@ -42,7 +42,7 @@ pub struct Counts {
 }
 
 /// The refusals and the words that each command can answer with. Besides, each can be told what was expected.
-const ANSWERS: [(&str, &[u32], &[&str]); 27] = [
+const ANSWERS: [(&str, &[u32], &[&str]); 30] = [
     ("fresh", &[1], &["ok"]),
     ("mark", &[2, 3, 4], &["ok", "no unit"]),
     ("unmark", &[2, 3, 4], &["ok", "no unit"]),
@@ -70,6 +70,9 @@ const ANSWERS: [(&str, &[u32], &[&str]); 27] = [
     ("ring", &[15], &["ok", "no file"]),
     ("simulate", &[2, 6, 8], &["ok", "no unit"]),
     ("delays", &[2, 19, 20, 21], &["ok", "not written", "no unit"]),
+    ("arrive", &[2, 14], &["ok", "no unit"]),
+    ("pass", &[], &["started", "none", "no unit"]),
+    ("queue", &[], &["ok", "no unit"]),
 ];
 
 const OTHERS: [(Sort, &str); 4] = [
@@ -121,7 +124,7 @@ impl Counts {
                 parts.push(format!("; {label} {count}"));
                 continue;
             };
-            if told == "ok" || told == "yes" {
+            if ["ok", "yes", "started"].contains(&told.as_str()) {
                 parts.push(format!("; {name}"));
             }
             parts.push(match told.strip_prefix("refused ") {

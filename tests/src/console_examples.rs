@@ -5,7 +5,8 @@ use crate::console_folder::{File, Folder};
 use crate::console_model::Console;
 use crate::console_program::Ending;
 use crate::console_script::{Feed, Line, Script};
-use crate::{charts_check, delays_check, loops_check, model_check, records_check};
+use crate::console_watch::Watch;
+use crate::{charts_check, delays_check, loops_check, model_check, queue_check, records_check};
 
 /// A session as it is to be seen: after `>` what is typed. The paper's Fig. 1 and Fig. 2, its tables "No marks" and "Marks 1 11", loops
 /// over them and over a table whose second function no loop names, and the lines of the console's description.
@@ -990,6 +991,297 @@ not written
 ok
 ";
 
+/// Tasks that wait: forms and refusals; both functions of Fig. 2, of which B comes 1, 3 or 5 after A, A 3 or 5 after B, and each 1, 4 or 5
+/// after its own, beside starts by hand; what leaves bank and queue as they are and what empties them; and a function that is in one
+/// segment in all of its four columns. The registers after a start are the rows of its matrix beside what was there: A's 6 10, B's 11 6.
+const QUEUES: &str = "\
+>arrive 1 17
+no unit
+>pass
+no unit
+>queue
+no unit
+>arrive 4294967295 4294967295
+no unit
+>arrive
+line 5: expected arrive Q TICKET
+>arrive 1
+line 6: expected arrive Q TICKET
+>arrive 1 2 3
+line 7: expected arrive Q TICKET
+>arrive 1 x
+line 8: expected arrive Q TICKET
+>arrive 1 -1
+line 9: expected arrive Q TICKET
+>arrive 1 4294967296
+line 10: expected arrive Q TICKET
+>arrive 4294967296 1
+line 11: expected arrive Q TICKET
+>pass 1
+line 12: expected pass
+>queue 1
+line 13: expected queue
+>arrives 1 7
+line 14: expected a command
+>passes
+line 15: expected a command
+>Queue
+line 16: expected a command
+>fresh 2 3 5
+ok
+>mark 1 1 1
+ok
+>mark 1 1 4
+ok
+>mark 1 2 2
+ok
+>mark 1 3 3
+ok
+>mark 1 3 5
+ok
+>mark 2 1 2
+ok
+>mark 2 1 5
+ok
+>mark 2 2 4
+ok
+>mark 2 3 1
+ok
+>mark 2 3 3
+ok
+>queue
+queue 0:
+>pass
+none
+>arrive 1 17
+ok
+>arrive 2 18
+ok
+>\tarrive\t01  4294967295 \r
+ok
+>arrive 2 0000
+ok
+>arrive 1 2 3
+line 34: expected arrive Q TICKET
+>arrive 1 4294967296
+line 35: expected arrive Q TICKET
+>queue
+queue 4: 1 17 2 18 1 4294967295 2 0
+>bank
+0 0 0 0
+>pass
+started 1 17
+>bank
+6 10 0 0
+>pass
+started 2 18
+>bank
+11 7 0 0
+>pass
+none
+>bank
+5 3 0 0
+>\tqueue \r
+queue 2: 1 4294967295 2 0
+>pass
+none
+>pass
+started 1 4294967295
+>bank
+7 10 0 0
+>queue
+queue 1: 2 0
+>pass\r
+started 2 0
+>queue
+queue 0:
+>bank
+11 7 0 0
+>pass
+none
+>bank
+5 3 0 0
+>arrive 0 1
+refused 2
+>arrive 3 1
+refused 2
+>arrive 257 1
+refused 2
+>arrive 4294967295 1
+refused 2
+>queue
+queue 0:
+>arrive 2 5
+ok
+>arrive 1 5
+ok
+>arrive 2 5
+ok
+>queue
+queue 3: 2 5 1 5 2 5
+>start 1
+refused 10
+>start 2
+refused 10
+>bank
+5 3 0 0
+>tick
+ok
+>start 1
+ok
+>bank
+7 10 0 0
+>queue
+queue 3: 2 5 1 5 2 5
+>pass
+started 2 5
+>bank
+11 7 0 0
+>pass
+none
+>pass
+none
+>pass
+started 1 5
+>queue
+queue 1: 2 5
+>mark 3 1 1
+refused 2
+>unmark 1 4 1
+refused 3
+>mark 1 1 6
+refused 4
+>mark 1 1
+line 79: expected mark Q R C
+>fresh 0 1 1
+refused 1
+>load missing
+no file
+>search 1
+ok
+>read
+plan 1 cycle 1 4 sum 5
+>delays 1 0
+refused 20
+>pass 1
+line 85: expected pass
+>queue
+queue 1: 2 5
+>bank
+7 10 0 0
+>mark 1 1 1
+ok
+>queue
+queue 0:
+>bank
+0 0 0 0
+>pass
+none
+>arrive 2 9
+ok
+>unmark 2 2 1
+ok
+>queue
+queue 0:
+>start 1
+ok
+>arrive 1 3
+ok
+>load figure_2
+ok
+>queue
+queue 0:
+>bank
+0 0 0 0
+>arrive 2 1
+ok
+>arrive 1 2
+ok
+>arrive 2 3
+ok
+>pass
+started 2 1
+>bank
+11 6 0 0
+>pass
+none
+>pass
+none
+>bank
+2 1 0 0
+>pass
+started 1 2
+>bank
+7 10 0 0
+>pass
+started 2 3
+>arrive 1 1
+ok
+>fresh 1 1 4
+ok
+>queue
+queue 0:
+>mark 1 1 1
+ok
+>mark 1 1 2
+ok
+>mark 1 1 3
+ok
+>mark 1 1 4
+ok
+>arrive 1 1
+ok
+>arrive 2 1
+refused 2
+>arrive 1 2
+ok
+>pass
+started 1 1
+>bank
+7 0 0 0
+>pass
+none
+>pass
+none
+>pass
+none
+>queue
+queue 1: 1 2
+>pass
+started 1 2
+>pass
+none
+";
+
+/// As many tasks as can wait, behind a start by hand. 1 is forbidden, and every second unit starts one: the last of them in unit 64. No
+/// other has room, but from the first start on there is room for one. And without marks each unit starts one.
+fn full_queue() -> String {
+    let mut seen = ">fresh 1 1 2\nok\n>mark 1 1 1\nok\n>mark 1 1 2\nok\n>start 1\nok\n".to_string();
+    let waiting = |tickets: std::ops::RangeInclusive<u32>| tickets.map(|ticket| format!(" 1 {ticket}")).collect::<String>();
+    for ticket in 101..=132 {
+        seen += &format!(">arrive 1 {ticket}\nok\n");
+    }
+    seen += ">arrive 1 133\nrefused 14\n>arrive 2 133\nrefused 2\n>arrive 0 133\nrefused 2\n>bank\n1 0 0 0\n";
+    seen += &format!(">queue\nqueue 32:{}\n", waiting(101..=132));
+    seen += ">pass\nnone\n>arrive 1 133\nrefused 14\n>pass\nstarted 1 101\n";
+    seen += &format!(">queue\nqueue 31:{}\n", waiting(102..=132));
+    seen += ">arrive 1 133\nok\n>arrive 1 134\nrefused 14\n";
+    seen += &format!(">queue\nqueue 32:{}\n", waiting(102..=133));
+    for ticket in 102..=133 {
+        seen += &format!(">pass\nnone\n>pass\nstarted 1 {ticket}\n");
+    }
+    seen += ">queue\nqueue 0:\n>fresh 4 16 32\nok\n";
+    let tasks: Vec<(u32, u32)> = (0..32).map(|place| (place % 4 + 1, u32::MAX - place)).collect();
+    for (tag, ticket) in &tasks {
+        seen += &format!(">arrive {tag} {ticket}\nok\n");
+    }
+    seen += ">arrive 4 0\nrefused 14\n>arrive 5 0\nrefused 2\n";
+    for (tag, ticket) in &tasks {
+        seen += &format!(">pass\nstarted {tag} {ticket}\n");
+    }
+    seen + ">pass\nnone\n>queue\nqueue 0:\n>bank\n0 0 0 0\n"
+}
+
 /// The files that the first lines write: Fig. 1's unit, whose table begins at byte 6 and has a word for each segment.
 const FOUND_FILES: [(&str, &[u8]); 2] = [("figure", FIGURE_1), ("a\rb", FIGURE_1)];
 const FIGURE_1: &[u8] = &[1, 5, 9, 0, 6, 0, 0x01, 0x01, 0, 0, 0x86, 0, 0, 0, 0x08, 0, 0, 0, 0x30, 0, 0, 0, 0xC0, 0, 0, 0];
@@ -1002,6 +1294,10 @@ const FOUND_DELAYS: [(&str, &[u8]); 5] = [
     ("two", &[1, 3, 7, 0, 6, 0, 0x42, 0, 0, 0, 0x10, 0, 0, 0, 0x09, 0, 0, 0]),
     ("none", &[1, 2, 3, 0, 6, 0, 0, 0, 0, 0, 0, 0, 0, 0]),
 ];
+
+/// Fig. 2's unit: two tables of a word for each segment, the first one from byte 8 on.
+const QUEUE_FILES: [(&str, &[u8]); 1] =
+    [("figure_2", &[2, 3, 5, 0, 8, 0, 20, 0, 9, 0, 0, 0, 2, 0, 0, 0, 20, 0, 0, 0, 18, 0, 0, 0, 8, 0, 0, 0, 5, 0, 0, 0])];
 
 /// The paper's record, the same with a byte more, and with its spare bit 0; a unit file; and a file of no bytes.
 const RECORD_FILES: [(&str, &[u8]); 5] = [
@@ -1030,10 +1326,13 @@ const FOUND_RECORDS: [(&str, &[u8]); 6] = [
 
 /// A script of lines, with the answers that the model gives.
 fn script_of(name: &str, lines: &[&str], before: Folder) -> Script {
-    let mut console = Console::new(before.clone());
-    let answered =
-        (1..).zip(lines).map(|(place, line)| Line { bytes: line.as_bytes().to_vec(), answer: console.answer(line.as_bytes(), place) });
-    let lines = answered.collect();
+    let (mut console, mut watch) = (Console::new(before.clone()), Watch::default());
+    let mut answered = |place: usize, line: &str| {
+        let answer = console.answer(line.as_bytes(), place);
+        watch.see(line.as_bytes(), &answer, console.unit.as_ref()).unwrap_or_else(|why| panic!("line {place} of {name}: {why}"));
+        Line { bytes: line.as_bytes().to_vec(), answer }
+    };
+    let lines = (1..).zip(lines).map(|(place, line)| answered(place, line)).collect();
     Script { name: name.to_string(), lines, newline: true, feed: Feed::Pieces, before, after: console.shelf, met: Vec::new() }
 }
 
@@ -1066,7 +1365,11 @@ pub fn examples() -> Result<(), String> {
     put_files(&mut before, &RECORD_FILES);
     session("the examples of records", RECORDS, before, &FOUND_RECORDS)?;
     session("the examples of charts", CHARTS, Folder::default(), &[])?;
-    session("the examples of delays", DELAYS, Folder::default(), &FOUND_DELAYS)
+    session("the examples of delays", DELAYS, Folder::default(), &FOUND_DELAYS)?;
+    let mut before = Folder::default();
+    put_files(&mut before, &QUEUE_FILES);
+    session("the examples of queues", QUEUES, before, &[])?;
+    session("the example of a full queue", &full_queue(), Folder::default(), &[])
 }
 
 /// The model against the paper's tables and its own definitions, and against the examples.
@@ -1076,5 +1379,6 @@ pub fn check_model() -> Result<(), String> {
     records_check::run()?;
     charts_check::run()?;
     delays_check::run()?;
+    queue_check::run()?;
     examples()
 }

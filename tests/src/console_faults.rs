@@ -17,8 +17,10 @@ use std::rc::Rc;
 /// What a faulty console is made of.
 pub struct Faulty {
     pub console: Console<Folder>,
-    /// For a fault that counts lines.
-    skipped: usize,
+    /// For a fault that counts.
+    pub skipped: usize,
+    /// For a fault that has a second bank.
+    pub other: Bank,
 }
 
 /// The answer that a console with this fault gives.
@@ -26,7 +28,7 @@ pub type Fault = fn(&mut Faulty, &[u8], usize) -> Answer;
 
 impl Faulty {
     pub fn new(console: Console<Folder>) -> Faulty {
-        Faulty { console, skipped: 0 }
+        Faulty { console, skipped: 0, other: Bank::of_words(&[0; REGISTERS]) }
     }
 
     pub fn answer(&mut self, line: &[u8], place: usize) -> Answer {
@@ -90,7 +92,7 @@ impl Faulty {
     }
 
     /// With something done after answers of these commands that are as asked for.
-    fn after(&mut self, line: &[u8], place: usize, names: &[&str], said: fn(&str) -> bool, then: fn(&mut Console<Folder>)) -> Answer {
+    pub fn after(&mut self, line: &[u8], place: usize, names: &[&str], said: fn(&str) -> bool, then: fn(&mut Console<Folder>)) -> Answer {
         let answer = self.answer(line, place);
         if let Sort::Of(name, told) = &answer.sort {
             if names.contains(name) && said(told) {
@@ -101,7 +103,7 @@ impl Faulty {
     }
 
     /// With the plan or the bank as it was before answers of these commands that are as asked for.
-    fn keeping(
+    pub fn keeping(
         &mut self,
         line: &[u8],
         place: usize,
@@ -123,7 +125,7 @@ impl Faulty {
     }
 
     /// With another text in place of some.
-    fn instead(&mut self, line: &[u8], place: usize, change: impl Fn(&Answer, &str) -> Option<String>) -> Answer {
+    pub fn instead(&mut self, line: &[u8], place: usize, change: impl Fn(&Answer, &str) -> Option<String>) -> Answer {
         let mut answer = self.answer(line, place);
         if let [Part::Text(text)] = &mut answer.parts[..] {
             let copy = text.clone();
@@ -232,7 +234,7 @@ impl Faulty {
     }
 
     /// With other words, where the line has a name and so many words after it.
-    fn with_words_of(&mut self, line: &[u8], place: usize, name: &str, count: usize, change: impl Fn(&mut Vec<Vec<u8>>)) -> Answer {
+    pub fn with_words_of(&mut self, line: &[u8], place: usize, name: &str, count: usize, change: impl Fn(&mut Vec<Vec<u8>>)) -> Answer {
         self.with_words(line, place, |words| {
             if words[0] == name.as_bytes() && words.len() == count + 1 {
                 change(words);
@@ -250,7 +252,7 @@ impl Faulty {
     }
 
     /// With another command about the same function carried out after an accepted one.
-    fn and_then(&mut self, line: &[u8], place: usize, name: &str, then: &str) -> Answer {
+    pub fn and_then(&mut self, line: &[u8], place: usize, name: &str, then: &str) -> Answer {
         let answer = self.answer(line, place);
         if is(&answer, name, "ok") {
             let line = [then.as_bytes(), b" ", words_of(line)[1]].concat();
@@ -406,7 +408,7 @@ fn between_blanks(line: &[u8]) -> &[u8] {
     &line[begin..end]
 }
 
-fn digits(text: &str) -> Option<u128> {
+pub fn digits(text: &str) -> Option<u128> {
     if text.is_empty() || text.len() > 39 || !text.bytes().all(|byte| byte.is_ascii_digit()) {
         return None;
     }
@@ -421,19 +423,19 @@ fn is_large_number(word: &[u8]) -> bool {
     digits(&String::from_utf8_lossy(word)).is_some_and(|number| number >= 1 << 32)
 }
 
-fn refused(told: &str) -> bool {
+pub fn refused(told: &str) -> bool {
     told.starts_with("refused")
 }
 
-fn ok(told: &str) -> bool {
+pub fn ok(told: &str) -> bool {
     told == "ok"
 }
 
-fn empty(console: &mut Console<Folder>) {
+pub fn empty(console: &mut Console<Folder>) {
     console.bank = Bank::of_words(&[0; REGISTERS]);
 }
 
-fn drop_plan(console: &mut Console<Folder>) {
+pub fn drop_plan(console: &mut Console<Folder>) {
     console.plan = None;
 }
 
@@ -451,13 +453,13 @@ fn change_unit(console: &mut Console<Folder>, change: impl FnOnce(&mut Unit)) {
 }
 
 /// Takes the last mark away.
-fn take_mark(console: &mut Console<Folder>) {
+pub fn take_mark(console: &mut Console<Folder>) {
     change_unit(console, |unit| {
         unit.marks.pop_last();
     });
 }
 
-fn is(answer: &Answer, name: &str, told: &str) -> bool {
+pub fn is(answer: &Answer, name: &str, told: &str) -> bool {
     answer.sort == Sort::Of(COMMANDS.iter().find(|command| command.0 == name).expect("a command").0, told.to_string())
 }
 

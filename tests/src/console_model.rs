@@ -7,8 +7,9 @@ use crate::charts;
 use crate::console_folder::{written, Content, Shelf, Written};
 use crate::loops::*;
 use crate::model::*;
+use crate::queue::{self, Port, Queue, Task};
 use crate::records::{self, Wrong, LONGEST_LATENCY, LONGEST_RECORD};
-use crate::{delays, delays_met};
+use crate::{delays, delays_met, queue_met};
 use std::cell::OnceCell;
 use std::collections::{HashMap, HashSet};
 use std::fmt;
@@ -19,7 +20,7 @@ pub const LONGEST_LINE: usize = 4_096;
 
 /// Each command with what it wants after its name: `FILE` is a file's name, which may be any word, `[FILE]` is one or nothing, `L L ..` and
 /// `Q Q ..` are any number of numbers, none too, and all else is a number.
-pub const COMMANDS: [(&str, &str); 27] = [
+pub const COMMANDS: [(&str, &str); 30] = [
     ("fresh", " P S C"),
     ("mark", " Q R C"),
     ("unmark", " Q R C"),
@@ -47,7 +48,17 @@ pub const COMMANDS: [(&str, &str); 27] = [
     ("ring", " FILE"),
     ("simulate", " Q UNITS"),
     ("delays", " Q M [FILE]"),
+    ("arrive", " Q TICKET"),
+    ("pass", ""),
+    ("queue", ""),
 ];
+
+/// What is as it was before some line: a plan, a bank that is not empty, and tasks that wait.
+macro_rules! kept {
+    ($by:literal) => {
+        [concat!("a plan kept by ", $by), concat!("a bank kept by ", $by), concat!("a queue kept by ", $by)]
+    };
+}
 
 /// A special case of the two readers of a record, `report` and `ring`.
 macro_rules! both {
@@ -431,14 +442,19 @@ fn told_of(is_written: bool) -> Vec<Part> {
     said(if is_written { "ok" } else { "not written" }.to_string())
 }
 
-/// The sort of a command's answer: `refused N`, `yes`, `no`, `no unit`, `no file`, `not written`, and else `ok`.
+/// The sort of a command's answer: `refused N`, `yes`, `no`, `none`, `no unit`, `no file`, `not written`, `started`, and else `ok`.
 fn sort_of(name: &'static str, parts: &[Part]) -> Sort {
     let text = match &parts[0] {
         Part::Text(text) => text.trim_end(),
         _ => "",
     };
-    let told = ["yes", "no", "no unit", "no file", "not written"].contains(&text) || text.starts_with("refused ");
-    Sort::Of(name, if told { text } else { "ok" }.to_string())
+    let told = match text {
+        "yes" | "no" | "none" | "no unit" | "no file" | "not written" => text,
+        _ if text.starts_with("refused ") => text,
+        _ if text.starts_with("started ") => "started",
+        _ => "ok",
+    };
+    Sort::Of(name, told.to_string())
 }
 
 /// "Blanks: spaces and tabs (bytes 32 and 9)"
@@ -513,14 +529,18 @@ pub struct Console<S: Shelf> {
     pub plan: Option<Plan>,
     searches: usize,
     pub bank: Bank,
+    pub queue: Queue,
     pub shelf: S,
-    /// Another one than the right one where the console is to have a fault.
+    /// Others than the right ones where the console is to have a fault.
     pub delay: Delay,
+    pub port: Port,
     met: Vec<&'static str>,
     /// What the line before did, for the special cases.
     before: Before,
-    /// The bank as the last accepted edit found it.
+    /// The bank as the last accepted edit or new unit found it.
     found: Bank,
+    /// Whether the last accepted edit or new unit took away tasks that waited.
+    took_tasks: bool,
     /// The searches whose plans were shown.
     shown: HashSet<usize>,
     /// The searches whose plans had a chart before they were shown.
@@ -555,6 +575,16 @@ enum Before {
     Delayed,
     RefusedDelays,
     DelaysNotWritten,
+    Saved,
+    NotSaved,
+    Ticked,
+    /// By hand.
+    Started,
+    RefusedStart,
+    Arrived,
+    RefusedArrival,
+    /// A time unit in which a waiting task was started, or none.
+    Passed,
     Bad,
     Other,
 }
@@ -566,10 +596,25 @@ fn empty_bank() -> Bank {
 impl<S: Shelf> Console<S> {
     pub fn new(shelf: S) -> Console<S> {
         let book = Book { functions: HashMap::new(), graphs: HashMap::new(), lists: HashMap::new(), yard: Yard::new() };
-        let (bank, found, before) = (empty_bank(), empty_bank(), Before::Other);
-        let (met, shown, charted, dropped, delayed) = (Vec::new(), HashSet::new(), HashSet::new(), false, HashSet::new());
-        let (unit, plan, searches, delay) = (None, None, 0, delays::delayed);
-        Console { book, unit, plan, searches, bank, shelf, delay, met, before, found, shown, charted, dropped, delayed }
+        Console {
+            book,
+            unit: None,
+            plan: None,
+            searches: 0,
+            bank: empty_bank(),
+            queue: Queue::new(),
+            shelf,
+            delay: delays::delayed,
+            port: queue::PORT,
+            met: Vec::new(),
+            before: Before::Other,
+            found: empty_bank(),
+            took_tasks: false,
+            shown: HashSet::new(),
+            charted: HashSet::new(),
+            dropped: false,
+            delayed: HashSet::new(),
+        }
     }
 
     /// A console as a new process has it, which knows of the same functions and lists.
@@ -663,15 +708,24 @@ impl<S: Shelf> Console<S> {
         reply.unwrap_or_else(|number| said(format!("refused {number}")))
     }
 
-    /// "the bank is emptied by `fresh` and `load`", and "there is no plan".
+    /// "the bank is emptied by `fresh` and `load`", so is the queue, and "there is no plan".
     fn take_unit(&mut self, unit: Unit) -> Vec<Part> {
-        self.met_if(self.bank != empty_bank(), "a bank in use emptied by a new unit");
+        let (in_use, waits) = (self.bank != empty_bank(), !self.queue.is_empty());
+        self.met_if(in_use, "a bank in use emptied by a new unit");
+        self.met_if(waits, "a queue emptied by a new unit");
+        self.met_if(waits && !in_use, "a queue emptied by a new unit beside an empty bank");
         self.met_if(self.plan.is_some(), "a plan dropped by a new unit");
         self.unit = Some(unit);
         self.plan = None;
         self.dropped = false;
-        self.bank = empty_bank();
+        self.empty_port();
         said("ok".to_string())
+    }
+
+    /// Empties bank and queue.
+    fn empty_port(&mut self) {
+        self.found = std::mem::replace(&mut self.bank, empty_bank());
+        self.took_tasks = !std::mem::take(&mut self.queue).is_empty();
     }
 
     fn ask(&mut self, unit: &mut Unit, name: &str, numbers: &[u32], file: &[u8]) -> Reply<Vec<Part>> {
@@ -682,10 +736,10 @@ impl<S: Shelf> Console<S> {
                 let stood = unit.marks.contains(&mark);
                 if name == "mark" { unit.mark(mark) } else { unit.unmark(mark) }?;
                 self.meet_edit(name, stood);
-                // "An accepted one drops the plan, even where the mark already stood so", and "empties the console's bank"
+                // "An accepted one drops the plan, even where the mark already stood so", and "empties the console's bank": and its queue
                 self.dropped |= self.plan.is_some();
                 self.plan = None;
-                self.found = std::mem::replace(&mut self.bank, empty_bank());
+                self.empty_port();
                 done()
             }
             ("read", []) => self.read(unit),
@@ -704,6 +758,23 @@ impl<S: Shelf> Console<S> {
             ("record", &[tag]) => self.record(unit, tag, file),
             ("simulate", &[tag, units]) => self.simulate(unit, tag, units),
             ("delays", &[tag, latency]) => self.delays(unit, tag, latency, file),
+            ("arrive", &[tag, ticket]) => {
+                let task = Task { tag, ticket };
+                self.met.extend(queue_met::arrival(unit, &self.bank, &self.queue, task));
+                (self.port.arrive)(unit, &mut self.queue, task)?;
+                done()
+            }
+            ("pass", []) => {
+                self.met.extend(queue_met::pass(unit, &self.bank, &self.queue));
+                self.met_if(self.before == Before::Edited && self.took_tasks, "pass: none waits after an edit");
+                self.met_if(self.before == Before::Emptied && self.took_tasks, "pass: none waits after a new unit");
+                let started = (self.port.pass)(unit, &mut self.bank, &mut self.queue);
+                Ok(said(started.map_or("none".to_string(), |Task { tag, ticket }| format!("started {tag} {ticket}"))))
+            }
+            ("queue", []) => {
+                self.meet_queue();
+                Ok(said((self.port.list)(&self.queue)))
+            }
             // all others have a tag first
             (_, &[tag, ref others @ ..]) => {
                 unit.check_tag(tag)?;
@@ -1070,6 +1141,15 @@ impl<S: Shelf> Console<S> {
         if let [b"simulate", tag, units] = words {
             self.met_if(number(tag).is_some() && large(units), "a chart of more than 4294967295 units");
         }
+        let are_numbers = words[1..].iter().all(|word| number(word).is_some());
+        match words {
+            [b"arrive", _] => self.met_if(are_numbers, "arrive: no ticket"),
+            [b"arrive", tag, ticket] => self.met_if(number(tag).is_some() && large(ticket), "arrive: a ticket above 4294967295"),
+            [b"arrive", _, _, _] => self.met_if(are_numbers, "arrive: a number too many"),
+            [b"pass", _] => self.met_if(are_numbers, "pass: a number after it"),
+            [b"queue", _] => self.met_if(are_numbers, "queue: a number after it"),
+            _ => {}
+        }
         if let [b"delays", tag, latency, rest @ ..] = words {
             let is_function = number(tag).is_some();
             self.met_if(is_function && large(latency), "delays: M above 4294967295");
@@ -1081,16 +1161,19 @@ impl<S: Shelf> Console<S> {
     }
 
     fn meet_edit(&mut self, name: &str, stood: bool) {
-        let (is_mark, in_use) = (name == "mark", self.bank != empty_bank());
+        let (is_mark, in_use, waits) = (name == "mark", self.bank != empty_bank(), !self.queue.is_empty());
         self.met_if(is_mark && stood, "a mark that stood");
         self.met_if(!is_mark && !stood, "an unmark of no mark");
-        let emptied = match (is_mark, stood) {
-            (true, false) => "a bank in use emptied by a mark",
-            (true, true) => "a bank in use emptied by a mark that stood",
-            (false, true) => "a bank in use emptied by an unmark",
-            (false, false) => "a bank in use emptied by an unmark of no mark",
+        let [bank, queue] = match (is_mark, stood) {
+            (true, false) => ["a bank in use emptied by a mark", "a queue emptied by a mark"],
+            (true, true) => ["a bank in use emptied by a mark that stood", "a queue emptied by a mark that stood"],
+            (false, true) => ["a bank in use emptied by an unmark", "a queue emptied by an unmark"],
+            (false, false) => ["a bank in use emptied by an unmark of no mark", "a queue emptied by an unmark of no mark"],
         };
-        self.met_if(in_use, emptied);
+        self.met_if(in_use, bank);
+        self.met_if(waits, queue);
+        self.met_if(waits && !in_use, "a queue emptied by an edit beside an empty bank");
+        self.met_if(!waits && in_use, "a bank in use emptied by an edit beside an empty queue");
     }
 
     /// The tags of a loop, good ones and bad ones.
@@ -1252,35 +1335,58 @@ impl<S: Shelf> Console<S> {
             ("delays", "ok") => Before::Delayed,
             ("delays", "refused 2" | "refused 19" | "refused 20" | "refused 21") => Before::RefusedDelays,
             ("delays", "not written") => Before::DelaysNotWritten,
+            ("save", "ok") => Before::Saved,
+            ("save", "not written") => Before::NotSaved,
+            ("tick", "ok") => Before::Ticked,
+            ("start", "ok") => Before::Started,
+            ("start", "refused 2" | "refused 10") => Before::RefusedStart,
+            ("arrive", "ok") => Before::Arrived,
+            ("arrive", "refused 2" | "refused 14") => Before::RefusedArrival,
+            ("pass", "started" | "none") => Before::Passed,
             // what only looks leaves what was done before in place
-            ("read" | "bank" | "diagram" | "vector" | "bound" | "upper" | "constant" | "row" | "list" | "table", _) => before,
+            ("read" | "bank" | "queue" | "diagram" | "vector" | "bound" | "upper" | "constant" | "row" | "list" | "table", _) => before,
             (_, "expected") => Before::Bad,
             _ => Before::Other,
         }
     }
 
+    /// What the line before left as it was: the plan, the bank in use and the tasks that wait.
+    fn kept(&self) -> [&'static str; 3] {
+        let in_use = "a bank in use";
+        match self.before {
+            Before::RefusedFresh => kept!("a refused fresh"),
+            Before::RefusedLoad => kept!("a refused load"),
+            Before::NoFile => kept!("a load of no file"),
+            Before::RefusedEdit => kept!("a refused edit"),
+            Before::Searched => ["a plan", "a bank kept by a search", "a queue kept by a search"],
+            Before::RefusedSearch => kept!("a refused search"),
+            Before::Looped => kept!("a loop"),
+            Before::RefusedLoop => kept!("a refused loop"),
+            Before::Recorded => kept!("a record"),
+            Before::RefusedRecord => kept!("a refused record"),
+            Before::NotWritten => kept!("a record that was not written"),
+            Before::Shown => kept!("a record that is shown"),
+            Before::NotShown => kept!("a file that is no record"),
+            Before::Charted => kept!("a chart"),
+            Before::RefusedChart => kept!("a refused chart"),
+            Before::Delayed => kept!("delays"),
+            Before::RefusedDelays => kept!("refused delays"),
+            Before::DelaysNotWritten => kept!("delays that were not written"),
+            Before::Saved => kept!("a save"),
+            Before::NotSaved => kept!("a save that was not written"),
+            Before::Ticked => ["a plan kept by a tick", in_use, "a queue kept by a tick"],
+            Before::Started => ["a plan kept by a start", in_use, "a queue kept by a start"],
+            Before::RefusedStart => kept!("a refused start"),
+            Before::Arrived => ["a plan kept by an arrival", "a bank kept by an arrival", "a queue"],
+            Before::RefusedArrival => kept!("a refused arrival"),
+            Before::Passed => ["a plan kept by a pass", in_use, "a queue"],
+            Before::Bad => kept!("a line that is no command"),
+            Before::Emptied | Before::Edited | Before::Other => ["a plan", in_use, "a queue"],
+        }
+    }
+
     fn meet_plan(&mut self, search: usize) {
-        let kept = match self.before {
-            Before::RefusedFresh => "a plan kept by a refused fresh",
-            Before::RefusedLoad => "a plan kept by a refused load",
-            Before::NoFile => "a plan kept by a load of no file",
-            Before::RefusedEdit => "a plan kept by a refused edit",
-            Before::RefusedSearch => "a plan kept by a refused search",
-            Before::Looped => "a plan kept by a loop",
-            Before::RefusedLoop => "a plan kept by a refused loop",
-            Before::Recorded => "a plan kept by a record",
-            Before::RefusedRecord => "a plan kept by a refused record",
-            Before::NotWritten => "a plan kept by a record that was not written",
-            Before::Shown => "a plan kept by a record that is shown",
-            Before::NotShown => "a plan kept by a file that is no record",
-            Before::Charted => "a plan kept by a chart",
-            Before::RefusedChart => "a plan kept by a refused chart",
-            Before::Delayed => "a plan kept by delays",
-            Before::RefusedDelays => "a plan kept by refused delays",
-            Before::DelaysNotWritten => "a plan kept by delays that were not written",
-            Before::Bad => "a plan kept by a line that is no command",
-            _ => "a plan",
-        };
+        let [kept, _, _] = self.kept();
         self.met.push(kept);
         let is_known = !self.shown.insert(search);
         self.met_if(is_known, "a plan shown again");
@@ -1293,28 +1399,18 @@ impl<S: Shelf> Console<S> {
             self.met_if(self.before == Before::Edited && self.found != empty_bank(), "a bank emptied by an edit");
             return;
         }
-        let kept = match self.before {
-            Before::RefusedFresh => "a bank kept by a refused fresh",
-            Before::RefusedLoad => "a bank kept by a refused load",
-            Before::NoFile => "a bank kept by a load of no file",
-            Before::RefusedEdit => "a bank kept by a refused edit",
-            Before::Searched => "a bank kept by a search",
-            Before::RefusedSearch => "a bank kept by a refused search",
-            Before::Looped => "a bank kept by a loop",
-            Before::RefusedLoop => "a bank kept by a refused loop",
-            Before::Recorded => "a bank kept by a record",
-            Before::RefusedRecord => "a bank kept by a refused record",
-            Before::NotWritten => "a bank kept by a record that was not written",
-            Before::Shown => "a bank kept by a record that is shown",
-            Before::NotShown => "a bank kept by a file that is no record",
-            Before::Charted => "a bank kept by a chart",
-            Before::RefusedChart => "a bank kept by a refused chart",
-            Before::Delayed => "a bank kept by delays",
-            Before::RefusedDelays => "a bank kept by refused delays",
-            Before::DelaysNotWritten => "a bank kept by delays that were not written",
-            Before::Bad => "a bank kept by a line that is no command",
-            _ => "a bank in use",
-        };
+        let [_, kept, _] = self.kept();
+        self.met.push(kept);
+    }
+
+    fn meet_queue(&mut self) {
+        self.met.extend(queue_met::list(&self.queue));
+        if self.queue.is_empty() {
+            self.met_if(self.before == Before::Emptied && self.took_tasks, "queue: none after a new unit");
+            self.met_if(self.before == Before::Edited && self.took_tasks, "queue: none after an edit");
+            return;
+        }
+        let [_, _, kept] = self.kept();
         self.met.push(kept);
     }
 }
@@ -1410,6 +1506,14 @@ pub const WANTED: &[&str] = &[
     "a plan kept by delays",
     "a plan kept by refused delays",
     "a plan kept by delays that were not written",
+    "a plan kept by a save",
+    "a plan kept by a save that was not written",
+    "a plan kept by a tick",
+    "a plan kept by a start",
+    "a plan kept by a refused start",
+    "a plan kept by an arrival",
+    "a plan kept by a refused arrival",
+    "a plan kept by a pass",
     "a plan kept by a line that is no command",
     "a plan with a sum above 255",
     "a plan of two or more latencies",
@@ -1662,6 +1766,108 @@ pub const WANTED: &[&str] = &[
     "delays where a file has its name with `.part`",
     "delays over a record that was written",
     "delays over a unit file",
+    "arrive: no ticket",
+    "arrive: a number too many",
+    "arrive: a ticket above 4294967295",
+    "arrive: refused by 2, and there is room",
+    "arrive: refused by 2 and not by 14",
+    "arrive: a tag 0",
+    "arrive: a tag after the last",
+    "arrive: a tag that would do without its higher bytes",
+    "arrive: no tag first and one in place of the ticket",
+    "arrive: function 4",
+    "arrive: the first",
+    "arrive: the 32nd",
+    "arrive: a function that the bank holds back",
+    "arrive: the first, of a function that the bank grants",
+    "arrive: a ticket 0",
+    "arrive: a ticket 4294967295",
+    "arrive: a ticket above 65535",
+    "arrive: a ticket above 2147483647",
+    "arrive: a ticket that is another tag",
+    "arrive: a task as one that waits",
+    "arrive: a ticket that a task of another function has",
+    "pass: a number after it",
+    "pass: none waits, and the bank is empty",
+    "pass: none waits, and the bank is in use",
+    "pass: none waits after an edit",
+    "pass: none waits after a new unit",
+    "pass: none, though one behind the oldest would be granted",
+    "pass: none of two or more would be granted",
+    "pass: none of 32",
+    "pass: none, and one unit later it would be granted",
+    "pass: none, though function 1 would be granted",
+    "pass: held back by tasks of its own function alone",
+    "pass: held back by tasks of other functions alone",
+    "pass: held back by tasks started by hand alone",
+    "pass: held back by a task started 31 units before alone",
+    "pass: a start of the only one",
+    "pass: a start of 32",
+    "pass: a start of 18 or more",
+    "pass: a start, and one behind it would be granted too",
+    "pass: a start, though the youngest would be held back",
+    "pass: a start that would be held back one unit later",
+    "pass: a start beside other tasks",
+    "pass: a start, though another function would be held back",
+    "pass: a start in a unit without marks",
+    "pass: a start of a function without marks beside others",
+    "pass: a start of function 4",
+    "pass: a start of a ticket 0",
+    "pass: a start of a ticket above 65535",
+    "pass: a start of a ticket above 2147483647",
+    "pass: a start in the last unit that it may be in, none ahead",
+    "pass: a start in the last unit that it may be in, some ahead",
+    "pass: a start in the last unit that it may be in, 31 ahead",
+    "pass: a start in unit 1,024",
+    "queue: a number after it",
+    "queue: none",
+    "queue: none after an edit",
+    "queue: none after a new unit",
+    "queue: one",
+    "queue: 10 or more",
+    "queue: 32",
+    "queue: tags that don't rise",
+    "queue: tickets that don't rise",
+    "queue: two tasks alike",
+    "queue: a ticket 0",
+    "queue: a ticket 4294967295",
+    "a start by hand of the function that waits longest",
+    "a start by hand of another function than waits longest",
+    "a start by hand held back as the oldest is",
+    "a tick where the oldest would be granted",
+    "a queue",
+    "a queue emptied by a new unit",
+    "a queue emptied by a new unit beside an empty bank",
+    "a queue emptied by a mark",
+    "a queue emptied by a mark that stood",
+    "a queue emptied by an unmark",
+    "a queue emptied by an unmark of no mark",
+    "a queue emptied by an edit beside an empty bank",
+    "a queue kept by a refused fresh",
+    "a queue kept by a refused load",
+    "a queue kept by a load of no file",
+    "a queue kept by a refused edit",
+    "a queue kept by a search",
+    "a queue kept by a refused search",
+    "a queue kept by a loop",
+    "a queue kept by a refused loop",
+    "a queue kept by a record",
+    "a queue kept by a refused record",
+    "a queue kept by a record that was not written",
+    "a queue kept by a record that is shown",
+    "a queue kept by a file that is no record",
+    "a queue kept by a chart",
+    "a queue kept by a refused chart",
+    "a queue kept by delays",
+    "a queue kept by refused delays",
+    "a queue kept by delays that were not written",
+    "a queue kept by a save",
+    "a queue kept by a save that was not written",
+    "a queue kept by a tick",
+    "a queue kept by a start",
+    "a queue kept by a refused start",
+    "a queue kept by a refused arrival",
+    "a queue kept by a line that is no command",
     "no plan after a loop",
     "a bank in use",
     "a bank emptied",
@@ -1670,6 +1876,7 @@ pub const WANTED: &[&str] = &[
     "a bank in use emptied by a mark that stood",
     "a bank in use emptied by an unmark",
     "a bank in use emptied by an unmark of no mark",
+    "a bank in use emptied by an edit beside an empty queue",
     "a bank emptied by an edit",
     "a start granted that the bank before an edit held back",
     "a bank kept by a refused fresh",
@@ -1690,6 +1897,11 @@ pub const WANTED: &[&str] = &[
     "a bank kept by delays",
     "a bank kept by refused delays",
     "a bank kept by delays that were not written",
+    "a bank kept by a save",
+    "a bank kept by a save that was not written",
+    "a bank kept by a refused start",
+    "a bank kept by an arrival",
+    "a bank kept by a refused arrival",
     "a bank kept by a line that is no command",
     "an input of no bytes",
     "an input that comes byte by byte",

@@ -3,10 +3,13 @@
 use crate::charts;
 use crate::console_folder::{has_devices, File, Folder, FULL, INNER, NULL, PART};
 use crate::console_model::*;
+use crate::console_watch::Watch;
 use crate::delays_check::EXAMPLES;
 use crate::loops::MOST_TAGS;
 use crate::model::*;
-use crate::model_check::{figure_1, unit_of};
+use crate::model_check::{figure_1, figure_2, unit_of};
+use crate::queue::{Task, MOST_WAITING};
+use crate::queue_check::TICKETS;
 use crate::random::{seed_of, Random};
 use crate::record_files::*;
 use crate::records::laid_out;
@@ -93,6 +96,8 @@ const REPLACED_FILES: u64 = 30;
 const PLAN_NAMES: u64 = 8;
 /// Units for delays: one for each table worked out by hand, and random ones.
 const DELAY_FILES: usize = EXAMPLES.len() + 43;
+/// Units for tasks that wait: special ones, and random ones.
+const QUEUE_FILES: usize = 48;
 
 fn good_name(place: usize) -> String {
     format!("unit{place}")
@@ -124,6 +129,11 @@ fn list_name(place: usize) -> String {
 /// A unit for delays.
 fn delay_name(place: usize) -> String {
     format!("delay{place}")
+}
+
+/// A unit for tasks that wait.
+fn queue_name(place: usize) -> String {
+    format!("queue{place}")
 }
 
 /// Fig. 1's unit.
@@ -192,6 +202,40 @@ fn delay_unit(place: usize, random: &mut Random) -> Unit {
     unit
 }
 
+/// The special units for tasks that wait, by their places.
+const FIGURE_2: usize = 0;
+/// One function that is in one segment in all of 4 columns, and of 32: each start holds the next one back for n time units.
+const ALL_OF_4: usize = 1;
+const ALL_OF_32: usize = 2;
+/// Four functions without marks.
+const NO_MARKS: usize = 3;
+/// Function 2 meets function 1 when it starts 31 time units after it, and nobody else.
+const APART: usize = 4;
+/// Three functions with a mark each in one segment, so that none meets its own tasks, and one without marks.
+const ONE_EACH: usize = 5;
+
+fn queue_unit(place: usize, random: &mut Random) -> Unit {
+    let all: Vec<u32> = (1..=MOST_COLUMNS).collect();
+    match place {
+        FIGURE_2 => figure_2(),
+        ALL_OF_4 => unit_of(1, 4, &[&[&all[..4]]]),
+        ALL_OF_32 => unit_of(1, 32, &[&[&all]]),
+        NO_MARKS => Unit::fresh(MOST_FUNCTIONS, MOST_SEGMENTS, MOST_COLUMNS).expect("counts in their ranges"),
+        APART => unit_of(1, 32, &[&[&[32]], &[&[1]]]),
+        ONE_EACH => unit_of(1, 9, &[&[&[4]], &[&[9]], &[&[]], &[&[1]]]),
+        _ if random.chance(1, 3) => units::unit(random),
+        _ => {
+            // several functions that meet each other
+            let (functions, segments, columns) = (random.between(2, 4), random.between(1, 5), random.between(2, 9));
+            let mut unit = Unit::fresh(functions, segments, columns).expect("counts in their ranges");
+            for tag in 1..=functions {
+                routes::route(&mut unit, tag, random);
+            }
+            unit
+        }
+    }
+}
+
 fn files(random: &mut Random) -> Folder {
     let mut folder = Folder::default();
     let mut put = |name: String, file: File| {
@@ -240,6 +284,9 @@ fn files(random: &mut Random) -> Folder {
     put(FIGURE.to_string(), File::Bytes(encode(&figure_1())));
     for place in 0..DELAY_FILES {
         put(delay_name(place), File::Bytes(encode(&delay_unit(place, random))));
+    }
+    for place in 0..QUEUE_FILES {
+        put(queue_name(place), File::Bytes(encode(&queue_unit(place, random))));
     }
     // lengths that are right if one takes their last 32 bits alone, and zeros after a file in order
     let file = encode(&units::unit(random));
@@ -301,6 +348,8 @@ fn all_records(random: &mut Random) -> Vec<File> {
 struct Writer {
     random: Random,
     console: Console<Folder>,
+    /// What is seen of the issue port from outside.
+    watch: Watch,
     lines: Vec<Line>,
     most: usize,
     /// How many files were saved, and how many records were written, under a name of their own.
@@ -365,7 +414,7 @@ const NO_NUMBERS: [&[u8]; 23] = [
     b"Q",
     b"1/1",
 ];
-const NO_COMMANDS: [&[u8]; 37] = [
+const NO_COMMANDS: [&[u8]; 46] = [
     b"help",
     b"quit",
     b"exit",
@@ -401,6 +450,15 @@ const NO_COMMANDS: [&[u8]; 37] = [
     b"delay 1 3",
     b"delayss 1 3",
     b"delays1 3",
+    b"arrives 1 7",
+    b"arriv 1 7",
+    b"arrive1 7",
+    b"passes",
+    b"pas",
+    b"pass1",
+    b"queues",
+    b"queu",
+    b"queue:",
     b"\xef\xbb\xbftick",
     b"line 1: expected a command",
 ];
@@ -433,6 +491,86 @@ const ODD_NAMES: [&[u8]; 25] = [
     b"4294967296",
     b"-1",
 ];
+/// Every sort of command, and lines that are none, for a unit of two functions, 3 segments and 5 columns with a plan for the first one and
+/// its record.
+const BETWEEN: [&str; 76] = [
+    "fresh 1 1 1",
+    "fresh 2 3 5",
+    "fresh 0 3 5",
+    "fresh 2 3",
+    "load queue0",
+    "load queue3",
+    "load damaged0",
+    "load missing",
+    "load plan0",
+    "mark 1 1 2",
+    "mark 2 1 1",
+    "mark 1 1 1",
+    "mark 2 3 3",
+    "mark 3 1 1",
+    "mark 1 4 1",
+    "mark 1 1 6",
+    "mark 1 1",
+    "unmark 1 1 1",
+    "unmark 2 3 3",
+    "unmark 1 1 2",
+    "unmark 2 1 1",
+    "unmark 3 1 1",
+    "unmark 1 4 1",
+    "unmark 1 1 6",
+    "unmark 1 1",
+    "search 1",
+    "search 2",
+    "search 3",
+    "read",
+    "vector 1",
+    "row 1 2",
+    "states 1",
+    "greedy 1",
+    "bound 1",
+    "upper 1",
+    "constant 1",
+    "judge 1 9",
+    "judge 1 2",
+    "judge 1",
+    "tick",
+    "start 1",
+    "start 2",
+    "start 3",
+    "bank",
+    "save again0",
+    "save missing/out",
+    "list",
+    "table 1",
+    "table 3",
+    "diagram 1",
+    "loop 1 2",
+    "loop 3",
+    "record 1 plan0",
+    "record 2 plan0",
+    "record 1 missing/out",
+    "report plan0",
+    "report queue0",
+    "report missing",
+    "ring plan0",
+    "ring missing",
+    "simulate 1 9",
+    "simulate 2 9",
+    "delays 1 3",
+    "delays 1 1",
+    "delays 1 3 again0",
+    "delays 1 3 missing/out",
+    "arrive 1 9",
+    "arrive 3 9",
+    "arrive 1",
+    "pass",
+    "pass 1",
+    "queue",
+    "queue 1",
+    "tack",
+    "# a comment",
+    "",
+];
 /// Lines of blanks, carriage returns and signs of a comment: some are passed over, some are not.
 const BARE_LINES: [&[u8]; 22] = [
     b" ",
@@ -459,7 +597,7 @@ const BARE_LINES: [&[u8]; 22] = [
     b"\0",
 ];
 /// In how many forms long lines come.
-const LONG_FORMS: u64 = 42;
+const LONG_FORMS: u64 = 47;
 /// Lengths of lines: around the limit, around multiples of it, and far above it.
 const LENGTHS: [usize; 21] = [
     4_095, 4_095, 4_096, 4_096, 4_096, 4_097, 4_097, 4_098, 5_000, 8_190, 8_191, 8_192, 8_193, 8_194, 12_288, 12_289, 16_384, 65_535,
@@ -468,14 +606,14 @@ const LENGTHS: [usize; 21] = [
 
 /// What a command wants: a file that is not there, two numbers for any number of them, and this number for each other.
 fn words_for(wants: &str, number: &str) -> String {
-    let words = wants.replace("[FILE]", "missing").replace("FILE", "missing").replace("UNITS", "9");
+    let words = wants.replace("[FILE]", "missing").replace("FILE", "missing").replace("UNITS", "9").replace("TICKET", "9");
     words.replace(" L L ..", " 1 1").replace(" Q Q ..", " 1 1").replace(['P', 'S', 'Q', 'R', 'C', 'M'], number)
 }
 
 impl Writer {
     fn new(seed: u64, most: usize, console: Console<Folder>) -> Writer {
         let (random, lines) = (Random::new(seed), Vec::new());
-        Writer { random, console, lines, most, saved: 0, kept: 0, has_devices: has_devices(), returns: false }
+        Writer { random, console, watch: Watch::default(), lines, most, saved: 0, kept: 0, has_devices: has_devices(), returns: false }
     }
 
     /// Puts a line, now and then with blanks around its words.
@@ -499,7 +637,9 @@ impl Writer {
         if self.lines.len() == self.most || bytes.contains(&b'\n') || !harmless(&bytes) {
             return;
         }
-        let answer = self.console.answer(&bytes, self.lines.len() + 1);
+        let mut answer = self.console.answer(&bytes, self.lines.len() + 1);
+        let seen = self.watch.see(&bytes, &answer, self.console.unit.as_ref());
+        answer.met.extend(seen.unwrap_or_else(|why| panic!("line {}: {why}", self.lines.len() + 1)));
         self.lines.push(Line { bytes, answer });
     }
 
@@ -972,6 +1112,51 @@ impl Writer {
         format!("delays {} {MOST_COLUMNS} {name}", self.route_tag()).into_bytes()
     }
 
+    /// A ticket, which may be any number: also one that waits, or one of the unit's tags.
+    fn ticket(&mut self) -> String {
+        let (functions, _, _) = self.counts();
+        let waiting: Vec<u32> = self.console.queue.iter().map(|task| task.ticket).collect();
+        let ticket = match self.random.below(24) {
+            0..=5 => self.random.pick(&TICKETS),
+            6..=9 if !waiting.is_empty() => self.random.pick(&waiting),
+            10 | 11 => self.random.between(1, functions),
+            12..=17 => self.random.word(),
+            _ => self.random.between(0, 999),
+        };
+        self.digits(ticket)
+    }
+
+    /// A task of a function of the unit.
+    fn good_arrival(&mut self) -> Vec<u8> {
+        let tag = self.good_tag();
+        format!("arrive {tag} {}", self.ticket()).into_bytes()
+    }
+
+    /// A task, mostly of a function of the unit.
+    fn arrive(&mut self) -> Vec<u8> {
+        let tag = match self.random.below(12) {
+            0 | 1 => self.bad_tag(),
+            2 => self.tag(),
+            _ => {
+                let tag = self.good_tag();
+                self.digits(tag)
+            }
+        };
+        let ticket = match self.random.below(24) {
+            0 => self.random.pick(&TOO_MANY).to_string(),
+            1 => ((1u64 << 32) + self.random.between(0, 99) as u64).to_string(),
+            _ => self.ticket(),
+        };
+        match self.random.below(40) {
+            // the other way about, one number alone, or one too many
+            0 => format!("arrive {ticket} {tag}"),
+            1 => format!("arrive {tag}"),
+            2 => format!("arrive {tag} {ticket} {}", self.random.between(0, 9)),
+            _ => format!("arrive {tag} {ticket}"),
+        }
+        .into_bytes()
+    }
+
     fn view(&mut self) -> Vec<u8> {
         let reader: &[u8] = self.random.pick(&[b"report ", b"ring "]);
         [reader, &self.view_name()].concat()
@@ -1006,7 +1191,7 @@ impl Writer {
     }
 
     fn command(&mut self) -> Vec<u8> {
-        match self.random.below(135) {
+        match self.random.below(146) {
             0..=22 => self.mark(),
             23..=29 => self.unmark(),
             30..=38 => self.about("search"),
@@ -1037,7 +1222,11 @@ impl Writer {
             116..=120 => self.record(),
             121..=125 => self.view(),
             126..=129 => self.delays(),
-            _ => self.simulate(),
+            130..=134 => self.simulate(),
+            135..=138 => self.arrive(),
+            139..=142 => b"pass".to_vec(),
+            143 | 144 => b"queue".to_vec(),
+            _ => format!("{} {}", self.random.pick(&["pass", "queue"]), self.random.between(0, 9)).into_bytes(),
         }
     }
 
@@ -1213,6 +1402,8 @@ impl Writer {
                 let name = format!("again{}", self.random.below(12));
                 self.long_name_line(&format!("delays {tag} 32"), &name, length)
             }
+            42 => filled(format!("arrive {tag} "), "4294967295".to_string()),
+            43 => filled("arrive ".to_string(), format!("{tag} 7")),
             // blanks in place of what is missing: in front, between, at the end
             _ => {
                 let mut blank = || self.random.pick(&[b' ', b' ', b'\t']);
@@ -1231,6 +1422,9 @@ impl Writer {
                     36 => long(format!("record {tag}"), "plan1".to_string()),
                     38 => long(format!("simulate {tag}"), "9".to_string()),
                     41 => long(format!("delays {tag} 32"), "again1".to_string()),
+                    44 => long(format!("arrive {tag}"), "7".to_string()),
+                    45 => long("pass".to_string(), String::new()),
+                    46 => long(String::new(), "queue\r".to_string()),
                     _ => long(format!("\tvector {tag}"), "x".to_string()),
                 }
             }
@@ -1275,7 +1469,7 @@ impl Writer {
     fn search_and_read(&mut self) {
         let tag = self.good_tag();
         self.put(format!("search {tag}"));
-        match self.random.below(29) {
+        match self.random.below(37) {
             0 => {
                 let line = self.refused_fresh();
                 self.put(line);
@@ -1336,6 +1530,22 @@ impl Writer {
             24 => {
                 let line = self.unwritten_delays();
                 self.put(line);
+            }
+            25 | 26 => {
+                let line = self.arrive();
+                self.put(line);
+            }
+            27 => {
+                let line = self.random.pick(&["pass", "queue", "tick"]);
+                self.put(line);
+            }
+            28 | 29 => {
+                let line = self.about("start");
+                self.put(line);
+            }
+            30 => {
+                let name = self.random.pick(&["again1", "missing/out", INNER]);
+                self.put(format!("save {name}"));
             }
             _ => {}
         }
@@ -1556,8 +1766,12 @@ impl Writer {
         }
     }
 
-    /// The tables worked out by hand: shown, written and taken up again, and with a latency beside theirs.
+    /// Numbers that are no latencies. And the tables worked out by hand: shown, written, taken up again, and with a latency beside theirs.
     fn hard_delays(&mut self) {
+        self.put(format!("load {}", delay_name(0)));
+        for latency in [0, 33, 256, u32::MAX] {
+            self.put(format!("delays 1 {latency}"));
+        }
         for (place, example) in EXAMPLES.iter().enumerate() {
             let ((tag, _), latency) = (tag_of_example(place), example.latency);
             self.put(format!("load {}", delay_name(place)));
@@ -1668,7 +1882,7 @@ impl Writer {
         let (functions, segments, columns) = self.counts();
         let tag = self.good_tag();
         let edit = self.random.pick(&["mark", "unmark"]);
-        match self.random.below(44) {
+        match self.random.below(51) {
             0 => self.refused_fresh(),
             1 => format!("load {}", damaged_name(self.random.below(DAMAGED_FILES as u64) as usize)).into_bytes(),
             2 => self.fresh(),
@@ -1697,8 +1911,215 @@ impl Writer {
             33..=36 => self.simulate(),
             37..=40 => self.delays(),
             41 | 42 => self.unwritten_delays(),
+            43 | 44 => self.arrive(),
+            45 => b"pass".to_vec(),
+            46 => b"queue".to_vec(),
+            47 => self.about("start"),
+            48 => [b"save ", &self.save_name()[..]].concat(),
+            49 => format!("save {}", self.random.pick(&["missing/out", INNER])).into_bytes(),
             _ => b"tick".to_vec(),
         }
+    }
+
+    /// Tasks that arrive, time units that pass, and what may come between.
+    fn some_queue(&mut self) {
+        for _ in 0..self.random.between(1, 3) {
+            match self.random.below(24) {
+                0 => self.fill(),
+                1..=4 => {}
+                _ => {
+                    let count = self.random.between(1, 6) as usize;
+                    self.arrivals(count);
+                }
+            }
+            if self.random.chance(2, 3) {
+                let line = if self.random.chance(2, 3) { self.between_starts() } else { self.command() };
+                self.put(line);
+            }
+            if self.random.chance(2, 3) {
+                self.put("queue");
+            }
+            let units = match self.random.below(8) {
+                0 => 30,
+                1 => 1,
+                _ => self.random.between(2, 16),
+            };
+            self.passes(units);
+        }
+        if self.random.chance(1, 2) {
+            self.put("queue");
+        }
+    }
+
+    /// Arrivals until no other has room, and now and then some more.
+    fn fill(&mut self) {
+        let room = MOST_WAITING - self.console.queue.len();
+        let more = self.random.pick(&[0, 1, 2, 3]);
+        self.arrivals(room + more);
+    }
+
+    /// So many arrivals, most of them good; and where no other has room, some of functions that are not there.
+    fn arrivals(&mut self, count: usize) {
+        for _ in 0..count {
+            let is_full = self.console.queue.len() == MOST_WAITING;
+            let line = match self.random.below(30) {
+                0 => self.arrive(),
+                1 => b"pass".to_vec(),
+                2..=14 if is_full => format!("arrive {} {}", self.bad_tag(), self.ticket()).into_bytes(),
+                _ => self.good_arrival(),
+            };
+            self.put(line);
+        }
+    }
+
+    /// So many time units, some of them by hand.
+    fn passes(&mut self, count: u32) {
+        for _ in 0..count {
+            let waits = !self.console.queue.is_empty();
+            let line = match self.random.below(30) {
+                0 => b"tick".to_vec(),
+                1 | 2 => format!("start {}", self.good_tag()).into_bytes(),
+                3 => b"queue".to_vec(),
+                4 => b"bank".to_vec(),
+                5 | 6 => self.arrive(),
+                7..=16 if !waits => self.good_arrival(),
+                _ => b"pass".to_vec(),
+            };
+            self.put(line);
+        }
+    }
+
+    fn put_all(&mut self, lines: &[&str]) {
+        for line in lines {
+            self.put(line);
+        }
+    }
+
+    /// Tasks that wait on special units. And every sort of command while two tasks wait, with what becomes of them.
+    fn hard_queues(&mut self) {
+        // each time unit starts one; 34 tasks, and functions that are not there with room and without
+        self.put(format!("load {}", queue_name(NO_MARKS)));
+        for ticket in 0..34 {
+            self.put(format!("arrive {} {}", ticket % 4 + 1, 40 - ticket));
+            if ticket > 29 {
+                self.put_all(&["arrive 0 1", "arrive 5 1", "arrive 257 7", "arrive 4294967295 2"]);
+            }
+        }
+        self.put_all(&["queue", "pass", "arrive 4 4294967295", "queue", "arrive 1 1", "bank"]);
+        self.put_all(&["pass"; 33]);
+        // behind a start by hand each waits as long as can be
+        self.put(format!("load {}", queue_name(ALL_OF_4)));
+        self.put("start 1");
+        for ticket in TICKETS.into_iter().cycle().take(MOST_WAITING) {
+            self.put(format!("arrive 1 {ticket}"));
+        }
+        self.put_all(&["queue", "bank", "arrive 1 9", "arrive 2 9", "bank"]);
+        self.put_all(&["pass"; 4 * MOST_WAITING]);
+        self.put("queue");
+        // 32 tasks of function 1 one after the other: for 31 time units one of function 2 would meet one of them
+        self.put(format!("load {}", queue_name(APART)));
+        for ticket in 0..32 {
+            self.put(format!("arrive 1 {ticket}"));
+            self.put("pass");
+        }
+        self.put_all(&["arrive 2 2147483648", "arrive 1 65536"]);
+        self.put_all(&["pass"; 34]);
+        self.put("queue");
+        let load = format!("load {}", queue_name(FIGURE_2));
+        for line in BETWEEN {
+            self.put_all(&[&load, "search 1", "record 1 plan0", "start 1", "arrive 2 17", "arrive 1 4294967295"]);
+            self.put_all(&[line, "bank", "queue", "pass", "read", "queue", "pass", "pass", "bank", "queue"]);
+        }
+        self.put_all(&[&load, "arrive 1 7"]);
+        self.put([b'x'; LONGEST_LINE + 1]);
+        self.put_all(&["queue", "pass"]);
+        // new units and edits beside an empty bank, and beside an empty queue
+        let empties = |line: &&str| ["fresh ", "load ", "mark ", "unmark "].iter().any(|name| line.starts_with(name));
+        for line in BETWEEN.into_iter().filter(empties) {
+            self.put_all(&[&load, "arrive 1 7", line, "queue", "pass", "bank"]);
+            self.put_all(&[&load, "start 1", line, "bank", "queue"]);
+        }
+    }
+
+    /// The same arrivals and time units twice, beginning with the same file, the second time without the arrivals after one of them: what
+    /// came before starts in the same time unit, or in none both times.
+    fn without_later(&mut self) {
+        const CALLS: usize = 60;
+        if self.lines.len() + 1 + 2 * (1 + CALLS) > self.most {
+            return;
+        }
+        let load = format!("load {}", queue_name(self.random.below(QUEUE_FILES as u64) as usize));
+        self.put_bare(&load);
+        // an arrival each, with its own ticket, or a time unit
+        let task = |it: &mut Writer, ticket: usize| Task { tag: it.good_tag(), ticket: ticket as u32 };
+        let calls: Vec<Option<Task>> = (0..CALLS).map(|place| self.random.chance(1, 2).then(|| task(self, place))).collect();
+        let last = self.random.below(CALLS as u64 / 2) as usize;
+        let mut starts: Vec<Vec<(usize, String)>> = Vec::new();
+        for end in [CALLS, last + 1] {
+            self.put_bare(&load);
+            let (mut unit, mut started) = (0, Vec::new());
+            for (place, call) in calls.iter().enumerate() {
+                match call {
+                    Some(Task { tag, ticket }) if place < end => self.put_bare(format!("arrive {tag} {ticket}")),
+                    Some(_) => {}
+                    None => {
+                        self.put_bare("pass");
+                        unit += 1;
+                        if let [Part::Text(text)] = &self.lines[self.lines.len() - 1].answer.parts[..] {
+                            let ticket: Option<usize> = text.trim_end().rsplit(' ').next().and_then(|ticket| ticket.parse().ok());
+                            started.extend(ticket.filter(|ticket| *ticket <= last).map(|_| (unit, text.clone())));
+                        }
+                    }
+                }
+            }
+            starts.push(started);
+        }
+        assert_eq!(starts[0], starts[1], "later arrivals can't alter a start");
+    }
+
+    /// Tasks on a unit for them, above all.
+    fn queue_session(&mut self) {
+        let (good, own) = (self.random.below(GOOD_FILES as u64) as usize, self.random.below(QUEUE_FILES as u64) as usize);
+        match self.random.below(8) {
+            0 => self.begin(),
+            1 => self.put(format!("load {}", good_name(good))),
+            _ => self.put(format!("load {}", queue_name(own))),
+        }
+        for _ in 0..self.random.between(1, 6) {
+            match self.random.below(16) {
+                0 => self.without_later(),
+                1 | 2 => self.events(),
+                3 => self.some_line(),
+                4 => {
+                    let tag = self.good_tag();
+                    self.put(format!("search {tag}"));
+                }
+                5 | 6 => {
+                    let units = self.random.between(1, 60);
+                    self.fill();
+                    self.passes(units);
+                }
+                _ => self.some_queue(),
+            }
+        }
+    }
+
+    /// As long as any task can wait: 31 are ahead, n is 31, and each of them waits until nothing else is in the unit.
+    fn longest_wait(&mut self) {
+        self.put(format!("load {}", queue_name(ALL_OF_32)));
+        self.put("start 1");
+        for ticket in 1..=MOST_WAITING {
+            self.put(format!("arrive 1 {ticket}"));
+        }
+        for unit in 1..=MOST_WAITING * MOST_COLUMNS as usize {
+            self.put("pass");
+            // later arrivals are refused, or wait behind
+            if unit % 96 == 0 {
+                self.put(format!("arrive 1 {unit}"));
+                self.put("queue");
+            }
+        }
+        self.put("queue");
     }
 
     /// What was saved is loaded, and is the same unit without its plan.
@@ -1727,9 +2148,10 @@ impl Writer {
     /// A new unit.
     fn begin(&mut self) {
         if self.random.chance(1, 3) {
-            let name = match self.random.below(8) {
+            let name = match self.random.below(9) {
                 0 => list_name(self.random.below(loops_check::HARD.len() as u64) as usize),
                 1 => delay_name(self.random.below(DELAY_FILES as u64) as usize),
+                2 => queue_name(self.random.below(QUEUE_FILES as u64) as usize),
                 _ => good_name(self.random.below(GOOD_FILES as u64) as usize),
             };
             return self.put(format!("load {name}"));
@@ -1788,7 +2210,7 @@ impl Writer {
             if self.console.unit.as_ref().is_some_and(|unit| unit.marks.len() < 3) && self.random.chance(1, 3) {
                 self.marks();
             }
-            match self.random.below(68) {
+            match self.random.below(69) {
                 0..=5 => self.search_and_read(),
                 6 => self.questions(),
                 7 => self.events(),
@@ -1797,6 +2219,7 @@ impl Writer {
                 10 | 11 => self.records(),
                 12 => self.charts(),
                 13 => self.some_delays(),
+                14 => self.some_queue(),
                 _ => self.some_line(),
             }
         }
@@ -1869,6 +2292,7 @@ fn sessions(lines: usize, before: &Folder, console: Console<Folder>) -> (Script,
     writer.hard_records();
     writer.hard_charts();
     writer.hard_delays();
+    writer.hard_queues();
     writer.hard_names();
     while !writer.full() {
         writer.session();
@@ -1885,7 +2309,7 @@ fn sessions(lines: usize, before: &Folder, console: Console<Folder>) -> (Script,
 /// A few lines that end in a special way.
 fn ending(place: usize, last: &[u8], newline: bool, before: &Folder, console: Console<Folder>) -> (Script, Console<Folder>) {
     let mut writer = Writer::new(seed_of(201, place as u64), 10, console.again(before.clone()));
-    for line in ["fresh 1 2 3", "mark 1 2 1", "mark 1 2 3", "search 1"] {
+    for line in ["fresh 1 2 3", "mark 1 2 1", "mark 1 2 3", "search 1", "arrive 1 7"] {
         writer.put_bare(line);
     }
     writer.put_bare(last);
@@ -1937,6 +2361,22 @@ fn records(console: Console<Folder>) -> (Script, Console<Folder>) {
     writer.script(RECORDS, before)
 }
 
+/// The name of the script about tasks that wait, and how many lines it has.
+pub const QUEUES: &str = "the queues";
+const QUEUE_LINES: usize = 20_000;
+
+/// Tasks that wait, on units of all sorts: before the first unit, on special ones, as long as can be, and at random.
+fn queues(before: &Folder, console: Console<Folder>) -> (Script, Console<Folder>) {
+    let mut writer = Writer::new(seed_of(205, 0), QUEUE_LINES, console.again(before.clone()));
+    writer.put_all(&["pass", "queue", "arrive 1 7", "arrive 0 7", "pass", "queue"]);
+    writer.hard_queues();
+    writer.longest_wait();
+    while !writer.full() {
+        writer.queue_session();
+    }
+    writer.script(QUEUES, before.clone())
+}
+
 /// Whether a file of this folder is no unit.
 fn decode_fails(folder: &Folder, place: usize) -> bool {
     match folder.files.get(format!("r{place}").as_bytes()) {
@@ -1968,7 +2408,7 @@ pub fn scripts(lines: usize) -> Vec<Script> {
     let command = format!("vector {}1", "0".repeat(LONGEST_LINE - 8));
     let returned = format!("vector {}1\r", "0".repeat(LONGEST_LINE - 9));
     let too_long = format!("{command}\r");
-    let lasts: [&[u8]; 35] = [
+    let lasts: [&[u8]; 41] = [
         b"",
         b"table 1",
         b"tick",
@@ -1997,6 +2437,12 @@ pub fn scripts(lines: usize) -> Vec<Script> {
         b"delays 1 2",
         b"delays 1 2 out",
         b"delays 1 2 out \r",
+        b"arrive 1 4294967295",
+        b"arrive 1 8 \r",
+        b"pass",
+        b"pass\r",
+        b"queue",
+        b"queue ",
         command.as_bytes(),
         returned.as_bytes(),
         too_long.as_bytes(),
@@ -2042,6 +2488,8 @@ pub fn scripts(lines: usize) -> Vec<Script> {
         keep((script, after), &mut console);
     }
     let made = records(take(&mut console));
+    keep(made, &mut console);
+    let made = queues(&before, take(&mut console));
     keep(made, &mut console);
     scripts
 }

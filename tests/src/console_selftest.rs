@@ -17,6 +17,7 @@ mod console_model;
 mod console_outside;
 mod console_program;
 mod console_script;
+mod console_watch;
 mod console_words;
 mod delays;
 mod delays_check;
@@ -26,6 +27,10 @@ mod loops;
 mod loops_check;
 mod model;
 mod model_check;
+mod queue;
+mod queue_check;
+mod queue_faults;
+mod queue_met;
 mod random;
 mod record_files;
 mod records;
@@ -41,11 +46,13 @@ use console_folder::{store, Content, File, Folder, OfWritten, Shelf, HEAD, PART}
 use console_model::*;
 use console_outside::{cases, Outcome, Program};
 use console_program::{Ending, Place};
-use console_script::{scripts, Feed, Line, Script, LINES, RECORDS};
+use console_script::{scripts, Feed, Line, Script, LINES, QUEUES, RECORDS};
 use console_words::{one_turn, plan_drawing, Draw, Filler, Finder};
 use delays_check::by_trial;
 use loops::Loops;
 use model::*;
+use queue::{Port, PORT};
+use queue_faults::{port_faults, QUEUE_FAULTS};
 use random::{seed_of, Random};
 use std::cell::RefCell;
 use std::collections::{BTreeMap, HashSet};
@@ -320,6 +327,19 @@ impl Spoiler<'_> {
         })
     }
 
+    /// The tasks that a line of the queue shows, two words each, where there are so many.
+    fn change_tasks(&mut self, least: usize, edit: impl Fn(&mut Vec<&str>)) -> Placed {
+        self.change(|line, text, _, _| {
+            let (begin, tasks) = text.trim_end().split_once(": ")?;
+            let mut words: Vec<&str> = tasks.split(' ').collect();
+            if !matches!(line.answer.sort, Sort::Of("queue", _)) || words.len() < 2 * least {
+                return None;
+            }
+            edit(&mut words);
+            Some(format!("{begin}: {}\n", words.join(" ")))
+        })
+    }
+
     fn end(&self) -> Placed {
         Some(self.script.lines.len() + 1)
     }
@@ -456,7 +476,7 @@ fn worse(drawn: &Drawn, latencies: &[u8]) -> bool {
 
 type Wrong = (&'static str, fn(&mut Spoiler) -> Placed);
 
-const WRONG: [Wrong; 231] = [
+const WRONG: [Wrong; 273] = [
     ("mark: ok in place of refused 2", |it| it.change_of("mark", "refused 2", |_| "ok\n".to_string())),
     ("mark: refused 3 in place of refused 4", |it| it.change_of("mark", "refused 4", |_| "refused 3\n".to_string())),
     ("unmark: refused 2 in place of ok", |it| it.change_of("unmark", "ok", |_| "refused 2\n".to_string())),
@@ -965,6 +985,81 @@ const WRONG: [Wrong; 231] = [
         it.fake.folder.files.remove(&name);
         it.end()
     }),
+    ("arrive: ok in place of refused 14", |it| it.change_of("arrive", "refused 14", |_| "ok\n".to_string())),
+    ("arrive: refused 14 in place of ok", |it| it.change_of("arrive", "ok", |_| "refused 14\n".to_string())),
+    ("arrive: refused 2 in place of refused 14", |it| it.change_of("arrive", "refused 14", |_| "refused 2\n".to_string())),
+    ("arrive: refused 14 in place of refused 2", |it| it.change_of("arrive", "refused 2", |_| "refused 14\n".to_string())),
+    ("arrive: refused 14 in place of refused 2, where no other has room", |it| {
+        it.change(|line, _, _, _| line.answer.met.contains(&"arrive: refused by 2 and not by 14").then(|| "refused 14\n".to_string()))
+    }),
+    ("arrive: ok in place of refused 2", |it| it.change_of("arrive", "refused 2", |_| "ok\n".to_string())),
+    ("arrive: refused 10 in place of ok", |it| it.change_of("arrive", "ok", |_| "refused 10\n".to_string())),
+    ("arrive: refused 2 in place of no unit", |it| it.change_of("arrive", "no unit", |_| "refused 2\n".to_string())),
+    ("arrive: ok in place of what was expected", |it| it.change_of("arrive", "line", |_| "ok\n".to_string())),
+    ("arrive: one number alone was expected", |it| it.change_of("arrive", "line", |text| text.replace("arrive Q TICKET", "arrive Q"))),
+    ("arrive: another word was expected", |it| it.change_of("arrive", "line", |text| text.replace("TICKET", "T"))),
+    ("pass: none in place of a start", |it| it.change_of("pass", "started", |_| "none\n".to_string())),
+    ("pass: a start in place of none", |it| it.change_of("pass", "none", |_| "started 1 1\n".to_string())),
+    ("pass: a start in place of none, where one waits", |it| {
+        it.change(|line, _, _, _| {
+            line.answer.met.contains(&"pass: none of two or more would be granted").then(|| "started 1 1\n".to_string())
+        })
+    }),
+    ("pass: another ticket", |it| it.change_of("pass", "started", next_digit)),
+    ("pass: another tag", |it| {
+        it.change_of("pass", "started", |text| {
+            let other = if text.starts_with("started 1") { "started 2" } else { "started 1" };
+            format!("{other}{}", &text[other.len()..])
+        })
+    }),
+    ("pass: tag and ticket exchanged", |it| {
+        it.change(|line, text, _, _| {
+            let (tag, ticket) = text.strip_prefix("started ")?.trim_end().split_once(' ')?;
+            (line.bytes == b"pass").then(|| format!("started {ticket} {tag}\n"))
+        })
+    }),
+    ("pass: the tag alone", |it| {
+        it.change_of("pass", "started", |text| text.rsplit_once(' ').map_or(String::new(), |(front, _)| format!("{front}\n")))
+    }),
+    ("pass: a zero in front of the ticket", |it| {
+        it.change_of("pass", "started", |text| text.rsplit_once(' ').map_or(String::new(), |(front, ticket)| format!("{front} 0{ticket}")))
+    }),
+    ("pass: ok in place of a start", |it| it.change_of("pass", "started", |_| "ok\n".to_string())),
+    ("pass: ok in place of none", |it| it.change_of("pass", "none", |_| "ok\n".to_string())),
+    ("pass: refused 10 in place of none", |it| it.change_of("pass", "none", |_| "refused 10\n".to_string())),
+    ("pass: none in place of no unit", |it| it.change_of("pass", "no unit", |_| "none\n".to_string())),
+    ("pass: none in place of what was expected", |it| it.change_of("pass", "line", |_| "none\n".to_string())),
+    ("pass: a number was expected", |it| it.change_of("pass", "line", |text| text.replace("pass", "pass N"))),
+    ("queue: one more than wait", |it| {
+        it.change(|_, text, _, _| {
+            let (count, rest) = text.strip_prefix("queue ")?.split_once(':')?;
+            Some(format!("queue {}:{rest}", count.parse::<u32>().ok()? + 1))
+        })
+    }),
+    ("queue: no colon", |it| it.change_of("queue", "queue", |text| text.replace(':', ""))),
+    ("queue: no colon where none waits", |it| it.change_of("queue", "queue 0", |text| text.replace(':', ""))),
+    ("queue: a space at the end", |it| it.change_of("queue", "queue", |text| text.replace('\n', " \n"))),
+    ("queue: the oldest left out", |it| {
+        it.change_tasks(1, |words| {
+            words.drain(..2);
+        })
+    }),
+    ("queue: the youngest left out", |it| it.change_tasks(1, |words| words.truncate(words.len() - 2))),
+    ("queue: two tasks exchanged", |it| it.change_tasks(2, |words| words[..4].rotate_left(2))),
+    ("queue: the youngest first", |it| it.change_tasks(2, |words| words.rotate_right(2))),
+    ("queue: tag and ticket exchanged", |it| it.change_tasks(1, |words| words.swap(0, 1))),
+    ("queue: a task twice", |it| it.change_tasks(1, |words| words.extend_from_within(..2))),
+    ("queue: another tag", |it| it.change_tasks(1, |words| words[0] = if words[0] == "1" { "2" } else { "1" })),
+    ("queue: another ticket", |it| it.change_tasks(1, |words| words[1] = if words[1] == "1" { "2" } else { "1" })),
+    ("queue: tasks that an edit took away", |it| {
+        it.change(|line, _, _, _| line.answer.met.contains(&"queue: none after an edit").then(|| "queue 1: 1 1\n".to_string()))
+    }),
+    ("queue: tasks that a new unit took away", |it| {
+        it.change(|line, _, _, _| line.answer.met.contains(&"queue: none after a new unit").then(|| "queue 1: 1 1\n".to_string()))
+    }),
+    ("queue: none in place of some", |it| it.change_of("queue", "queue", |_| "queue 0:\n".to_string())),
+    ("queue: none waits in place of no unit", |it| it.change_of("queue", "no unit", |_| "queue 0:\n".to_string())),
+    ("queue: a number was expected", |it| it.change_of("queue", "line", |text| text.replace("expected queue", "expected queue Q"))),
     ("line N: one more", |it| {
         it.change(|_, text, _, _| {
             let (number, rest) = text.strip_prefix("line ")?.split_once(':')?;
@@ -1115,23 +1210,28 @@ fn try_programs(script: &Script, right: &Run) -> Result<(), String> {
     Ok(())
 }
 
-/// A console with a fault in its answers, in how it draws charts or in how it gives delays: on the first lines of the script, and on all of
-/// it where these don't show the fault.
-fn try_fault(
-    script: &Script,
-    what: &str,
-    (answer, draw, delay): (Fault, Draw, Delay),
-    console: Console<Folder>,
-) -> Result<(String, Console<Folder>), String> {
+/// How a console answers lines, draws charts, gives delays and lets tasks wait.
+#[derive(Clone, Copy)]
+struct Manner {
+    answer: Fault,
+    draw: Draw,
+    delay: Delay,
+    port: Port,
+}
+
+const RIGHT: Manner = Manner { answer: Faulty::answer, draw: sketched, delay: by_trial, port: PORT };
+
+/// A console with a fault in one of these: on the first lines of the script, and on all of it where these don't show the fault.
+fn try_fault(script: &Script, what: &str, manner: Manner, console: Console<Folder>) -> Result<(String, Console<Folder>), String> {
     let mut console = console;
-    for count in [2_000, 20_000, script.lines.len()] {
+    for count in [2_000, 5_000, 20_000, script.lines.len()] {
         let count = count.min(script.lines.len());
         let mut faulty = Faulty::new(console.again(script.before.clone()));
-        faulty.console.delay = delay;
-        let (mut filler, mut random) = (Filler::new(draw), Random::new(what.len() as u64));
+        (faulty.console.delay, faulty.console.port) = (manner.delay, manner.port);
+        let (mut filler, mut random) = (Filler::new(manner.draw), Random::new(what.len() as u64));
         let mut output = Vec::new();
         for (place, line) in (1..).zip(&script.lines[..count]) {
-            output.extend_from_slice(filler.text(&answer(&mut faulty, &line.bytes, place), &mut random).as_bytes());
+            output.extend_from_slice(filler.text(&(manner.answer)(&mut faulty, &line.bytes, place), &mut random).as_bytes());
         }
         let folder = filler.folder(&faulty.console.shelf, &mut random);
         let run = Run { output, ending: Ending::Status(0), unanswered: None, folder };
@@ -1353,6 +1453,11 @@ fn try_outside() -> Result<Vec<&'static str>, String> {
 fn run(lines: usize) -> Result<(), String> {
     console_examples::check_model().map_err(|why| format!("model: {why}"))?;
     println!("selftest: the model answers as it is written by hand");
+    let unseen: Vec<&str> = port_faults().iter().filter(|(_, port)| queue_check::judged(port).is_ok()).map(|(what, _)| *what).collect();
+    if !unseen.is_empty() {
+        return Err(format!("selftest: NOT REPORTED by tasks laid out in time: {}", unseen.join("; ")));
+    }
+    println!("selftest: {} ports with a fault, and tasks laid out in time report every one", port_faults().len());
 
     let outside = try_outside()?;
 
@@ -1393,16 +1498,18 @@ fn run(lines: usize) -> Result<(), String> {
     println!("selftest: {tried} sorts of wrong outputs, each made {TIMES} times, and every one is reported");
 
     let mut console = Console::new(Folder::default());
-    let about_records = whole.iter().find(|script| script.name == RECORDS).expect("the script about records");
+    let named = |name: &str| whole.iter().find(|script| script.name == name).expect("a script of this name");
     let of_answers = |script, faults: &'static [(&'static str, Fault)]| {
-        faults.iter().map(move |(what, answer)| (script, *what, (*answer, sketched as Draw, by_trial as Delay)))
+        faults.iter().map(move |(what, answer)| (script, *what, Manner { answer: *answer, ..RIGHT }))
     };
-    let of_charts = CHART_FAULTS.iter().map(|(what, draw)| (&whole[0], *what, (Faulty::answer as Fault, *draw, by_trial as Delay)));
-    let of_delays = DELAY_FAULTS.iter().map(|(what, delay)| (&whole[0], *what, (Faulty::answer as Fault, sketched as Draw, *delay)));
-    let faults = of_answers(&whole[0], FAULTS).chain(of_answers(about_records, RECORD_FAULTS)).chain(of_charts).chain(of_delays);
+    let of_charts = CHART_FAULTS.iter().map(|(what, draw)| (&whole[0], *what, Manner { draw: *draw, ..RIGHT }));
+    let of_delays = DELAY_FAULTS.iter().map(|(what, delay)| (&whole[0], *what, Manner { delay: *delay, ..RIGHT }));
+    let of_ports = port_faults().into_iter().map(|(what, port)| (named(QUEUES), what, Manner { port, ..RIGHT }));
+    let faults = of_answers(&whole[0], FAULTS).chain(of_answers(named(RECORDS), RECORD_FAULTS)).chain(of_charts).chain(of_delays);
+    let faults = faults.chain(of_answers(named(QUEUES), QUEUE_FAULTS)).chain(of_ports);
     let mut faulty = 0;
-    for (script, what, fault) in faults {
-        let (told, after) = try_fault(script, what, fault, console)?;
+    for (script, what, manner) in faults {
+        let (told, after) = try_fault(script, what, manner, console)?;
         println!("selftest: {told}");
         console = after;
         faulty += 1;

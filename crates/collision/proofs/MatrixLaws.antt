@@ -3,12 +3,16 @@ use mathlib.Core.Path.{_≡_, sym, ap, _∙_}
 use mathlib.Core.Bool.{true}
 use Prim.Native.Nat.{ℕ, suc, _+_, _-_, _^_, _≤_, _<_}
 use native.Mathlib.Nat.{lt-of-lt-of-le}
+use native.Mathlib.Decide.{decLt}
 use native.Mathlib.Omega.{arith}
 use lib.Pow.{pow-mono}
 use Rattle.words.specs.Below.{maxBelow, spanBelow}
-use Rattle.words.proofs.BelowLaws.{max-above, max-reached, span-above, span-passes, word-span}
+use Rattle.words.proofs.BelowLaws.{max-above, max-most, max-reached, span-above, span-most, span-passes, word-span}
+use Rattle.unit.specs.declared.FunctionUnit.{FunctionUnit}
 use Rattle.unit.specs.Table.{Table}
+use Rattle.unit.specs.Unit.{marked}
 use Rattle.collision.specs.Vector.{collides, rowWord, largestColumn, IsLargestColumn}
+use Rattle.collision.proofs.VectorLaws.{marked-bounded, collides→, collides-near}
 
 module _ (T : Table) where
   -- no row has a larger one
@@ -47,3 +51,18 @@ module _ (T : Table) where
         omega (arith, span-column q r (omega arith) (omega arith));
     reached = column-reached;
   }
+
+-- it is at most 31
+span-31 : (u : FunctionUnit) (q r : ℕ) → spanBelow 32 (λ k. collides (marked u) q r (k + 1)) ≤ 31
+span-31 u q r = go (decLt (spanBelow 32 (λ k. collides (marked u) q r (k + 1))) 32)
+  where
+    go : Dec (spanBelow 32 (λ k. collides (marked u) q r (k + 1)) < 32) → spanBelow 32 (λ k. collides (marked u) q r (k + 1)) ≤ 31
+    go (yes h) = omega arith
+    go (no h) =
+        let e : spanBelow 32 (λ k. collides (marked u) q r (k + 1)) ≡ 32 = omega (arith, span-most 32 (λ k. collides (marked u) q r (k + 1))) in
+        let c = span-passes 32 (λ k. collides (marked u) q r (k + 1)) 31 e in
+        absurd (omega (arith, collides-near (marked u) (marked-bounded u) q r 32 (collides→ (marked u) q r 32 c)))
+
+pub largest-31 : (u : FunctionUnit) → largestColumn (marked u) ≤ 31
+unfolding largestColumn
+largest-31 u = max-most 5 _ 31 (λ q h. max-most 5 _ 31 (λ r k. span-31 u q r))

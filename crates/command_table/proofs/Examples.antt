@@ -28,6 +28,10 @@ pub usage-of-delays : usageAt 26 ≡ ascii "delays Q M [FILE]"
 unfolding usageAt rowAt
 usage-of-delays = refl
 
+pub usage-of-arrive : usageAt 27 ≡ ascii "arrive Q TICKET"
+unfolding usageAt rowAt
+usage-of-arrive = refl
+
 pub mark-is-found : commandOf (ascii "mark") ≡ Named.Known (entryAt 1)
 unfolding commandOf among same nameAt rowAt
 mark-is-found = refl
@@ -35,6 +39,10 @@ mark-is-found = refl
 pub delays-is-found : commandOf (ascii "delays") ≡ Named.Known (entryAt 26)
 unfolding commandOf among same nameAt rowAt
 delays-is-found = refl
+
+pub queue-is-found : commandOf (ascii "queue") ≡ Named.Known (entryAt 29)
+unfolding commandOf among same nameAt rowAt
+queue-is-found = refl
 
 pub part-of-a-name : commandOf (ascii "mar") ≡ Named.Unknown
 unfolding commandOf among same nameAt rowAt

@@ -9,6 +9,7 @@ use Rattle.command_table.specs.declared.Act.the-variants as Act
 use Rattle.command_table.specs.declared.Ask.the-variants as Ask
 use Rattle.command_table.specs.declared.Show.the-variants as Show
 use Rattle.command_table.specs.declared.View.the-variants as View
+use Rattle.command_table.specs.declared.Issue.the-variants as Issue
 use Rattle.command_table.specs.declared.Verb.{Verb}
 use Rattle.command_table.specs.declared.Verb.the-variants as Verb
 use Rattle.command_table.specs.declared.Form.{Form}
@@ -57,6 +58,9 @@ rows =
     ∷ row "ring" " FILE" (Form.File 0) (Verb.View View.Ring)
     ∷ row "simulate" " Q UNITS" (Form.Numbers 2) (Verb.Show Show.Simulate)
     ∷ row "delays" " Q M [FILE]" (Form.OptionalFile 2) (Verb.Show Show.Delays)
+    ∷ row "arrive" " Q TICKET" (Form.Numbers 2) (Verb.Issue Issue.Arrive)
+    ∷ row "pass" "" (Form.Numbers 0) (Verb.Issue Issue.Pass)
+    ∷ row "queue" "" (Form.Numbers 0) (Verb.Issue Issue.Queue)
     ∷ []
 
 -- beyond the last row: no name, and nothing to write

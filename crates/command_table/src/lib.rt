@@ -49,6 +49,13 @@ pub enum View {
     Ring,
 }
 
+// What is done at the issue port, at which tasks wait in a queue.
+pub enum Issue {
+    Arrive,
+    Pass,
+    Queue,
+}
+
 // What a command does. Fresh and load make a unit.
 pub enum Verb {
     Fresh,
@@ -57,6 +64,7 @@ pub enum Verb {
     Ask(Ask),
     Show(Show),
     View(View),
+    Issue(Issue),
 }
 
 // What comes after the name of a command: so many numbers; so many, and one more that may be left out; so many, and then the name of a file; so many,
@@ -84,7 +92,7 @@ pub enum Named {
 }
 
 // How many commands there are, and how many bytes a row has.
-const COUNT: usize = 27;
+const COUNT: usize = 30;
 
 const WIDTH: usize = 48;
 
@@ -118,6 +126,9 @@ const TABLE: [u8; COUNT * WIDTH] = *b"\
 \x04\x09\x20ring FILE                                    \
 \x08\x10\x02simulate Q UNITS                             \
 \x06\x11\x32delays Q M [FILE]                            \
+\x06\x0f\x02arrive Q TICKET                              \
+\x04\x04\x00pass                                         \
+\x05\x05\x00queue                                        \
 ";
 
 // What each command does, in the order of the rows.
@@ -149,6 +160,9 @@ const VERBS: [Verb; COUNT] = [
     Verb::View(View::Ring),
     Verb::Show(Show::Simulate),
     Verb::Show(Show::Delays),
+    Verb::Issue(Issue::Arrive),
+    Verb::Issue(Issue::Pass),
+    Verb::Issue(Issue::Queue),
 ];
 
 // The table as bytes.

@@ -47,9 +47,9 @@ stepped-as s event e l = record { line = line-as (ap (λ (x : Stepped). answerLi
 
 -- A search
 
--- the unit that a search left, with the bank that was there
+-- the unit that a search left, with the bank and the queue that were there
 abbrev searched : Session → FunctionUnit → Session
-searched s u = record { present = s .present; unit = u; bank = s .bank }
+searched s u = record { present = s .present; unit = u; bank = s .bank; queue = s .queue }
 
 pub sought : (s : Session) {q : ℕ} {made : Outcome} {words before after : List ℕ} {end : ℕ} (zeros : List ℕ) → length zeros ≡ 16000
     → SearchPromise (s .unit) q zeros words (made .answer) (made .unit) → Line (answerLine (made .answer)) before after end
@@ -61,6 +61,7 @@ sought s {q} {made} zeros n p l =
       next = record {
         present = refl;
         bank = refl;
+        queue = refl;
         kept = λ why e. p .kept why (says ∙ e);
         found = λ e. p .found (says ∙ e);
       };

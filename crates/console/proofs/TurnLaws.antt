@@ -1,17 +1,19 @@
 -- One command: what it answers goes by the verb, where there is a unit. Assumes nothing.
 use mathlib.Core.Path.{_≡_, refl, sym, ap, _∙_, subst}
 use mathlib.Core.Bool.{true, false, cond}
-use mathlib.Core.List.{List, [], _∷_}
+use mathlib.Core.List.{List, []}
 use Prim.Native.Nat.{ℕ}
 use native.Mathlib.Omega.{arith}
 use Rattle.text.specs.Text.{putIn, putEnd}
 use Rattle.text.proofs.PutLaws.{put-fits, put-fits-end, placed-none}
 use Rattle.command_table.specs.declared.Act.{Act}
+use Rattle.command_table.specs.declared.Issue.{Issue}
 use Rattle.command_table.specs.declared.Verb.{Verb}
 use Rattle.command.specs.declared.Request.{Request}
 use Rattle.session.specs.declared.Session.{Session}
 use Rattle.session.specs.declared.Reply.{Reply}
 use Rattle.session.specs.Sessions.{Line}
+use Rattle.queue_text.specs.Told.{issueReply, issueNext, Issued}
 use Rattle.console.specs.Turns.{noUnit, actReply, unitReply, turnReply, ActNext, UnitNext, Next, Turned}
 use Rattle.console.specs.Inner.{Gives}
 use Rattle.session.proofs.LineLaws.{line-as}
@@ -47,6 +49,11 @@ module _ {s : Session} {r : Request} {line before after : List ℕ} where
 pub act-by : (s : Session) (r : Request) {what v : Act} {before after : List ℕ} {t : Reply} → what ≡ v → Gives (actReply v s r) (ActNext v s r) before after t
     → Gives (actReply what s r) (ActNext what s r) before after t
 act-by s r {before = before} {after} {t} e g = subst (λ x. Gives (actReply x s r) (ActNext x s r) before after t) (sym e) g
+
+-- at the issue port
+pub gives-issued : (s : Session) (r : Request) {what : Issue} {before after : List ℕ} {t : Reply} → Issued what s r before after t
+    → Gives (issueReply what s r) (λ x. x ≡ issueNext what s r) before after t
+gives-issued s r i = record { line = record { next = i .end; out = i .out }; next = i .next }
 
 -- The number of a request as a tag
 

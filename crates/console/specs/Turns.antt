@@ -5,7 +5,6 @@ use mathlib.Core.List.{List, [], _++_}
 use Prim.Native.Nat.{ℕ}
 use lib.ListN.{take}
 use Rattle.text.specs.Text.{ascii, decimal, spaced, putIn, putEnd}
-use Rattle.unit.specs.declared.FunctionUnit.{FunctionUnit}
 use Rattle.unit.specs.declared.Plan.{Plan}
 use Rattle.unit.specs.declared.Outcome.{Outcome}
 use Rattle.unit.specs.declared.Refusal.{Refusal}
@@ -32,11 +31,12 @@ use Rattle.command.specs.Lines.{latenciesIn}
 use Rattle.session.specs.declared.Session.{Session}
 use Rattle.session.specs.declared.Reply.{Reply}
 use Rattle.session.specs.Sessions.{taken, one, two, three, tag, answerLine}
+use Rattle.queue_text.specs.Told.{issueReply, issueNext}
 
 -- Sessions
 
 abbrev pub withBank : Session → Bank → Session
-withBank s b = record { present = s .present; unit = s .unit; bank = b }
+withBank s b = record { present = s .present; unit = s .unit; bank = b; queue = s .queue }
 
 -- Lines
 
@@ -96,6 +96,7 @@ unitReply Verb.Fresh s r line = []
 unitReply Verb.Load s r line = []
 unitReply (Verb.Act a) s r line = actReply a s r
 unitReply (Verb.Ask a) s r line = question s (questionOf a r) line
+unitReply (Verb.Issue a) s r line = issueReply a s r
 unitReply (Verb.Show a) s r line = []
 unitReply (Verb.View a) s r line = []
 
@@ -109,10 +110,11 @@ turnReply s r line = cond (s .present) (unitReply (r .verb) s r line) noUnit
 pub record Sought (s : Session) (q : ℕ) (after : Session) : Type 0 where
   pub present : after .present ≡ s .present
   pub bank : after .bank ≡ s .bank
+  pub queue : after .queue ≡ s .queue
   pub kept : (why : Refusal) → searchAnswer (s .unit) q 16000 ≡ Refused why → after .unit ≡ s .unit
   pub found : searchAnswer (s .unit) q 16000 ≡ Done → Found (s .unit) q (after .unit)
 
--- an accepted mark or unmark leaves another unit and an empty bank, an event another bank; a refused call leaves what was there
+-- an accepted mark or unmark leaves another unit, an empty bank and an empty queue, an event another bank; a refused call leaves what was there
 abbrev pub ActNext : Act → Session → Request → Session → Type 0
 ActNext Act.Mark s r after = after ≡ taken s (marking s r .answer) (marking s r .unit)
 ActNext Act.Unmark s r after = after ≡ taken s (unmarking s r .answer) (unmarking s r .unit)
@@ -122,12 +124,13 @@ ActNext Act.Tick s r after = after ≡ withBank s (stepOf (s .unit) (s .bank) Ev
 ActNext Act.Start s r after = after ≡ withBank s (stepOf (s .unit) (s .bank) (Event.Start (tag (one r))) .bank)
 ActNext Act.Bank s r after = after ≡ s
 
--- every other command leaves the session as it is
+-- what is done at the issue port leaves another queue or another bank; every other command leaves the session as it is
 unfoldable pub UnitNext : Verb → Session → Request → Session → Type 0
 UnitNext Verb.Fresh s r after = after ≡ s
 UnitNext Verb.Load s r after = after ≡ s
 UnitNext (Verb.Act a) s r after = ActNext a s r after
 UnitNext (Verb.Ask a) s r after = after ≡ s
+UnitNext (Verb.Issue a) s r after = after ≡ issueNext a s r
 UnitNext (Verb.Show a) s r after = after ≡ s
 UnitNext (Verb.View a) s r after = after ≡ s
 

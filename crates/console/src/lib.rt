@@ -53,10 +53,12 @@ fn seek(session: Session, tag: Tag, out: &mut [u8]) -> Reply
     let end = session::put_answer(out, answer);
     let found = made.unit;
     let bank = session.bank;
+    let queue = session.queue;
     let next = Session {
         present: session.present,
         unit: found,
         bank,
+        queue,
     };
     Reply { session: next, end }
 }
@@ -98,10 +100,12 @@ fn step(session: Session, event: Event, out: &mut [u8]) -> Reply
     let answer = stepped.answer;
     let end = session::put_answer(out, answer);
     let bank = stepped.bank;
+    let queue = session.queue;
     let next = Session {
         present: session.present,
         unit,
         bank,
+        queue,
     };
     Reply { session: next, end }
 }
@@ -162,6 +166,7 @@ pub fn turn(session: Session, request: Request, line: &[u8], out: &mut [u8]) -> 
     match verb {
         Verb::Act(what) => act(session, what, request, out),
         Verb::Ask(what) => tell(session, what, request, line, out),
+        Verb::Issue(what) => queue_text::answer(session, what, request, out),
         Verb::Fresh => Reply { session, end: 0 },
         Verb::Load => Reply { session, end: 0 },
         Verb::Show(_) => Reply { session, end: 0 },

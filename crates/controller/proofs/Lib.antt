@@ -1,4 +1,5 @@
 pub mod StepLaws
 pub mod BankLaws
+pub mod TickLaws
 pub mod Demand2
 pub mod Examples

@@ -1,5 +1,5 @@
 -- The issue controller's bank of four registers, and what an event answers and makes of it.
-use Prim.Native.Nat.{ℕ, _/_, _%_}
+use Prim.Native.Nat.{ℕ, zero, suc, _/_, _%_}
 use mathlib.Core.Bool.{Bool, cond}
 use lib.Bits.{bitOr}
 use lib.Dec.{leb, eqb}
@@ -30,6 +30,11 @@ empty = record { r1 = 0; r2 = 0; r3 = 0; r4 = 0 }
 -- a tick shifts each register right by one
 abbrev pub shifted : Bank → Bank
 shifted b = record { r1 = b .r1 / 2; r2 = b .r2 / 2; r3 = b .r3 / 2; r4 = b .r4 / 2 }
+
+-- the bank after m ticks
+abbrev pub ticked : ℕ → Bank → Bank
+ticked zero b = b
+ticked (suc m) b = shifted (ticked m b)
 
 -- row r of M_q, for each tag r of the unit
 unfoldable pub rowFor : FunctionUnit → ℕ → ℕ → ℕ

@@ -10,11 +10,12 @@ use Rattle.unit.specs.Unit.{soundOf}
 use Rattle.controller.specs.declared.Bank.{Bank}
 use Rattle.controller.specs.declared.Event.{Event}
 use Rattle.controller.specs.declared.Event.the-variants.{Tick, Start}
-use Rattle.controller.specs.Bank.{shifted, granted, eventAnswer, moved, stepOf}
+use Rattle.controller.specs.Bank.{shifted, ticked, granted, eventAnswer, moved, stepOf}
 use Rattle.controller.proofs.StepLaws.{step-done, start-accepted, start-answered}
+use Rattle.controller.proofs.TickLaws.{tick-shifts}
 use Rattle.loops.specs.declared.State.{State}
 use Rattle.loops.specs.Loop.{Loop}
-use Rattle.loops.specs.Steps.{Steps, ticked, nextTag, stepped}
+use Rattle.loops.specs.Steps.{Steps, nextTag, stepped}
 use Rattle.loops.proofs.StepLaws.{tag-inside}
 
 -- the bank after m tick events
@@ -26,17 +27,9 @@ abbrev pub startOf : List ℕ → State → Event
 startOf tags s = Start (record { 0 = nextTag tags s })
 
 module _ (u : FunctionUnit) (sound : soundOf u ≡ true) where
-  tick-done : (b : Bank) → eventAnswer u b Tick ≡ Done
-  unfolding eventAnswer
-  tick-done b = simp sound
-
-  tick-shifts : (b : Bank) → stepOf u b Tick .bank ≡ shifted b
-  unfolding moved
-  tick-shifts b = sym (ap (λ r. r .bank) (step-done u b Tick (tick-done b)))
-
   pub ticks-events : (m : ℕ) (b : Bank) → tickedBy u m b ≡ ticked m b
   ticks-events zero b = refl
-  ticks-events (suc m) b = tick-shifts (tickedBy u m b) ∙ ap shifted (ticks-events m b)
+  ticks-events (suc m) b = tick-shifts u sound (tickedBy u m b) ∙ ap shifted (ticks-events m b)
 
   module _ (tags : List ℕ) (loop : Loop u tags) (s : State) (t : ℕ) where
     -- a latency of at least 1 is a step exactly when the controller, after t - 1 ticks, answers done to the start

@@ -17,13 +17,14 @@ use Rattle.collision.specs.Vector.{rowWord, largestColumn}
 use Rattle.collision.proofs.ClashLaws.{clash-collides}
 use Rattle.controller.specs.Bank.{register, empty}
 use Rattle.controller.proofs.BankLaws.{empty-bit, started-bit, row-says}
+use Rattle.controller.proofs.TickLaws.{bit-granted}
 use Rattle.graphs.specs.Graph.{Walk, stay, step}
 use Rattle.graphs.proofs.Walks.{stateAt}
 use Rattle.graphs.proofs.Rivals.{cuts, rival-bound}
 use Rattle.loops.specs.Loop.{Loop, Schedule, tagAt, loopTask, LoopNeverCollides}
 use Rattle.loops.specs.declared.State.{State}
 use Rattle.loops.specs.Steps.{Steps, nextTag, firstState, stepped, loopGraph, arcGraph}
-use Rattle.loops.proofs.BankLaws.{stepped-bit, bit-granted}
+use Rattle.loops.proofs.BankLaws.{stepped-bit}
 use Rattle.loops.proofs.StepLaws.{Kept, tag-within, four, next-at, kept-first, kept-step, step-cut, permits-cut}
 
 neither : (a b : Bool) → a ≡ false → b ≡ false → a || b ≡ false

@@ -16,6 +16,7 @@ use Rattle.unit.specs.Unit.{marked, soundOf}
 use Rattle.collision.specs.Pipeline.{total}
 use Rattle.collision.specs.Vector.{largestColumn}
 use Rattle.controller.specs.Bank.{register, rowFor}
+use Rattle.controller.proofs.TickLaws.{granted-bit, bit-granted, register-below}
 use Rattle.diagram.specs.Diagram.{Permits}
 use Rattle.diagram.specs.Work.{stateIn}
 use Rattle.graphs.specs.Graph.{Graph, Walk, stay, step, Reachable, statesAlong, CycleAt}
@@ -31,7 +32,7 @@ use Rattle.loops.specs.Loop.{Loop}
 use Rattle.loops.specs.Steps.{ShortStep, following, nextTag, firstState, stepped, arcGraph}
 use Rattle.loops.specs.Best.{BestLoop}
 use Rattle.loops.specs.Inner.{Sane, RulesOf, positionAfter, masked, advanced, ruleArc, ruleFirst, RuleStep, ruleGraph, ruleTests, ruleStates, stateOf, Explored}
-use Rattle.loops.proofs.BankLaws.{granted-bit, bit-granted, started-value, register-below}
+use Rattle.loops.proofs.BankLaws.{started-value}
 use Rattle.loops.proofs.StepLaws.{Kept, kept-arcs}
 use Rattle.loops.proofs.BestLaws.{toStart, best-loop}
 use Rattle.graphs.specs.Rotation.{rotate}

@@ -5,7 +5,6 @@ use mathlib.Core.List.{List, [], _∷_}
 use Prim.Native.Nat.{ℕ, zero, suc, _+_, _-_, _*_, _/_, _%_, _≤_, _<_, max}
 use native.Mathlib.Nat.{not-suc-le-zero, le-of-suc-le-suc}
 use native.Mathlib.Numerals.{add-one}
-use native.Mathlib.Decide.{decLt}
 use native.Mathlib.Omega.{arith}
 use borrow.Author.Count.{below-more}
 use borrow.Author.Tests.{le-leb}
@@ -14,14 +13,14 @@ use lib.Seq.{getD-set-same, getD-set-other}
 use Rattle.words.specs.Bits.{isSet}
 use Rattle.words.specs.Below.{maxBelow, spanBelow, wordBelow}
 use Rattle.words.proofs.Tests.{not-passed, and-left, and-right, and-true}
-use Rattle.words.proofs.BelowLaws.{span-same, span-most, span-passes, max-most, word-set}
+use Rattle.words.proofs.BelowLaws.{span-same, word-set}
 use Rattle.unit.specs.declared.FunctionUnit.{FunctionUnit}
 use Rattle.unit.specs.Table.{Table}
 use Rattle.unit.specs.Unit.{marked, inside, columnsOf}
 use Rattle.unit.proofs.Laws.{within}
 use Rattle.collision.specs.Vector.{collides, rowWord, rowOfColumns, largestColumn}
 use Rattle.collision.proofs.RowLaws.{row-columns}
-use Rattle.collision.proofs.VectorLaws.{marked-bounded, collides→, collides-near}
+use Rattle.collision.proofs.MatrixLaws.{largest-31}
 use Rattle.controller.specs.Bank.{rowFor}
 use Rattle.diagram.specs.Diagram.{width}
 use Rattle.loops.specs.declared.Rules.{Rules}
@@ -55,21 +54,6 @@ max-all f i best a l m = let e : i ≡ 5 = omega arith in a ∙ ap (λ n. maxBel
 pub largest-is : (T : Table) (n : ℕ) → n ≡ maxBelow 5 (λ q. maxBelow 5 (λ r. spanBelow 32 (λ k. collides T q r (k + 1)))) → n ≡ largestColumn T
 unfolding largestColumn
 largest-is T n e = e
-
--- n is at most 31
-span-31 : (u : FunctionUnit) (q r : ℕ) → spanBelow 32 (λ k. collides (marked u) q r (k + 1)) ≤ 31
-span-31 u q r = go (decLt (spanBelow 32 (λ k. collides (marked u) q r (k + 1))) 32)
-  where
-    go : Dec (spanBelow 32 (λ k. collides (marked u) q r (k + 1)) < 32) → spanBelow 32 (λ k. collides (marked u) q r (k + 1)) ≤ 31
-    go (yes h) = omega arith
-    go (no h) =
-        let e : spanBelow 32 (λ k. collides (marked u) q r (k + 1)) ≡ 32 = omega (arith, span-most 32 (λ k. collides (marked u) q r (k + 1))) in
-        let c = span-passes 32 (λ k. collides (marked u) q r (k + 1)) 31 e in
-        absurd (omega (arith, collides-near (marked u) (marked-bounded u) q r 32 (collides→ (marked u) q r 32 c)))
-
-pub largest-31 : (u : FunctionUnit) → largestColumn (marked u) ≤ 31
-unfolding largestColumn
-largest-31 u = max-most 5 _ 31 (λ q h. max-most 5 _ 31 (λ r k. span-31 u q r))
 
 -- Tags
 

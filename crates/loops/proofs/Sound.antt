@@ -17,12 +17,13 @@ use Rattle.collision.specs.Vector.{rowWord}
 use Rattle.collision.proofs.ClashLaws.{clash-collides, startAt-mono}
 use Rattle.controller.specs.Bank.{register, empty}
 use Rattle.controller.proofs.BankLaws.{started-bit, row-says}
+use Rattle.controller.proofs.TickLaws.{granted-bit}
 use Rattle.graphs.specs.Graph.{Walk, Reachable}
 use Rattle.graphs.proofs.Walks.{stateAt, walk-run, walk-permits, cycle-permits, reach-keeps}
 use Rattle.loops.specs.Loop.{Loop, Schedule, tagAt, loopTask, LoopNeverCollides}
 use Rattle.loops.specs.declared.State.{State}
 use Rattle.loops.specs.Steps.{Steps, nextTag, firstState, stepped, loopGraph}
-use Rattle.loops.proofs.BankLaws.{stepped-bit, granted-bit}
+use Rattle.loops.proofs.BankLaws.{stepped-bit}
 use Rattle.loops.proofs.StepLaws.{tag-within, four, run-position, position-at, next-at}
 
 -- the bank has the rows of the tag that was started last

@@ -12,13 +12,14 @@ use Rattle.unit.specs.declared.FunctionUnit.{FunctionUnit}
 use Rattle.unit.specs.Unit.{marked, inside, soundOf}
 use Rattle.unit.proofs.Laws.{Within, within, sound-has}
 use Rattle.collision.specs.Vector.{largestColumn}
-use Rattle.controller.specs.Bank.{register, empty, started, granted}
+use Rattle.controller.specs.Bank.{register, empty, ticked, started, granted}
+use Rattle.controller.proofs.TickLaws.{Below, ticked-below, started-below, empty-below, register-below, bit-granted}
 use Rattle.graphs.specs.Graph.{step, Reachable}
 use Rattle.graphs.proofs.Walks.{run, stateAt, reach-keeps}
 use Rattle.loops.specs.Loop.{Loop, tagAt}
 use Rattle.loops.specs.declared.State.{State}
-use Rattle.loops.specs.Steps.{Steps, ShortStep, ticked, following, nextTag, firstState, stepped, loopGraph, arcGraph}
-use Rattle.loops.proofs.BankLaws.{Below, ticked-below, started-below, empty-below, register-below, ticked-empty, bit-granted}
+use Rattle.loops.specs.Steps.{Steps, ShortStep, following, nextTag, firstState, stepped, loopGraph, arcGraph}
+use Rattle.loops.proofs.BankLaws.{ticked-empty}
 
 -- Tags
 

@@ -2,22 +2,17 @@
 use mathlib.Core.Path.{_≡_}
 use mathlib.Core.Bool.{Bool, true, _&&_}
 use mathlib.Core.List.{List}
-use Prim.Native.Nat.{ℕ, zero, suc, _+_, _-_, _%_, _≤_}
+use Prim.Native.Nat.{ℕ, _+_, _-_, _%_, _≤_}
 use lib.Dec.{eqb}
 use lib.ListN.{length, getD}
 use Rattle.unit.specs.declared.FunctionUnit.{FunctionUnit}
 use Rattle.unit.specs.Unit.{marked}
 use Rattle.collision.specs.Vector.{largestColumn}
 use Rattle.controller.specs.declared.Bank.{Bank}
-use Rattle.controller.specs.Bank.{empty, shifted, started, granted}
+use Rattle.controller.specs.Bank.{empty, ticked, started, granted}
 use Rattle.graphs.specs.Graph.{Graph}
 use Rattle.graphs.specs.States.{Tests, states}
 use Rattle.loops.specs.declared.State.{State}
-
--- the bank after m ticks
-abbrev pub ticked : ℕ → Bank → Bank
-ticked zero b = b
-ticked (suc m) b = shifted (ticked m b)
 
 -- the next position of the list, and its tag
 abbrev pub following : List ℕ → State → ℕ

@@ -1,5 +1,6 @@
 -- What a session takes in. Assumes nothing.
 use mathlib.Core.Path.{_≡_, sym, ap, ap₂, _∙_, subst}
+use mathlib.Core.Bool.{true}
 use mathlib.Core.List.{List}
 use Prim.Native.Nat.{ℕ}
 use Rattle.unit.specs.declared.FunctionUnit.{FunctionUnit}
@@ -7,6 +8,9 @@ use Rattle.unit.specs.declared.Outcome.{Outcome}
 use Rattle.unit.specs.declared.Refusal.{Refusal}
 use Rattle.unit.specs.declared.Answer.{Answer}
 use Rattle.unit.specs.declared.Answer.the-variants.{Done, Refused}
+use Rattle.controller.specs.Bank.{empty}
+use Rattle.queue.specs.declared.Queue.{Queue}
+use Rattle.queue.specs.Calls.{emptyQueue}
 use Rattle.session.specs.declared.Session.{Session}
 use Rattle.session.specs.declared.Reply.{Reply}
 use Rattle.session.specs.Sessions.{taken, answerLine, Line, Made}
@@ -21,9 +25,15 @@ pub taken-refused : (s : Session) (u : FunctionUnit) {a : Answer} {why : Refusal
     → Line (answerLine a) before after end → Made s (record { answer = a; unit = u }) before after record { session = s; end = end }
 taken-refused s u e l = record { out = l .out; end = l .next; next = ap (λ b. taken s b u) (sym e) }
 
-pub taken-done : (s : Session) (u : FunctionUnit) {a : Answer} {before after : List ℕ} {end : ℕ} → a ≡ Done
-    → Line (answerLine a) before after end → Made s (record { answer = a; unit = u }) before after record { session = taken s Done u; end = end }
-taken-done s u e l = record { out = l .out; end = l .next; next = ap (λ b. taken s b u) (sym e) }
+pub taken-done : (s : Session) (u : FunctionUnit) {a : Answer} {q : Queue} {before after : List ℕ} {end : ℕ} → a ≡ Done → q ≡ emptyQueue
+    → Line (answerLine a) before after end
+    → Made s (record { answer = a; unit = u }) before after
+    record { session = record { present = true; unit = u; bank = empty; queue = q }; end = end }
+taken-done s u e f l = record {
+  out = l .out;
+  end = l .next;
+  next = ap (λ (x : Queue). record { present = true; unit = u; bank = empty; queue = x }) f ∙ ap (λ b. taken s b u) (sym e);
+}
 
 pub made-as : {s : Session} {made asked : Outcome} {before after : List ℕ} {t : Reply} → made ≡ asked → Made s made before after t → Made s asked before after t
 made-as {s} {before = before} {after} {t} e m = subst (λ (o : Outcome). Made s o before after t) e m

@@ -1,4 +1,4 @@
-// A designer's session: the unit and the bank that commands work on; how it opens, and how a fresh unit or one from a file is taken into it.
+// A designer's session: the unit, the bank and the queue that commands work on; how it opens, and how a fresh unit or one from a file is taken into it.
 // Every public function here is proved, total and without a `requires`.
 ghost use mathlib.Core.Path.{_≡_};
 ghost use Prim.Native.Nat.{_≤_};
@@ -9,16 +9,18 @@ ghost use Rattle.listing.specs.Lines.{refusedLine};
 ghost use Rattle.session.specs.Sessions.{opening, answerLine, Line, freshAsked, Made};
 use command::Request;
 use controller::Bank;
+use queue::Queue;
 use unit::Answer;
 use unit::FunctionUnit;
 use unit::Outcome;
 use unit::Refusal;
 
-// Whether there is a unit, the unit, and the bank.
+// Whether there is a unit, the unit, the bank, and the queue at its issue port.
 pub struct Session {
     pub present: bool,
     pub unit: FunctionUnit,
     pub bank: Bank,
+    pub queue: Queue,
 }
 
 // The session after a command, and how many bytes the answer has.
@@ -39,10 +41,12 @@ pub fn open() -> Session
         r3: 0,
         r4: 0,
     };
+    let queue = queue::empty_queue();
     Session {
         present: false,
         unit,
         bank,
+        queue,
     }
 }
 
@@ -80,7 +84,7 @@ pub fn put_answer(out: &mut [u8], answer: Answer) -> usize
     }
 }
 
-// Takes the unit that was made or edited, with an empty bank; where none was made the session stays.
+// Takes the unit that was made or edited, with an empty bank and an empty queue; where none was made the session stays.
 pub fn take_unit(session: Session, made: Outcome, out: &mut [u8]) -> Reply
     ensures { λ r. ⌜ Made session made (now (out .entry)) (now (out .exit)) r ⌝ }
 {
@@ -96,10 +100,12 @@ pub fn take_unit(session: Session, made: Outcome, out: &mut [u8]) -> Reply
                 r3: 0,
                 r4: 0,
             };
+            let queue = queue::empty_queue();
             let next = Session {
                 present: true,
                 unit,
                 bank,
+                queue,
             };
             Reply { session: next, end }
         }

@@ -7,6 +7,10 @@ use controller::Bank;
 use controller::Event;
 use cycles::GreedyAnswer;
 use judge::Verdict;
+use queue::Joined;
+use queue::Passed;
+use queue::Queue;
+use queue::Waiting;
 use simulator::UnitPlayed;
 use unit::Answer;
 use unit::FunctionUnit;
@@ -557,6 +561,82 @@ fn try_delays() {
     show_delays(b"no unit", made.unit, 1, 0);
 }
 
+// The queue at the issue port: how many wait after an arrival, and what a time unit starts.
+
+fn queue_of(count: usize, tag: u8) -> Queue {
+    Queue {
+        list: [Waiting { tag, ticket: 7 }; 32],
+        count,
+    }
+}
+
+fn print_joined(joined: Joined) {
+    let answer = joined.answer;
+    let queue = joined.queue;
+    match answer {
+        Answer::Refused(why) => print_refusal(why),
+        Answer::Done => {
+            io::write_all(1, b" wait ");
+            io::print_decimal(1, queue.count as u64);
+        }
+    }
+}
+
+fn show_arrival(name: &[u8], u: FunctionUnit, count: usize, waiting: u8, tag: u8) {
+    begin(name, b" arrive");
+    print_number(tag as u32);
+    let queue = queue_of(count, waiting);
+    print_joined(queue::join(u, queue, Waiting { tag, ticket: 8 }));
+    end_line();
+}
+
+fn print_passed(passed: Passed) {
+    match passed {
+        Passed::Refused(why) => print_refusal(why),
+        Passed::Idle => {
+            io::write_all(1, b" none");
+        }
+        Passed::Started(started) => {
+            io::write_all(1, b" started");
+            print_number(started.tag as u32);
+            print_number(started.ticket);
+        }
+    }
+}
+
+fn show_pass(name: &[u8], u: FunctionUnit, count: usize, waiting: u8, register: u32) {
+    begin(name, b" pass");
+    let bank = Bank {
+        r1: register,
+        r2: 0,
+        r3: 0,
+        r4: 0,
+    };
+    let queue = queue_of(count, waiting);
+    let advanced = queue::advance(u, bank, queue);
+    let passed = advanced.answer;
+    print_passed(passed);
+    end_line();
+}
+
+fn try_queue() {
+    let u = one_segment(b"\x01\x02");
+    let made = unit::fresh(5, 5, 9);
+    show_arrival(b"31 wait", u, 31, 1, 1);
+    show_arrival(b"32 wait", u, 32, 1, 1);
+    show_arrival(b"32 wait", u, 32, 1, 2);
+    show_arrival(b"33 of tag 2 wait", u, 33, 2, 1);
+    show_arrival(b"31 of tag 2 wait", u, 31, 2, 1);
+    show_arrival(b"no unit", made.unit, 33, 2, 2);
+    show_pass(b"one waits", u, 1, 1, 0);
+    show_pass(b"one waits for another", u, 1, 1, 1);
+    show_pass(b"none waits", u, 0, 2, 0);
+    show_pass(b"32 wait", u, 32, 1, 0);
+    show_pass(b"33 of tag 2 wait", u, 33, 2, 0);
+    show_pass(b"32 of tag 2 wait", u, 32, 2, 0);
+    show_pass(b"no unit", made.unit, 33, 2, 0);
+}
+
 fn try_limit() {
     let full = one_segment(b"\x01\x0a");
     show_states(b"marks 1 10", full);
@@ -660,6 +740,7 @@ fn main() {
     try_simulator();
     try_other_tables();
     try_delays();
+    try_queue();
     try_limit();
     try_stale_plan();
     try_refusals();

@@ -7,11 +7,11 @@ use native.Mathlib.Omega.{arith}
 use borrow.Author.Tests.{ne-eqb}
 use lib.Dec.{eqb}
 use Rattle.unit.specs.declared.Refusal.{Refusal}
-use Rattle.unit.specs.declared.Refusal.the-variants.{NotSound, NoSuchTag, NoSuchSegment, NoSuchColumn, ShortWork, ShortOutput, TooManyStates, NoPlan, BadCycle, NotGranted, BadLength, BadHeader, MarkBeyondColumns, BadRecord, BadLoop, TwoMarks, BadInterval, PlaceBeyond}
+use Rattle.unit.specs.declared.Refusal.the-variants.{NotSound, NoSuchTag, NoSuchSegment, NoSuchColumn, ShortWork, ShortOutput, TooManyStates, NoPlan, BadCycle, NotGranted, BadLength, BadHeader, MarkBeyondColumns, TooManyWait, BadRecord, BadLoop, TwoMarks, BadInterval, PlaceBeyond}
 use Rattle.unit.specs.Numbers.{numberOf, refusals}
 
 -- the papers' list of numbers
-pub numbers : map numberOf refusals ≡ 1 ∷ 2 ∷ 3 ∷ 4 ∷ 5 ∷ 6 ∷ 7 ∷ 8 ∷ 9 ∷ 10 ∷ 11 ∷ 12 ∷ 13 ∷ 15 ∷ 17 ∷ 19 ∷ 20 ∷ 21 ∷ []
+pub numbers : map numberOf refusals ≡ 1 ∷ 2 ∷ 3 ∷ 4 ∷ 5 ∷ 6 ∷ 7 ∷ 8 ∷ 9 ∷ 10 ∷ 11 ∷ 12 ∷ 13 ∷ 14 ∷ 15 ∷ 17 ∷ 19 ∷ 20 ∷ 21 ∷ []
 numbers = refl
 
 -- the first of some refusals that is told by a number
@@ -39,6 +39,7 @@ numbered NotGranted = record { from = omega arith; to = omega arith; tells = ref
 numbered BadLength = record { from = omega arith; to = omega arith; tells = refl }
 numbered BadHeader = record { from = omega arith; to = omega arith; tells = refl }
 numbered MarkBeyondColumns = record { from = omega arith; to = omega arith; tells = refl }
+numbered TooManyWait = record { from = omega arith; to = omega arith; tells = refl }
 numbered BadRecord = record { from = omega arith; to = omega arith; tells = refl }
 numbered BadLoop = record { from = omega arith; to = omega arith; tells = refl }
 numbered TwoMarks = record { from = omega arith; to = omega arith; tells = refl }

@@ -14,7 +14,7 @@ same-length : tie.Need-same-length
 same-length c = search needs
 
 returns : tie.Need-returns
-returns c = let a = c .before .before .before .before .before .before .before .before .args in stepped-as (a .session) (a .event) (c .before .before .before .before .before .step .ensures) (c .before .before .before .put-answer .ensures)
+returns c = let a = c .before .before .before .before .before .before .before .before .before .args in stepped-as (a .session) (a .event) (c .before .before .before .before .before .before .step .ensures) (c .before .before .before .before .put-answer .ensures)
 
 pub step-spec : {M : Type 1} → statement M
 step-spec = tie.close (tie.spec step-requires put-answer-requires same-length returns)

@@ -1,7 +1,7 @@
 -- `console::turn` meets its contract. Assumes nothing.
 use borrow.Author.Tests.{not-true, not-false}
 use Rattle.console.specs.Turns.{unitReply, UnitNext}
-use Rattle.console.proofs.TurnLaws.{turned-none, turned-by, gives-nothing}
+use Rattle.console.proofs.TurnLaws.{turned-none, turned-by, gives-issued, gives-nothing}
 use borrow.Author.Needs.{needs}
 use Rattle.console.proofs.turn.Statement.{statement}
 use Rattle.console.proofs.turn.Tie as tie
@@ -30,6 +30,12 @@ enum-known-verb-2 c = search needs
 tell-requires : tie.Need-tell-requires
 tell-requires c κs = search needs
 
+enum-known-verb-3 : tie.Need-enum-known-verb-3
+enum-known-verb-3 c = search needs
+
+answer-requires : tie.Need-answer-requires
+answer-requires c κs = search needs
+
 enum-told : tie.Need-enum-told
 enum-told c = search needs
 
@@ -56,21 +62,28 @@ returns-3 : tie.Need-returns-3
 unfolding unitReply UnitNext
 returns-3 c = turned-by (not-false _ (c .before .before .before .before .before .before .before .if1 .left)) (c .before .before .before .before .before .verb2 .given .1) (c .before .before .tell .ensures)
 
+same-length-4 : tie.Need-same-length-4
+same-length-4 c = search needs
+
 returns-4 : tie.Need-returns-4
 unfolding unitReply UnitNext
-returns-4 c = turned-by (not-false _ (c .before .before .if1 .left)) (c .enum-told .given .1) gives-nothing
+returns-4 c = turned-by (not-false _ (c .before .before .before .before .before .before .before .if1 .left)) (c .before .before .before .before .before .verb3 .given .1) (gives-issued _ _ (c .before .before .answer .ensures))
 
 returns-5 : tie.Need-returns-5
 unfolding unitReply UnitNext
-returns-5 c = turned-by (not-false _ (c .before .before .if1 .left)) (c .enum-told2 .given .1) gives-nothing
+returns-5 c = turned-by (not-false _ (c .before .before .if1 .left)) (c .enum-told .given .1) gives-nothing
 
 returns-6 : tie.Need-returns-6
 unfolding unitReply UnitNext
-returns-6 c = turned-by (not-false _ (c .before .before .if1 .left)) (c .enum-told3 .given .1) gives-nothing
+returns-6 c = turned-by (not-false _ (c .before .before .if1 .left)) (c .enum-told2 .given .1) gives-nothing
 
 returns-7 : tie.Need-returns-7
 unfolding unitReply UnitNext
-returns-7 c = turned-by (not-false _ (c .before .before .if1 .left)) (c .enum-told4 .given .1) gives-nothing
+returns-7 c = turned-by (not-false _ (c .before .before .if1 .left)) (c .enum-told3 .given .1) gives-nothing
+
+returns-8 : tie.Need-returns-8
+unfolding unitReply UnitNext
+returns-8 c = turned-by (not-false _ (c .before .before .if1 .left)) (c .enum-told4 .given .1) gives-nothing
 
 pub turn-spec : {M : Type 1} → statement M
 turn-spec =
@@ -84,6 +97,8 @@ turn-spec =
     act-requires
     enum-known-verb-2
     tell-requires
+    enum-known-verb-3
+    answer-requires
     enum-told
     enum-told-2
     enum-told-3
@@ -92,7 +107,9 @@ turn-spec =
     returns-2
     same-length-3
     returns-3
+    same-length-4
     returns-4
     returns-5
     returns-6
-    returns-7)
+    returns-7
+    returns-8)

@@ -7,9 +7,12 @@ use Rattle.session.proofs.open.Tie as tie
 fresh-requires : tie.Need-fresh-requires
 fresh-requires c κs = search needs
 
+empty-queue-requires : tie.Need-empty-queue-requires
+empty-queue-requires c κs = search needs
+
 returns : tie.Need-returns
 unfolding freshOf
-returns c = rw (c .before .fresh .ensures)
+returns c = rw (c .before .before .fresh .ensures, c .empty-queue .ensures)
 
 pub open-spec : {M : Type 1} → statement M
-open-spec = tie.close (tie.spec fresh-requires returns)
+open-spec = tie.close (tie.spec fresh-requires empty-queue-requires returns)

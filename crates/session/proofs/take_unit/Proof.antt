@@ -13,6 +13,9 @@ enum-told c = search needs
 enum-told-2 : tie.Need-enum-told-2
 enum-told-2 c = search needs
 
+empty-queue-requires : tie.Need-empty-queue-requires
+empty-queue-requires c κs = search needs
+
 same-length : tie.Need-same-length
 same-length c = search needs
 
@@ -23,7 +26,10 @@ same-length-2 : tie.Need-same-length-2
 same-length-2 c = search needs
 
 returns-2 : tie.Need-returns-2
-returns-2 c = let a = c .before .before .before .before .before .before .before .before .args in taken-done (a .session) (a .made .unit) (c .before .enum-told2 .given .1) (c .before .before .before .before .before .put-answer .ensures)
+returns-2 c =
+    let told = c .before .before in
+    let a = told .before .before .before .before .before .before .before .args in
+    taken-done (a .session) (a .made .unit) (told .enum-told2 .given .1) (c .empty-queue .ensures) (told .before .before .before .before .put-answer .ensures)
 
 pub take-unit-spec : {M : Type 1} → statement M
 take-unit-spec =
@@ -32,6 +38,7 @@ take-unit-spec =
     put-answer-requires
     enum-told
     enum-told-2
+    empty-queue-requires
     same-length
     returns
     same-length-2
