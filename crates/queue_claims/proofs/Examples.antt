@@ -2,6 +2,7 @@
 -- condition is missing. As theorems. Assumes nothing.
 use Prim.Native.Nat.{ℕ, _+_, _*_}
 use mathlib.Core.Path.{_≡_, refl, sym, ap, _∙_}
+use mathlib.Core.Bool.{true}
 use mathlib.Core.Logic.{_↔_}
 use mathlib.Core.List.{List, [], _∷_, _++_, List·Memᴰ·head, List·Memᴰ·not-nil}
 use native.Mathlib.Omega.{arith}
@@ -13,7 +14,7 @@ use Rattle.unit.specs.declared.Answer.the-variants.{Done, Refused}
 use Rattle.unit.specs.Unit.{marked, marksInside, soundOf}
 use Rattle.unit.specs.Calls.{noPlan}
 use Rattle.unit.proofs.Laws.{never-done}
-use Rattle.collision.specs.Pipeline.{Task, Clash}
+use Rattle.collision.specs.Pipeline.{Task, Clash, Collides}
 use Rattle.collision.specs.Vector.{collides, rowWord, largestColumn}
 use Rattle.controller.specs.declared.Bank.{Bank}
 use Rattle.controller.specs.declared.Event.the-variants.{Start}
@@ -27,7 +28,8 @@ use Rattle.queue.specs.Calls.{room, arrivalAnswer, arrivalOf, arrivalList, unit
 use Rattle.queue_claims.specs.Runs.{Port, Call, Start as Begun, noStart, after, done, doneAll, idle, unitsIn, starts}
 use Rattle.queue_claims.specs.Runs.Call.{arrival, unit}
 use Rattle.queue_claims.specs.Runs.Deed.{event, call}
-use Rattle.queue_claims.specs.Claims.{delay, dueUnit, dueAt, InTurn, unitsAlone, Steady}
+use Rattle.queue_claims.specs.Claims.{OfTheMatrices, delay, dueUnit, dueAt, InTurn, unitsAlone, Steady}
+use Rattle.queue_claims.proofs.ColumnLaws.{column-of-tags}
 
 -- Figure 2
 
@@ -62,6 +64,24 @@ pair = record { functions = 1; segments = 1; columns = 2; marks = 1 ∷ 1 ∷ re
 pub pair-last : largestColumn (marked pair) ≡ 1
 unfolding pair noPlan marked someBelow collides spanBelow maxBelow largestColumn
 pair-last = refl
+
+pub pair-sound : soundOf pair ≡ true
+unfolding pair noPlan soundOf marksInside marked someBelow
+pair-sound = refl
+
+-- neither 0, since 1 is a column with a 1, nor 2, which is none
+pair-meets : Collides (marked pair) 1 1 1
+unfolding pair noPlan marked
+pair-meets = record { segment = 1; column = 1; later = refl; earlier = refl }
+
+pub not-0 : OfTheMatrices pair 0 → ⊥
+unfolding pair
+not-0 o = omega (arith, o .most 1 1 1 refl refl (omega arith) pair-meets)
+
+pub not-2 : OfTheMatrices pair 2 → ⊥
+not-2 o =
+    let m = o .reached (omega arith) in
+    omega (arith, column-of-tags pair pair-sound .most (m .0) (m .1) 2 (m .2) (m .3) (omega arith) (m .4), pair-last)
 
 -- Refusals of an arrival, in their order
 

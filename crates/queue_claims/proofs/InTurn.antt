@@ -23,7 +23,7 @@ use Rattle.queue.specs.declared.Passed.{Passed}
 use Rattle.queue.specs.declared.Passed.the-variants as Passed
 use Rattle.queue.specs.Line.{nobody, tagsInside}
 use Rattle.queue.proofs.LineLaws.{tags-take}
-use Rattle.queue.specs.Calls.{room, arrivalAnswer, passedOf}
+use Rattle.queue.specs.Calls.{room, passedOf}
 use Rattle.queue_claims.specs.Runs.{Port, Call, Deed, Start, noStart, after, done, doneAll, idle, unitsIn, startIn, starts}
 use Rattle.queue_claims.specs.Runs.Call.{arrival, unit}
 use Rattle.queue_claims.specs.Runs.Deed.{event, call}

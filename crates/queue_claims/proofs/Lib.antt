@@ -1,3 +1,4 @@
+pub mod ColumnLaws
 pub mod PassLaws
 pub mod PortLaws
 pub mod DelayLaws

@@ -1,7 +1,8 @@
 -- When a waiting task starts: within (k + 1) × (n + 1) time units, whatever arrives later.
 use Prim.Native.Nat.{ℕ, _+_, _*_, _≤_, _<_}
 use mathlib.Core.Path.{_≡_}
-use mathlib.Core.List.{List, [], _∷_, _++_}
+use mathlib.Core.Bool.{true}
+use mathlib.Core.List.{List, [], _∷_}
 use lib.Dec.{leb, ltb}
 use lib.ListN.{length, getD, take}
 use Rattle.words.specs.Below.{leastFrom}
@@ -10,14 +11,26 @@ use Rattle.unit.specs.declared.Refusal.the-variants.{NotSound, NoSuchTag, Short
 use Rattle.unit.specs.declared.Answer.the-variants.{Done}
 use Rattle.unit.specs.Unit.{inside, marked, soundOf}
 use Rattle.unit.specs.Calls.{check}
+use Rattle.collision.specs.Pipeline.{Collides}
 use Rattle.collision.specs.Vector.{largestColumn}
 use Rattle.controller.specs.declared.Bank.{Bank}
 use Rattle.controller.specs.Bank.{ticked, started, granted}
 use Rattle.queue.specs.declared.Waiting.{Waiting}
 use Rattle.queue.specs.Line.{nobody}
 use Rattle.queue.specs.Calls.{room, arrivalAnswer, unitAnswer}
-use Rattle.queue_claims.specs.Runs.{Port, Call, Deed, noStart, after, doneAll, idle, unitsIn, starts}
+use Rattle.queue_claims.specs.Runs.{Port, Call, Deed, noStart, after, brought, unitsIn, starts}
 use Rattle.queue_claims.specs.Runs.Call.{arrival, unit}
+
+-- n is `largestColumn` of the unit's table: column t of row q of the matrix M_r has a 1 where a task of q, started t after one of r, would collide with it
+
+-- n is a column with a 1 in a matrix of the unit's functions, or 0, and no column with a 1 is larger
+pub record OfTheMatrices (u : FunctionUnit) (n : ℕ) : Type 0 where
+  pub most : (q r t : ℕ) → inside q (u .functions) ≡ true → inside r (u .functions) ≡ true → 1 ≤ t → Collides (marked u) q r t → t ≤ n
+  pub reached : 1 ≤ n → (q r : ℕ) × (inside q (u .functions) ≡ true) × (inside r (u .functions) ≡ true) × Collides (marked u) q r n
+
+-- (`column-of-tags`, proofs/ColumnLaws.antt)
+abbrev pub LastColumn : Type 0
+LastColumn = (u : FunctionUnit) → soundOf u ≡ true → OfTheMatrices u (largestColumn (marked u))
 
 -- When the records that wait start, from the bank and these records alone
 
@@ -48,15 +61,15 @@ pub record InTurn (u : FunctionUnit) (p : Port) (k : ℕ) (w : Waiting) (calls :
 -- every task that waits with k ahead of it (`waits-in-turn`)
 abbrev pub WaitsInTurn : Type 0
 WaitsInTurn =
-    (u : FunctionUnit) (list : List Waiting) (deeds : List Deed) (k : ℕ) → k < doneAll u (idle list) deeds .count
-    → (calls : List Call) → InTurn u (doneAll u (idle list) deeds) k (getD (doneAll u (idle list) deeds .list) k nobody) calls
+    (u : FunctionUnit) (list : List Waiting) (deeds : List Deed) (k : ℕ) → k < brought u list deeds .count
+    → (calls : List Call) → InTurn u (brought u list deeds) k (getD (brought u list deeds .list) k nobody) calls
 
 -- and so every task from its arrival on, if that is accepted (`starts-in-turn`)
 abbrev pub StartsInTurn : Type 0
 StartsInTurn =
     (u : FunctionUnit) (list : List Waiting) (deeds : List Deed) (w : Waiting)
-    → arrivalAnswer room u (doneAll u (idle list) deeds .list) (doneAll u (idle list) deeds .count) w ≡ Done
-    → (calls : List Call) → InTurn u (after u (doneAll u (idle list) deeds) (arrival w)) (doneAll u (idle list) deeds .count) w calls
+    → arrivalAnswer room u (brought u list deeds .list) (brought u list deeds .count) w ≡ Done
+    → (calls : List Call) → InTurn u (after u (brought u list deeds) (arrival w)) (brought u list deeds .count) w calls
 
 -- Later arrivals can't alter a start
 
@@ -69,9 +82,9 @@ unitsAlone (unit ∷ calls) = unit ∷ unitsAlone calls
 -- the start of a task that waits, or that there is none yet, is the same without them (`unaltered`, proofs/InTurn.antt)
 abbrev pub Unaltered : Type 0
 Unaltered =
-    (u : FunctionUnit) (list : List Waiting) (deeds : List Deed) (k : ℕ) → k < doneAll u (idle list) deeds .count
+    (u : FunctionUnit) (list : List Waiting) (deeds : List Deed) (k : ℕ) → k < brought u list deeds .count
     → (calls : List Call)
-    → getD (starts u (doneAll u (idle list) deeds) 0 calls) k noStart ≡ getD (starts u (doneAll u (idle list) deeds) 0 (unitsAlone calls)) k noStart
+    → getD (starts u (brought u list deeds) 0 calls) k noStart ≡ getD (starts u (brought u list deeds) 0 (unitsAlone calls)) k noStart
 
 -- Refusals
 
@@ -86,4 +99,4 @@ pub record Steady (u : FunctionUnit) (p : Port) : Type 0 where
 
 -- so it is from empty on: neither a count above 32 nor a waiting tag that is not the unit's ever comes up (`stays-steady`, proofs/Steady.antt)
 abbrev pub StaysSteady : Type 0
-StaysSteady = (u : FunctionUnit) (list : List Waiting) (deeds : List Deed) → Steady u (doneAll u (idle list) deeds)
+StaysSteady = (u : FunctionUnit) (list : List Waiting) (deeds : List Deed) → Steady u (brought u list deeds)

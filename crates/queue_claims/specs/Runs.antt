@@ -35,7 +35,7 @@ after u p unit = record {
   count = passOf room u (p .bank) (p .list) (p .count) .count;
 }
 
--- Before a task arrives: events on the bank, and calls, in any order, some of them refused
+-- From empty: events on the bank, and calls, in any order, some of them refused
 
 pub data Deed : Type 0 where
   event : Event → Deed
@@ -49,11 +49,15 @@ unfoldable pub doneAll : FunctionUnit → Port → List Deed → Port
 doneAll u p [] = p
 doneAll u p (d ∷ deeds) = doneAll u (done u p d) deeds
 
--- from empty: an empty bank, and a lent list in which nothing waits
+-- empty: an empty bank, and a lent list in which nothing waits
 abbrev pub idle : List Waiting → Port
 idle list = record { bank = empty; list = list; count = 0 }
 
--- From its arrival on: calls alone
+-- bank and list brought from empty
+abbrev pub brought : FunctionUnit → List Waiting → List Deed → Port
+brought u list deeds = doneAll u (idle list) deeds
+
+-- From then on: calls alone
 
 -- how many time units pass
 unfoldable pub unitsIn : List Call → ℕ

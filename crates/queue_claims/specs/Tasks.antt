@@ -16,7 +16,7 @@ use Rattle.queue.specs.declared.Passed.{Passed}
 use Rattle.queue.specs.declared.Passed.the-variants as Passed
 use Rattle.queue.specs.Line.{tagOf}
 use Rattle.queue.specs.Calls.{room, passedOf}
-use Rattle.queue_claims.specs.Runs.{Port, Deed, done, doneAll, idle}
+use Rattle.queue_claims.specs.Runs.{Port, Deed, done, idle, brought}
 use Rattle.queue_claims.specs.Runs.Call.{arrival, unit}
 use Rattle.queue_claims.specs.Runs.Deed.{event, call}
 
@@ -67,7 +67,7 @@ eventsOf u list deeds = eventsFrom u (idle list) deeds
 abbrev pub QueuePlays : Type 0
 QueuePlays =
     (u : FunctionUnit) (list : List Waiting) (deeds : List Deed)
-    → (doneAll u (idle list) deeds .bank ≡ bankAfter u (eventsOf u list deeds))
+    → (brought u list deeds .bank ≡ bankAfter u (eventsOf u list deeds))
     × (tasksAfter u list deeds ≡ historyAfter u (eventsOf u list deeds))
 
 -- so that no segment ever serves two of the tasks in one time unit (`queue-apart`)
@@ -78,6 +78,6 @@ QueueApart = (u : FunctionUnit) (list : List Waiting) (deeds : List Deed) → Ap
 abbrev pub QueueExactly : Type 0
 QueueExactly =
     (u : FunctionUnit) (list : List Waiting) (deeds : List Deed) (w : Waiting) (line : List Waiting)
-    → take (doneAll u (idle list) deeds .count) (doneAll u (idle list) deeds .list) ≡ w ∷ line
-    → (passedOf room u (doneAll u (idle list) deeds .bank) (doneAll u (idle list) deeds .list) (doneAll u (idle list) deeds .count) ≡ Passed.Started w)
+    → take (brought u list deeds .count) (brought u list deeds .list) ≡ w ∷ line
+    → (passedOf room u (brought u list deeds .bank) (brought u list deeds .list) (brought u list deeds .count) ≡ Passed.Started w)
     ↔ Free (marked u) (taskNow (tasksAfter u list deeds) (w .tag)) (tasksAfter u list deeds .tasks)
