@@ -13,7 +13,7 @@ use Rattle.words.proofs.Tests.{and-left, and-right, and-true}
 use Rattle.unit.specs.declared.FunctionUnit.{FunctionUnit}
 use Rattle.unit.specs.Unit.{inside}
 use Rattle.queue.specs.declared.Waiting.{Waiting}
-use Rattle.queue.specs.Line.{nobody, tagsInside, forward}
+use Rattle.queue.specs.Line.{noRecord, tagsInside, forward}
 use Rattle.queue.specs.Inner.{seenOf, lookOf}
 
 and-one : (b : Bool) → b && true ≡ true && b
@@ -86,14 +86,14 @@ pub seen-none : (f : ℕ) (list : List Waiting) → seenOf 0 [] ≡ seenOf f (ta
 unfolding seenOf tagsInside
 seen-none f list = refl
 
-pub seen-more : (f : ℕ) (list : List Waiting) (j : ℕ) → j < length list → lookOf f (seenOf f (take j list)) j (getD list j nobody) ≡ seenOf f (take (suc j) list)
+pub seen-more : (f : ℕ) (list : List Waiting) (j : ℕ) → j < length list → lookOf f (seenOf f (take j list)) j (getD list j noRecord) ≡ seenOf f (take (suc j) list)
 unfolding seenOf lookOf
 seen-more f list j h = λ i. record { fit = fits i; first = firsts list j h i }
   where
-    fits : tagsInside f (take j list) && inside (getD list j nobody .tag) f ≡ tagsInside f (take (suc j) list)
-    fits = sym (ap (tagsInside f) (take-suc list j nobody h) ∙ tags-one-more f (take j list) (getD list j nobody))
+    fits : tagsInside f (take j list) && inside (getD list j noRecord .tag) f ≡ tagsInside f (take (suc j) list)
+    fits = sym (ap (tagsInside f) (take-suc list j noRecord h) ∙ tags-one-more f (take j list) (getD list j noRecord))
 
-    firsts : (list : List Waiting) (j : ℕ) → j < length list → cond (eqb j 0) (getD list j nobody) (getD (take j list) 0 nobody) ≡ getD (take (suc j) list) 0 nobody
+    firsts : (list : List Waiting) (j : ℕ) → j < length list → cond (eqb j 0) (getD list j noRecord) (getD (take j list) 0 noRecord) ≡ getD (take (suc j) list) 0 noRecord
     firsts [] j h = absurd (omega arith)
     firsts (x ∷ list) zero h = refl
     firsts (x ∷ list) (suc j) h = let e : eqb (suc j) 0 ≡ false = ne-eqb (suc j) 0 (λ z. omega arith) in simp e

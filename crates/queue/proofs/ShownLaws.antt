@@ -20,7 +20,7 @@ use Rattle.queue.specs.declared.Arrival.{Arrival}
 use Rattle.queue.specs.declared.Passed.{Passed}
 use Rattle.queue.specs.declared.Passed.the-variants as Passed
 use Rattle.queue.specs.declared.Pass.{Pass}
-use Rattle.queue.specs.Line.{nobody, tagsInside, forward}
+use Rattle.queue.specs.Line.{noRecord, tagsInside, forward}
 use Rattle.queue.specs.Calls.{arrivalBy, unitBy, arrivalAnswer, countThen, listThen, arrivalOf, arrivalList, unitAnswer, oldest, passedThen, passedOf, fewer, listAfter, passOf, passList}
 use Rattle.queue.specs.Inner.{arrivedBy, oldestBy, passBy, FirstFits, seenOf, shownOf}
 use Rattle.queue.proofs.LineLaws.{tags-first}
@@ -147,15 +147,15 @@ module _ (size : ℕ) (u : FunctionUnit) (b : Bank) (list : List Waiting) (count
   first-fits e some =
       let p = sym unit-shown ∙ e in
       let a = accepted p in
-      subst (λ (l : List Waiting). inside (getD l 0 nobody .tag) (u .functions) ≡ true) (sym (all-shown p)) (first list count some (omega (arith, a .long, a .few)) (a .tags))
+      subst (λ (l : List Waiting). inside (getD l 0 noRecord .tag) (u .functions) ≡ true) (sym (all-shown p)) (first list count some (omega (arith, a .long, a .few)) (a .tags))
     where
       first : (list : List Waiting) (count : ℕ) → 1 ≤ count → count ≤ length list → tagsInside (u .functions) (take count list) ≡ true
-          → inside (getD (take count list) 0 nobody .tag) (u .functions) ≡ true
+          → inside (getD (take count list) 0 noRecord .tag) (u .functions) ≡ true
       first list zero some l t = absurd (omega arith)
       first [] (suc count) some l t = absurd (omega arith)
       first (x ∷ list) (suc count) some l t = tags-first u x (take count list) t
 
-  oldest-first : (list : List Waiting) (count : ℕ) → count ≤ length list → oldestBy b count (getD (take count list) 0 nobody) ≡ oldest b (take count list)
+  oldest-first : (list : List Waiting) (count : ℕ) → count ≤ length list → oldestBy b count (getD (take count list) 0 noRecord) ≡ oldest b (take count list)
   unfolding oldest
   oldest-first list zero l = refl
   oldest-first [] (suc count) l = absurd (omega arith)
@@ -164,17 +164,17 @@ module _ (size : ℕ) (u : FunctionUnit) (b : Bank) (list : List Waiting) (count
   pub passed-shown : passedThen (unitBy size u (length list) count (seenOf (u .functions) line .fit)) (oldestBy b count (seenOf (u .functions) line .first)) ≡ passedOf size u b list count
   unfolding passedOf seenOf
   passed-shown =
-      ap (λ (x : Answer). passedThen x (oldestBy b count (getD line 0 nobody))) unit-shown
+      ap (λ (x : Answer). passedThen x (oldestBy b count (getD line 0 noRecord))) unit-shown
       ∙ go (unitAnswer size u list count) refl
     where
       go : (x : Answer) → unitAnswer size u list count ≡ x
-          → passedThen (unitAnswer size u list count) (oldestBy b count (getD line 0 nobody)) ≡ passedThen (unitAnswer size u list count) (oldest b (take count list))
+          → passedThen (unitAnswer size u list count) (oldestBy b count (getD line 0 noRecord)) ≡ passedThen (unitAnswer size u list count) (oldest b (take count list))
       go Done p =
           let a = accepted p in
           ap (passedThen (unitAnswer size u list count))
-          (ap (λ (l : List Waiting). oldestBy b count (getD l 0 nobody)) (all-shown p) ∙ oldest-first list count (omega (arith, a .long, a .few)))
+          (ap (λ (l : List Waiting). oldestBy b count (getD l 0 noRecord)) (all-shown p) ∙ oldest-first list count (omega (arith, a .long, a .few)))
       go (Refused why) p =
-          ap (λ (x : Answer). passedThen x (oldestBy b count (getD line 0 nobody))) p
+          ap (λ (x : Answer). passedThen x (oldestBy b count (getD line 0 noRecord))) p
           ∙ sym (ap (λ (x : Answer). passedThen x (oldest b (take count list))) p)
 
   pub pass-found : (r : Pass) → r ≡ passBy u b count (passedThen (unitBy size u (length list) count (seenOf (u .functions) line .fit)) (oldestBy b count (seenOf (u .functions) line .first)))

@@ -22,7 +22,7 @@ use Rattle.queue.specs.declared.Pass.{Pass}
 use Rattle.queue.specs.declared.Queue.{Queue}
 use Rattle.queue.specs.declared.Joined.{Joined}
 use Rattle.queue.specs.declared.Advanced.{Advanced}
-use Rattle.queue.specs.Line.{nobody, tagOf, tagsInside, forward}
+use Rattle.queue.specs.Line.{noRecord, tagOf, tagsInside, forward}
 
 -- 32 records
 abbrev pub room : ℕ
@@ -118,7 +118,7 @@ passList size u b list count = listAfter (passedOf size u b list count) list cou
 -- A queue as a value: its list has 32 records, and an arrival and a time unit answer and leave the same
 
 abbrev pub emptyQueue : Queue
-emptyQueue = record { list = replicate room nobody; count = 0 }
+emptyQueue = record { list = replicate room noRecord; count = 0 }
 
 abbrev pub joinOf : FunctionUnit → Queue → Waiting → Joined
 joinOf u q offered = record {

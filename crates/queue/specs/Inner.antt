@@ -20,7 +20,7 @@ use Rattle.queue.specs.declared.Passed.the-variants as Passed
 use Rattle.queue.specs.declared.Pass.{Pass}
 use Rattle.queue.specs.declared.Arrival.{Arrival}
 use Rattle.queue.specs.declared.Seen.{Seen}
-use Rattle.queue.specs.Line.{nobody, tagsInside}
+use Rattle.queue.specs.Line.{noRecord, tagsInside}
 use Rattle.queue.specs.Calls.{unitBy, countThen, bankThen, fewer}
 
 -- the answer so far, and, where that is done, one more test
@@ -56,7 +56,7 @@ FirstFits size u length count w fit = unitBy size u length count fit ≡ Answer.
 
 -- whether their tags are of a unit with so many functions, and the first of them
 unfoldable pub seenOf : ℕ → List Waiting → Seen
-seenOf f line = record { fit = tagsInside f line; first = getD line 0 nobody }
+seenOf f line = record { fit = tagsInside f line; first = getD line 0 noRecord }
 
 -- with one more record, at a place of the line
 unfoldable pub lookOf : ℕ → Seen → ℕ → Waiting → Seen

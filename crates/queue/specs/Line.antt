@@ -8,8 +8,8 @@ use Rattle.unit.specs.Unit.{inside}
 use Rattle.queue.specs.declared.Waiting.{Waiting}
 
 -- what stands past the end of a list
-abbrev pub nobody : Waiting
-nobody = record { tag = 0; ticket = 0 }
+abbrev pub noRecord : Waiting
+noRecord = record { tag = 0; ticket = 0 }
 
 -- the tag of a record's function
 abbrev pub tagOf : Waiting → Tag

@@ -6,7 +6,7 @@ ghost use lib.Dec.{ltb};
 ghost use mathlib.Core.List.{[]};
 ghost use Rattle.unit.specs.Unit.{inside};
 ghost use Rattle.queue.specs.Inner.{testedBy, listBy, arrivedBy, oldestBy, passBy, Startable, FirstFits, seenOf, lookOf, shownOf};
-ghost use Rattle.queue.specs.Line.{nobody, forward};
+ghost use Rattle.queue.specs.Line.{noRecord, forward};
 ghost use Rattle.queue.specs.Calls.{room, arrivalBy, arrivalOf, unitBy, passedThen, arrivalList, passOf, passList, emptyQueue, joinOf, advanceOf};
 ghost use Prim.Native.Nat.{_≤_, _<_};
 ghost use lib.ListN.{length, take, getD};
@@ -285,7 +285,7 @@ fn unseen() -> Seen
 // The removal at the front: the first of the records that wait leaves, and the others move one place forward.
 fn remove_first(list: &mut [Waiting], count: usize) -> Waiting
     requires { ⌜ (1 ≤ count) × (count ≤ length (now list)) ⌝ }
-    ensures { λ r. ⌜ (r ≡ getD (now (list .entry)) 0 nobody) × (now (list .exit) ≡ forward (now (list .entry)) count) ⌝ }
+    ensures { λ r. ⌜ (r ≡ getD (now (list .entry)) 0 noRecord) × (now (list .exit) ≡ forward (now (list .entry)) count) ⌝ }
 {
     let first = list[0];
     let mut i = 1;

@@ -23,11 +23,11 @@ use Rattle.controller.specs.History.{bankAfter, Free, Apart, played}
 use Rattle.controller.proofs.Examples.{figure2}
 use Rattle.queue.specs.declared.Waiting.{Waiting}
 use Rattle.queue.specs.declared.Passed.the-variants as Passed
-use Rattle.queue.specs.Line.{nobody, tagsInside, forward}
+use Rattle.queue.specs.Line.{noRecord, tagsInside, forward}
 use Rattle.queue.specs.Calls.{room, arrivalAnswer, arrivalOf, arrivalList, unitAnswer, oldest, passedOf, passOf, passList}
-use Rattle.queue_claims.specs.Runs.{Port, Call, Start as Begun, noStart, after, done, doneAll, idle, unitsIn, starts}
+use Rattle.queue_claims.specs.Runs.{Port, Call, Start as Begun, noStart, after, done, doneAll, emptyPort, unitsIn, starts}
 use Rattle.queue_claims.specs.Runs.Call.{arrival, unit}
-use Rattle.queue_claims.specs.Runs.Deed.{event, call}
+use Rattle.queue_claims.specs.Runs.Action.{event, call}
 use Rattle.queue_claims.specs.Claims.{OfTheMatrices, delay, dueUnit, dueAt, InTurn, unitsAlone, Steady}
 use Rattle.queue_claims.proofs.ColumnLaws.{column-of-tags}
 
@@ -50,7 +50,7 @@ unfolding figure2 noPlan marked someBelow rowFor rowWord wordBelow collides regi
 figure2-due = refl
 
 -- the same by the calls, with a B that arrives meanwhile
-pub figure2-starts : starts figure2 (idle (replicate 32 nobody)) 0
+pub figure2-starts : starts figure2 (emptyPort (replicate 32 noRecord)) 0
     (arrival a ∷ arrival a ∷ arrival a ∷ unit ∷ arrival b ∷ unit ∷ unit ∷ unit ∷ unit ∷ unit ∷ [])
     ≡ record { task = a; unit = 1 } ∷ record { task = a; unit = 2 } ∷ record { task = a; unit = 6 } ∷ []
 unfolding figure2 noPlan soundOf marksInside marked someBelow rowFor rowWord wordBelow collides register eventAnswer moved stepOf tagsInside forward arrivalAnswer arrivalOf arrivalList unitAnswer oldest passedOf passOf passList after starts
@@ -86,14 +86,14 @@ not-2 o =
 -- Refusals of an arrival, in their order
 
 abbrev none : List Waiting
-none = replicate 32 nobody
+none = replicate 32 noRecord
 
 pub unit-first : arrivalAnswer room (record { functions = 0; segments = 1; columns = 2; marks = replicate 128 0; plan = noPlan }) [] 33 b ≡ Refused NotSound
 unfolding noPlan soundOf marksInside marked someBelow arrivalAnswer
 unit-first = refl
 
 -- 6 before 2
-pub list-of-31 : arrivalAnswer room pair (replicate 31 nobody) 33 b ≡ Refused ShortOutput
+pub list-of-31 : arrivalAnswer room pair (replicate 31 noRecord) 33 b ≡ Refused ShortOutput
 unfolding pair noPlan soundOf marksInside marked someBelow arrivalAnswer
 list-of-31 = refl
 
@@ -139,24 +139,24 @@ unit-with-strange-tag = refl
 abbrev c : Waiting
 c = record { tag = 3; ticket = 3 }
 
-pub moved-forward : forward (a ∷ b ∷ c ∷ nobody ∷ []) 3 ≡ b ∷ c ∷ c ∷ nobody ∷ []
+pub moved-forward : forward (a ∷ b ∷ c ∷ noRecord ∷ []) 3 ≡ b ∷ c ∷ c ∷ noRecord ∷ []
 unfolding forward
 moved-forward = refl
 
 -- the place that is freed is not cleared
-pub not-cleared : forward (a ∷ b ∷ c ∷ nobody ∷ []) 3 ≡ b ∷ c ∷ nobody ∷ nobody ∷ [] → ⊥
+pub not-cleared : forward (a ∷ b ∷ c ∷ noRecord ∷ []) 3 ≡ b ∷ c ∷ noRecord ∷ noRecord ∷ [] → ⊥
 unfolding forward
-not-cleared e = let z : _≡_ {A = ℕ} 3 0 = ap (λ (l : List Waiting). getD l 2 nobody .tag) e in absurd (omega arith)
+not-cleared e = let z : _≡_ {A = ℕ} 3 0 = ap (λ (l : List Waiting). getD l 2 noRecord .tag) e in absurd (omega arith)
 
 -- The claims at their limit, and what they do not hold of
 
 -- one start by hand, and then an arrival: it starts in unit 2, which is (0 + 1) × (1 + 1)
-pub tight : dueAt pair (doneAll pair (idle none) (event (Start (record { 0 = 1 })) ∷ call (arrival a) ∷ [])) 0 ≡ (0 + 1) * (largestColumn (marked pair) + 1)
+pub tight : dueAt pair (doneAll pair (emptyPort none) (event (Start (record { 0 = 1 })) ∷ call (arrival a) ∷ [])) 0 ≡ (0 + 1) * (largestColumn (marked pair) + 1)
 unfolding pair noPlan soundOf marksInside marked someBelow rowFor rowWord wordBelow collides register eventAnswer moved stepOf tagsInside arrivalAnswer arrivalOf arrivalList spanBelow maxBelow largestColumn leastFrom delay dueUnit after done doneAll
 tight = refl
 
 -- it waits there, so that the claim speaks of it
-pub waits-there : doneAll pair (idle none) (event (Start (record { 0 = 1 })) ∷ call (arrival a) ∷ []) .count ≡ 1
+pub waits-there : doneAll pair (emptyPort none) (event (Start (record { 0 = 1 })) ∷ call (arrival a) ∷ []) .count ≡ 1
 unfolding pair noPlan soundOf marksInside marked someBelow tagsInside arrivalAnswer arrivalOf after done doneAll
 waits-there = refl
 

@@ -19,9 +19,9 @@ use Rattle.queue.specs.declared.Passed.the-variants as Passed
 use Rattle.queue.specs.Line.{tagsInside}
 use Rattle.queue.specs.Calls.{room, arrivalAnswer, countThen, listThen, arrivalOf, arrivalList, unitAnswer, passedOf, fewer, listAfter, passOf, passList}
 use Rattle.queue.proofs.LineLaws.{tags-rest, tags-joined, set-line, forward-length, forward-line}
-use Rattle.queue_claims.specs.Runs.{Port, Deed, after, done, doneAll, idle}
+use Rattle.queue_claims.specs.Runs.{Port, Action, after, done, doneAll, emptyPort}
 use Rattle.queue_claims.specs.Runs.Call.{arrival, unit}
-use Rattle.queue_claims.specs.Runs.Deed.{event, call}
+use Rattle.queue_claims.specs.Runs.Action.{event, call}
 use Rattle.queue_claims.specs.Claims.{StaysSteady}
 use Rattle.queue_claims.proofs.PassLaws.{arrival-accepted, unit-accepted, was-started}
 
@@ -33,9 +33,9 @@ pub record Held (u : FunctionUnit) (list : List Waiting) (count : ℕ) : Type 0 
   pub tags : tagsInside (u .functions) (take count list) ≡ true
 
 module _ (u : FunctionUnit) where
-  held-idle : (list : List Waiting) → Held u list 0
+  held-empty : (list : List Waiting) → Held u list 0
   unfolding tagsInside
-  held-idle list = record { sound = λ h. absurd (omega arith); long = λ h. absurd (omega arith); few = omega arith; tags = refl }
+  held-empty list = record { sound = λ h. absurd (omega arith); long = λ h. absurd (omega arith); few = omega arith; tags = refl }
 
   held-arrival : (p : Port) (w : Waiting) → Held u (p .list) (p .count) → Held u (after u p (arrival w) .list) (after u p (arrival w) .count)
   unfolding after arrivalOf arrivalList
@@ -73,19 +73,19 @@ module _ (u : FunctionUnit) where
                 (tags-rest u w (s .line) (subst (λ (x : List Waiting). tagsInside (u .functions) x ≡ true) (s .first) (a .tags)));
           }
 
-  held-done : (p : Port) (d : Deed) → Held u (p .list) (p .count) → Held u (done u p d .list) (done u p d .count)
+  held-done : (p : Port) (d : Action) → Held u (p .list) (p .count) → Held u (done u p d .list) (done u p d .count)
   unfolding done
   held-done p (event e) h = h
   held-done p (call (arrival w)) h = held-arrival p w h
   held-done p (call unit) h = held-unit p h
 
-  held-all : (deeds : List Deed) (p : Port) → Held u (p .list) (p .count) → Held u (doneAll u p deeds .list) (doneAll u p deeds .count)
+  held-all : (actions : List Action) (p : Port) → Held u (p .list) (p .count) → Held u (doneAll u p actions .list) (doneAll u p actions .count)
   unfolding doneAll
   held-all [] p h = h
-  held-all (d ∷ deeds) p h = held-all deeds (done u p d) (held-done p d h)
+  held-all (d ∷ actions) p h = held-all actions (done u p d) (held-done p d h)
 
-  pub held : (list : List Waiting) (deeds : List Deed) → Held u (doneAll u (idle list) deeds .list) (doneAll u (idle list) deeds .count)
-  held list deeds = held-all deeds (idle list) (held-idle list)
+  pub held : (list : List Waiting) (actions : List Action) → Held u (doneAll u (emptyPort list) actions .list) (doneAll u (emptyPort list) actions .count)
+  held list actions = held-all actions (emptyPort list) (held-empty list)
 
   -- so that the tests of the count and of the tags that wait always pass
 
@@ -106,7 +106,7 @@ module _ (u : FunctionUnit) where
   waits-accepted list count h l = units list count h ∙ simp (h .sound l, le-leb room (length list) (h .long l))
 
 pub stays-steady : StaysSteady
-stays-steady u list deeds =
-    let p = doneAll u (idle list) deeds in
-    let h = held u list deeds in
+stays-steady u list actions =
+    let p = doneAll u (emptyPort list) actions in
+    let h = held u list actions in
     record { units = units u (p .list) (p .count) h; arrivals = λ w. arrivals u (p .list) (p .count) w h }

@@ -1,4 +1,4 @@
--- The queue's deeds are the controller's events, so that its theorems hold of the tasks that the queue starts. Assumes nothing.
+-- The queue's actions are the controller's events, so that its theorems hold of the tasks that the queue starts. Assumes nothing.
 use Prim.Native.Nat.{ℕ, suc, _+_, _≤_}
 use mathlib.Core.Path.{_≡_, refl, ap, _∙_, sym, subst}
 use mathlib.Core.Bool.{true, false}
@@ -23,15 +23,15 @@ use Rattle.queue.specs.declared.Passed.{Passed}
 use Rattle.queue.specs.declared.Passed.the-variants as Passed
 use Rattle.queue.specs.Line.{tagOf, tagsInside}
 use Rattle.queue.specs.Calls.{room, passedOf, bankThen, passOf}
-use Rattle.queue_claims.specs.Runs.{Port, Deed, after, done, doneAll, idle}
+use Rattle.queue_claims.specs.Runs.{Port, Action, after, done, doneAll, emptyPort}
 use Rattle.queue_claims.specs.Runs.Call.{arrival, unit}
-use Rattle.queue_claims.specs.Runs.Deed.{event, call}
-use Rattle.queue_claims.specs.Tasks.{unitThen, historyNext, historyFrom, unitEvents, deedEvents, eventsFrom, eventsOf, QueuePlays, QueueApart, QueueExactly}
+use Rattle.queue_claims.specs.Runs.Action.{event, call}
+use Rattle.queue_claims.specs.Tasks.{unitThen, historyNext, historyFrom, unitEvents, actionEvents, eventsFrom, eventsOf, QueuePlays, QueueApart, QueueExactly}
 use Rattle.queue.proofs.LineLaws.{tags-first}
 use Rattle.queue_claims.proofs.PassLaws.{unit-accepted, was-started, was-idle, granted-started}
 use Rattle.queue_claims.proofs.Steady.{held, waits-accepted}
 
--- One deed
+-- One action
 
 played-joined : (u : FunctionUnit) (c : Course) (one two : List Event) → played u c (one ++ two) ≡ played u (played u c one) two
 unfolding played
@@ -58,7 +58,7 @@ started-answered u b list count w e =
     start-answered u b (tagOf w) (a .sound) (tags-first u w (s .line) t) (s .granted)
 
 module _ (u : FunctionUnit) where
-  unit-plays : (p : Port) (h : History) → played u (at p h) (deedEvents u p (call unit)) ≡ at (done u p (call unit)) (historyNext u p h (call unit))
+  unit-plays : (p : Port) (h : History) → played u (at p h) (actionEvents u p (call unit)) ≡ at (done u p (call unit)) (historyNext u p h (call unit))
   unfolding done after passOf historyNext played
   unit-plays p h = go (passedOf room u (p .bank) (p .list) (p .count)) refl
     where
@@ -70,19 +70,19 @@ module _ (u : FunctionUnit) where
           accepted-next u (at p h) Tick (tick-answered u (a .sound) (p .bank))
       go (Passed.Refused why) e = refl
 
-  deed-plays : (p : Port) (h : History) (d : Deed) → played u (at p h) (deedEvents u p d) ≡ at (done u p d) (historyNext u p h d)
+  action-plays : (p : Port) (h : History) (d : Action) → played u (at p h) (actionEvents u p d) ≡ at (done u p d) (historyNext u p h d)
   unfolding done after historyNext played
-  deed-plays p h (event e) = refl
-  deed-plays p h (call (arrival w)) = refl
-  deed-plays p h (call unit) = unit-plays p h
+  action-plays p h (event e) = refl
+  action-plays p h (call (arrival w)) = refl
+  action-plays p h (call unit) = unit-plays p h
 
-  deeds-play : (deeds : List Deed) (p : Port) (h : History) → played u (at p h) (eventsFrom u p deeds) ≡ at (doneAll u p deeds) (historyFrom u p h deeds)
+  actions-play : (actions : List Action) (p : Port) (h : History) → played u (at p h) (eventsFrom u p actions) ≡ at (doneAll u p actions) (historyFrom u p h actions)
   unfolding doneAll historyFrom eventsFrom played
-  deeds-play [] p h = refl
-  deeds-play (d ∷ deeds) p h =
-      played-joined u (at p h) (deedEvents u p d) (eventsFrom u (done u p d) deeds)
-      ∙ ap (λ (c : Course). played u c (eventsFrom u (done u p d) deeds)) (deed-plays p h d)
-      ∙ deeds-play deeds (done u p d) (historyNext u p h d)
+  actions-play [] p h = refl
+  actions-play (d ∷ actions) p h =
+      played-joined u (at p h) (actionEvents u p d) (eventsFrom u (done u p d) actions)
+      ∙ ap (λ (c : Course). played u c (eventsFrom u (done u p d) actions)) (action-plays p h d)
+      ∙ actions-play actions (done u p d) (historyNext u p h d)
 
 -- A unit that is not sound: every event is refused
 
@@ -99,8 +99,8 @@ unsound-played u f (e ∷ events) c = unsound-played u f events (next u c e) ∙
 -- The claims
 
 pub queue-plays : QueuePlays
-queue-plays u list deeds =
-    let e = sym (deeds-play u deeds (idle list) (outset .history)) in
+queue-plays u list actions =
+    let e = sym (actions-play u actions (emptyPort list) (outset .history)) in
     (ap (λ (c : Course). c .bank) e, ap (λ (c : Course). c .history) e)
 
 all-apart : (u : FunctionUnit) (events : List Event) → Apart (marked u) (historyAfter u events .tasks)
@@ -109,19 +109,19 @@ all-apart u events = by-test (soundOf u)
     (λ f. subst (λ (c : Course). Apart (marked u) (c .history .tasks)) (sym (unsound-played u f events outset)) tt)
 
 pub queue-apart : QueueApart
-queue-apart u list deeds =
-    subst (λ (h : History). Apart (marked u) (h .tasks)) (sym (queue-plays u list deeds .1)) (all-apart u (eventsOf u list deeds))
+queue-apart u list actions =
+    subst (λ (h : History). Apart (marked u) (h .tasks)) (sym (queue-plays u list actions .1)) (all-apart u (eventsOf u list actions))
 
 pub queue-exactly : QueueExactly
-queue-exactly u list deeds w line e =
-    let p = doneAll u (idle list) deeds in
-    let d = held u list deeds in
+queue-exactly u list actions w line e =
+    let p = doneAll u (emptyPort list) actions in
+    let d = held u list actions in
     let m : length (take (p .count) (p .list)) ≡ suc (length line) = ap length e in
     let some : 1 ≤ p .count = omega (arith, length-take (p .count) (p .list)) in
     let t : tagsInside (u .functions) (w ∷ line) ≡ true = subst (λ (l : List Waiting). tagsInside (u .functions) l ≡ true) e (d .tags) in
-    let x = granted-exactly u (d .sound some) (eventsOf u list deeds) (tagOf w) (tags-first u w line t) in
-    let b = queue-plays u list deeds .0 in
-    let h = queue-plays u list deeds .1 in (
+    let x = granted-exactly u (d .sound some) (eventsOf u list actions) (tagOf w) (tags-first u w line t) in
+    let b = queue-plays u list actions .0 in
+    let h = queue-plays u list actions .1 in (
       λ s. subst (λ (g : History). Free (marked u) (taskNow g (w .tag)) (g .tasks)) (sym h)
           (x .0 (subst (λ (c : Bank). eventAnswer u c (Start (tagOf w)) ≡ Done) b (started-answered u (p .bank) (p .list) (p .count) w s))),
       λ f. granted-started room u (p .bank) (p .list) (p .count) w line (waits-accepted u (p .list) (p .count) d some) e

@@ -16,9 +16,9 @@ use Rattle.collision.specs.Vector.{largestColumn}
 use Rattle.controller.specs.declared.Bank.{Bank}
 use Rattle.controller.specs.Bank.{ticked, started, granted}
 use Rattle.queue.specs.declared.Waiting.{Waiting}
-use Rattle.queue.specs.Line.{nobody}
+use Rattle.queue.specs.Line.{noRecord}
 use Rattle.queue.specs.Calls.{room, arrivalAnswer, unitAnswer}
-use Rattle.queue_claims.specs.Runs.{Port, Call, Deed, noStart, after, brought, unitsIn, starts}
+use Rattle.queue_claims.specs.Runs.{Port, Call, Action, noStart, after, brought, unitsIn, starts}
 use Rattle.queue_claims.specs.Runs.Call.{arrival, unit}
 
 -- n is `largestColumn` of the unit's table: column t of row q of the matrix M_r has a 1 where a task of q, started t after one of r, would collide with it
@@ -61,15 +61,15 @@ pub record InTurn (u : FunctionUnit) (p : Port) (k : ℕ) (w : Waiting) (calls :
 -- every task that waits with k ahead of it (`waits-in-turn`)
 abbrev pub WaitsInTurn : Type 0
 WaitsInTurn =
-    (u : FunctionUnit) (list : List Waiting) (deeds : List Deed) (k : ℕ) → k < brought u list deeds .count
-    → (calls : List Call) → InTurn u (brought u list deeds) k (getD (brought u list deeds .list) k nobody) calls
+    (u : FunctionUnit) (list : List Waiting) (actions : List Action) (k : ℕ) → k < brought u list actions .count
+    → (calls : List Call) → InTurn u (brought u list actions) k (getD (brought u list actions .list) k noRecord) calls
 
 -- and so every task from its arrival on, if that is accepted (`starts-in-turn`)
 abbrev pub StartsInTurn : Type 0
 StartsInTurn =
-    (u : FunctionUnit) (list : List Waiting) (deeds : List Deed) (w : Waiting)
-    → arrivalAnswer room u (brought u list deeds .list) (brought u list deeds .count) w ≡ Done
-    → (calls : List Call) → InTurn u (after u (brought u list deeds) (arrival w)) (brought u list deeds .count) w calls
+    (u : FunctionUnit) (list : List Waiting) (actions : List Action) (w : Waiting)
+    → arrivalAnswer room u (brought u list actions .list) (brought u list actions .count) w ≡ Done
+    → (calls : List Call) → InTurn u (after u (brought u list actions) (arrival w)) (brought u list actions .count) w calls
 
 -- Later arrivals can't alter a start
 
@@ -82,9 +82,9 @@ unitsAlone (unit ∷ calls) = unit ∷ unitsAlone calls
 -- the start of a task that waits, or that there is none yet, is the same without them (`unaltered`, proofs/InTurn.antt)
 abbrev pub Unaltered : Type 0
 Unaltered =
-    (u : FunctionUnit) (list : List Waiting) (deeds : List Deed) (k : ℕ) → k < brought u list deeds .count
+    (u : FunctionUnit) (list : List Waiting) (actions : List Action) (k : ℕ) → k < brought u list actions .count
     → (calls : List Call)
-    → getD (starts u (brought u list deeds) 0 calls) k noStart ≡ getD (starts u (brought u list deeds) 0 (unitsAlone calls)) k noStart
+    → getD (starts u (brought u list actions) 0 calls) k noStart ≡ getD (starts u (brought u list actions) 0 (unitsAlone calls)) k noStart
 
 -- Refusals
 
@@ -99,4 +99,4 @@ pub record Steady (u : FunctionUnit) (p : Port) : Type 0 where
 
 -- so it is from empty on: neither a count above 32 nor a waiting tag that is not the unit's ever comes up (`stays-steady`, proofs/Steady.antt)
 abbrev pub StaysSteady : Type 0
-StaysSteady = (u : FunctionUnit) (list : List Waiting) (deeds : List Deed) → Steady u (brought u list deeds)
+StaysSteady = (u : FunctionUnit) (list : List Waiting) (actions : List Action) → Steady u (brought u list actions)

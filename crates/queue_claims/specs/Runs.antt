@@ -8,7 +8,7 @@ use Rattle.controller.specs.Bank.{empty, stepOf}
 use Rattle.queue.specs.declared.Waiting.{Waiting}
 use Rattle.queue.specs.declared.Passed.{Passed}
 use Rattle.queue.specs.declared.Passed.the-variants as Passed
-use Rattle.queue.specs.Line.{nobody}
+use Rattle.queue.specs.Line.{noRecord}
 use Rattle.queue.specs.Calls.{room, arrivalOf, arrivalList, passedOf, passOf, passList}
 
 -- what is handed from call to call
@@ -37,25 +37,25 @@ after u p unit = record {
 
 -- From empty: events on the bank, and calls, in any order, some of them refused
 
-pub data Deed : Type 0 where
-  event : Event → Deed
-  call : Call → Deed
+pub data Action : Type 0 where
+  event : Event → Action
+  call : Call → Action
 
-unfoldable pub done : FunctionUnit → Port → Deed → Port
+unfoldable pub done : FunctionUnit → Port → Action → Port
 done u p (event e) = record { bank = stepOf u (p .bank) e .bank; list = p .list; count = p .count }
 done u p (call k) = after u p k
 
-unfoldable pub doneAll : FunctionUnit → Port → List Deed → Port
+unfoldable pub doneAll : FunctionUnit → Port → List Action → Port
 doneAll u p [] = p
-doneAll u p (d ∷ deeds) = doneAll u (done u p d) deeds
+doneAll u p (d ∷ actions) = doneAll u (done u p d) actions
 
 -- empty: an empty bank, and a lent list in which nothing waits
-abbrev pub idle : List Waiting → Port
-idle list = record { bank = empty; list = list; count = 0 }
+abbrev pub emptyPort : List Waiting → Port
+emptyPort list = record { bank = empty; list = list; count = 0 }
 
 -- bank and list brought from empty
-abbrev pub brought : FunctionUnit → List Waiting → List Deed → Port
-brought u list deeds = doneAll u (idle list) deeds
+abbrev pub brought : FunctionUnit → List Waiting → List Action → Port
+brought u list actions = doneAll u (emptyPort list) actions
 
 -- From then on: calls alone
 
@@ -72,7 +72,7 @@ pub record Start : Type 0 where
 
 -- what stands past the end of the starts
 abbrev pub noStart : Start
-noStart = record { task = nobody; unit = 0 }
+noStart = record { task = noRecord; unit = 0 }
 
 abbrev pub startIn : Passed → ℕ → List Start
 startIn (Passed.Started w) n = record { task = w; unit = n } ∷ []

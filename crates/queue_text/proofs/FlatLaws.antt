@@ -7,7 +7,7 @@ use native.Mathlib.Omega.{arith}
 use lib.ListN.{length, getD, take, set, length-set}
 use lib.Seq.{take-suc, take-suc-set, take-all}
 use Rattle.queue.specs.declared.Waiting.{Waiting}
-use Rattle.queue.specs.Line.{nobody}
+use Rattle.queue.specs.Line.{noRecord}
 use Rattle.queue_text.specs.Told.{flat}
 
 pub flat-more : (line : List Waiting) (w : Waiting) → flat (line ++ w ∷ []) ≡ flat line ++ w .tag ∷ w .ticket ∷ []
@@ -22,9 +22,9 @@ flat-length (w ∷ line) = omega (arith, flat-length line)
 
 -- one more record
 pub flat-step : (numbers : List ℕ) (list : List Waiting) (i : ℕ) → take (2 * i) numbers ≡ flat (take i list) → 2 * i + 1 < length numbers → i < length list
-    → take (2 * (i + 1)) (set (set numbers (2 * i) (getD list i nobody .tag)) (2 * i + 1) (getD list i nobody .ticket)) ≡ flat (take (i + 1) list)
+    → take (2 * (i + 1)) (set (set numbers (2 * i) (getD list i noRecord .tag)) (2 * i + 1) (getD list i noRecord .ticket)) ≡ flat (take (i + 1) list)
 flat-step numbers list i e h l =
-    let w : Waiting = getD list i nobody in
+    let w : Waiting = getD list i noRecord in
     let even : List ℕ = set numbers (2 * i) (w .tag) in
     let n : 2 * (i + 1) ≡ suc (2 * i + 1) = omega arith in
     let m : 2 * i + 1 ≡ suc (2 * i) = omega arith in
@@ -35,7 +35,7 @@ flat-step numbers list i e h l =
     ∙ ap (λ (x : List ℕ). x ++ w .ticket ∷ []) (take-suc-set numbers (2 * i) (w .tag) (omega arith) ∙ ap (λ (x : List ℕ). x ++ w .tag ∷ []) e)
     ∙ append-assoc (flat (take i list)) (w .tag ∷ []) (w .ticket ∷ [])
     ∙ sym (flat-more (take i list) w)
-    ∙ ap flat (sym (take-suc list i nobody l))
+    ∙ ap flat (sym (take-suc list i noRecord l))
     ∙ ap (λ (x : ℕ). flat (take x list)) k
 
 -- no more records wait than the list has

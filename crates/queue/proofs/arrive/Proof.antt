@@ -49,7 +49,7 @@ use denote.Exit.{yes}
 use Rattle.unit.specs.declared.FunctionUnit.{FunctionUnit}
 use Rattle.unit.proofs.FunctionUnit as U
 use Rattle.unit.proofs.FunctionUnit.Laws as U′
-use Rattle.queue.specs.Line.{nobody as none}
+use Rattle.queue.specs.Line.{noRecord as none}
 use Rattle.queue.specs.Calls.{arrivalBy, arrivalOf, arrivalList}
 use Rattle.queue.specs.Inner.{arrivedBy, seenOf, shownOf}
 use Rattle.queue.specs.declared.Waiting.{Waiting}

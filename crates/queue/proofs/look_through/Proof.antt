@@ -5,7 +5,7 @@ use native.Mathlib.Omega.{arith}
 use borrow.Author.Needs.{needs}
 use lib.ListN.{length, take, getD}
 use Rattle.queue.specs.declared.Seen.{Seen}
-use Rattle.queue.specs.Line.{nobody}
+use Rattle.queue.specs.Line.{noRecord}
 use Rattle.queue.specs.Inner.{seenOf, lookOf}
 use Rattle.queue.proofs.LineLaws.{seen-none, seen-more}
 use Rattle.queue.proofs.look_through.Statement.{statement}
@@ -50,7 +50,7 @@ loop-again c =
     let e : suc (l .place) ≡ l .place + 1 = omega arith in
     let h : l .place < length (a .t1) = omega (arith, n, c .before .before .loop-test .taken) in (
       c .look .ensures
-          ∙ ap (λ (x : Seen). lookOf (a .functions) x (l .place) (getD (a .t1) (l .place) nobody)) (l .inv .0)
+          ∙ ap (λ (x : Seen). lookOf (a .functions) x (l .place) (getD (a .t1) (l .place) noRecord)) (l .inv .0)
           ∙ seen-more (a .functions) (a .t1) (l .place) h
           ∙ ap (λ k. seenOf (a .functions) (take k (a .t1))) e,
       search needs,

@@ -6,7 +6,7 @@ use borrow.Author.Needs.{needs}
 use mathlib.Core.List.{List}
 use lib.ListN.{length, set, getD}
 use Rattle.queue.specs.declared.Waiting.{Waiting}
-use Rattle.queue.specs.Line.{nobody, forward}
+use Rattle.queue.specs.Line.{noRecord, forward}
 use Rattle.queue.proofs.Shift.{shift, shift-step}
 use Rattle.queue.proofs.moved_up.Statement.{statement}
 use Rattle.queue.proofs.moved_up.Tie as tie
@@ -51,9 +51,9 @@ loop-again c =
     let s : suc (l .from - 1) ≡ l .from = omega (arith, l .inv .1) in
     let e : l .from + 1 - 1 ≡ suc (l .from - 1) = omega (arith, l .inv .1) in
     let h : suc (l .from - 1) < length (a .list) = omega (arith, n, c .before .loop-test .taken) in (
-      ap (λ (x : List Waiting). set x (l .from - 1) (getD x (l .from) nobody)) (l .inv .0)
-          ∙ ap (λ k. set (shift (a .list) (l .from - 1)) (l .from - 1) (getD (shift (a .list) (l .from - 1)) k nobody)) (sym s)
-          ∙ shift-step (a .list) (l .from - 1) nobody h
+      ap (λ (x : List Waiting). set x (l .from - 1) (getD x (l .from) noRecord)) (l .inv .0)
+          ∙ ap (λ k. set (shift (a .list) (l .from - 1)) (l .from - 1) (getD (shift (a .list) (l .from - 1)) k noRecord)) (sym s)
+          ∙ shift-step (a .list) (l .from - 1) noRecord h
           ∙ ap (shift (a .list)) (sym e),
       search needs,
       search needs,

@@ -46,7 +46,7 @@ use denote.Triple.Spec.{Meets, tripleOf}
 use denote.Triple.Table.{entered}
 use denote.Triple.Walked.{says, needs, Stays, stay-slice, stay-none, walkOf, AllGo, goes-slice, goes-none, Walks, ends-at, walked, walk-meets}
 use denote.Exit.{yes}
-use Rattle.queue.specs.Line.{nobody as none, forward}
+use Rattle.queue.specs.Line.{noRecord as none, forward}
 use Rattle.queue.specs.declared.Waiting.{Waiting}
 use Rattle.queue.proofs.Waiting as T
 use Rattle.queue.proofs.Waiting.Laws as T′

@@ -52,7 +52,7 @@ use Rattle.unit.proofs.FunctionUnit.Laws as U′
 use Rattle.controller.specs.declared.Bank.{Bank}
 use Rattle.controller.proofs.Bank as B
 use Rattle.controller.proofs.Bank.Laws as B′
-use Rattle.queue.specs.Line.{nobody, forward}
+use Rattle.queue.specs.Line.{noRecord, forward}
 use Rattle.queue.specs.Calls.{unitBy, passedThen, passOf, passList}
 use Rattle.queue.specs.Inner.{oldestBy, passBy, seenOf, shownOf}
 use Rattle.queue.specs.declared.Waiting.{Waiting}
@@ -221,7 +221,7 @@ module _ {M : Type 1} (𝓤 : URA M) (H : Heap 𝓤) (A : Atoms 𝓤) (W : Given
       nothing ! $ owned ! usize (Is usize) (uint-makes 𝓤 H A W w64) i _ (refl, i-fits) $ fjoin ! $ move ! (1 ∷ 0 ∷ []) $ fjoin ! $ done !
 
   abbrev Removed : Waiting → List Waiting → Type 0
-  Removed r zs = (r ≡ getD ys 0 nobody) × (zs ≡ forward ys i)
+  Removed r zs = (r ≡ getD ys 0 noRecord) × (zs ≡ forward ys i)
 
   module _ (C : Calls 𝓤 H) (Λ : Loops 𝓤 H) (fm : FmC 𝓤 H (W .laws) C) (known-shown : Triple 𝓤 (C #queue·shown) (Shown 𝓤 H A at-mem run)) (known-over : Triple 𝓤 (C #queue·look-over) (Over 𝓤 H A at-mem run))
       (known-passing : Triple 𝓤 (C #queue·passing) (Passing 𝓤 H A at-mem run)) (known-removing : Triple 𝓤 (C #queue·remove-first) (Removing 𝓤 H A at-mem run)) where
