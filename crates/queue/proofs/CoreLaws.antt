@@ -1,19 +1,16 @@
 -- What the tests and the tries by value say. Assumes nothing.
-use Prim.Native.Nat.{ℕ, _-_, _<_}
+use Prim.Native.Nat.{ℕ, _-_}
 use mathlib.Core.Path.{_≡_, refl, ap, _∙_, sym}
 use mathlib.Core.Bool.{Bool, true, false, cond}
 use native.Mathlib.Omega.{arith}
-use lib.Dec.{leb, ltb, eqb}
-use lib.ListN.{length}
-use borrow.Author.Tests.{ltb-true, ne-eqb, eq-eqb}
+use lib.Dec.{eqb}
+use borrow.Author.Tests.{ne-eqb, eq-eqb}
 use Rattle.words.proofs.Tests.{by-test}
 use Rattle.unit.specs.declared.FunctionUnit.{FunctionUnit}
 use Rattle.unit.specs.declared.Refusal.{Refusal}
-use Rattle.unit.specs.declared.Refusal.the-variants.{NotSound, NoSuchTag, ShortOutput, TooManyWait}
 use Rattle.unit.specs.declared.Answer.the-variants.{Done, Refused}
-use Rattle.unit.specs.Unit.{inside, soundOf}
 use Rattle.unit.specs.Calls.{check}
-use Rattle.unit.proofs.Laws.{check-ok, check-next, never-done}
+use Rattle.unit.proofs.Laws.{never-done}
 use Rattle.controller.specs.declared.Bank.{Bank}
 use Rattle.controller.specs.declared.Event.the-variants.{Start}
 use Rattle.controller.specs.Bank.{granted, eventAnswer}
@@ -22,20 +19,7 @@ use Rattle.queue.specs.declared.Waiting.{Waiting}
 use Rattle.queue.specs.declared.Passed.{Passed}
 use Rattle.queue.specs.declared.Passed.the-variants as Passed
 use Rattle.queue.specs.Line.{tagOf}
-use Rattle.queue.specs.Calls.{arrivalBy, unitBy}
 use Rattle.queue.specs.Inner.{testedBy, oldestBy, Startable}
-
--- an accepted arrival finds room
-pub arrival-few : (size : ℕ) (u : FunctionUnit) (length count tag : ℕ) (fit : Bool) → arrivalBy size u length count tag fit ≡ Done → count < size
-arrival-few size u length count tag fit e =
-    let e1 = check-next (soundOf u) NotSound _ e in
-    let e2 = check-next (leb size length) ShortOutput _ e1 in
-    let e3 = check-next (inside tag (u .functions)) NoSuchTag _ e2 in
-    ltb-true count size (check-ok (ltb count size) TooManyWait _ e3)
-
--- an accepted time unit has a sound unit
-pub unit-sound : (size : ℕ) (u : FunctionUnit) (length count : ℕ) (fit : Bool) → unitBy size u length count fit ≡ Done → soundOf u ≡ true
-unit-sound size u length count fit e = check-ok (soundOf u) NotSound _ e
 
 -- what becomes of a record that may be started, by the controller's answer
 

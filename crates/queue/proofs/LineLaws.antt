@@ -5,7 +5,7 @@ use mathlib.Core.Bool.{Bool, true, false, cond, _&&_}
 use mathlib.Core.List.{List, [], _∷_, _++_}
 use native.Mathlib.Omega.{arith}
 use native.Mathlib.Numerals.{add-one}
-use lib.ListN.{length, getD, take, drop, set, length-append, length-take, length-drop}
+use lib.ListN.{length, getD, take, drop, set, length-take, length-drop}
 use lib.Seq.{take-at, take-suc, take-suc-set}
 use lib.Dec.{eqb}
 use borrow.Author.Tests.{ne-eqb}
@@ -15,6 +15,7 @@ use Rattle.unit.specs.Unit.{inside}
 use Rattle.queue.specs.declared.Waiting.{Waiting}
 use Rattle.queue.specs.Line.{noRecord, tagsInside, forward}
 use Rattle.queue.specs.Inner.{seenOf, lookOf}
+use Rattle.queue.proofs.Shift.{shift-length}
 
 and-one : (b : Bool) → b && true ≡ true && b
 and-one true = refl
@@ -34,12 +35,15 @@ pub tags-rest : (u : FunctionUnit) (w : Waiting) (line : List Waiting) → tagsI
 unfolding tagsInside
 tags-rest u w line e = and-right (inside (w .tag) (u .functions)) _ e
 
+-- one more record
+pub tags-one-more : (f : ℕ) (line : List Waiting) (w : Waiting) → tagsInside f (line ++ w ∷ []) ≡ tagsInside f line && inside (w .tag) f
+unfolding tagsInside
+tags-one-more f [] w = and-one (inside (w .tag) f)
+tags-one-more f (x ∷ line) w = ap (λ t. inside (x .tag) f && t) (tags-one-more f line w) ∙ and-assoc (inside (x .tag) f) (tagsInside f line) (inside (w .tag) f)
+
 pub tags-joined : (u : FunctionUnit) (line : List Waiting) (w : Waiting) → tagsInside (u .functions) line ≡ true → inside (w .tag) (u .functions) ≡ true
     → tagsInside (u .functions) (line ++ w ∷ []) ≡ true
-unfolding tagsInside
-tags-joined u [] w e i = and-true i refl
-tags-joined u (x ∷ line) w e i =
-    and-true (and-left (inside (x .tag) (u .functions)) _ e) (tags-joined u line w (and-right (inside (x .tag) (u .functions)) _ e) i)
+tags-joined u line w e i = tags-one-more (u .functions) line w ∙ and-true e i
 
 pub tags-take : (u : FunctionUnit) (n : ℕ) (line : List Waiting) → tagsInside (u .functions) line ≡ true → tagsInside (u .functions) (take n line) ≡ true
 unfolding tagsInside
@@ -57,9 +61,7 @@ set-line list count w h = rw add-one (take-suc-set list count w h)
 
 pub forward-length : (list : List Waiting) (count : ℕ) → count ≤ length list → 1 ≤ count → length (forward list count) ≡ length list
 unfolding forward
-forward-length list count h l =
-    length-append (take (count - 1) (drop 1 list)) (drop (count - 1) list)
-    ∙ omega (arith, length-take (count - 1) (drop 1 list), length-drop 1 list, length-drop (count - 1) list)
+forward-length list count h l = shift-length list (count - 1) (omega arith)
 
 pub forward-line : (list : List Waiting) (count : ℕ) (w : Waiting) (line : List Waiting) → count ≤ length list → take count list ≡ w ∷ line
     → take (count - 1) (forward list count) ≡ line
@@ -75,12 +77,6 @@ forward-line list count w line h e =
     rest (x ∷ list) (suc count) e = let s : suc count - 1 ≡ count = omega arith in rw s (cc)
 
 -- A look at the records
-
--- one more record
-pub tags-one-more : (f : ℕ) (line : List Waiting) (w : Waiting) → tagsInside f (line ++ w ∷ []) ≡ tagsInside f line && inside (w .tag) f
-unfolding tagsInside
-tags-one-more f [] w = and-one (inside (w .tag) f)
-tags-one-more f (x ∷ line) w = ap (λ t. inside (x .tag) f && t) (tags-one-more f line w) ∙ and-assoc (inside (x .tag) f) (tagsInside f line) (inside (w .tag) f)
 
 pub seen-none : (f : ℕ) (list : List Waiting) → seenOf 0 [] ≡ seenOf f (take 0 list)
 unfolding seenOf tagsInside

@@ -9,7 +9,7 @@ use lib.ListN.{length, getD, take, set}
 use borrow.Author.Tests.{leb-true, ltb-true, le-leb, ne-eqb}
 use Rattle.words.proofs.Tests.{by-test}
 use Rattle.unit.specs.declared.FunctionUnit.{FunctionUnit}
-use Rattle.unit.specs.declared.Refusal.the-variants.{NotSound, NoSuchTag, ShortOutput, TooManyWait}
+use Rattle.unit.specs.declared.Refusal.the-variants.{NotSound, ShortOutput}
 use Rattle.unit.specs.declared.Answer.{Answer}
 use Rattle.unit.specs.declared.Answer.the-variants.{Done, Refused}
 use Rattle.unit.specs.Unit.{inside, soundOf}
@@ -24,7 +24,7 @@ use Rattle.queue.specs.Line.{noRecord, tagsInside, forward}
 use Rattle.queue.specs.Calls.{arrivalBy, unitBy, arrivalAnswer, countThen, listThen, arrivalOf, arrivalList, unitAnswer, oldest, passedThen, passedOf, fewer, listAfter, passOf, passList}
 use Rattle.queue.specs.Inner.{arrivedBy, oldestBy, passBy, FirstFits, seenOf, shownOf}
 use Rattle.queue.proofs.LineLaws.{tags-first}
-use Rattle.queue.proofs.CoreLaws.{arrival-few}
+use Rattle.queue.proofs.AcceptedLaws.{arrival-by, unit-accepted}
 
 -- as many are looked at as there are
 pub shown-most : (size length count : ℕ) → shownOf size length count ≤ length
@@ -74,7 +74,7 @@ module _ (size : ℕ) (u : FunctionUnit) (list : List Waiting) (count : ℕ) (w 
     where
       go : (a : Answer) → arrivalAnswer size u list count w ≡ a → count < length list
       go Done p =
-          let f = arrival-few size u (length list) count (w .tag) fit (arrival-shown ∙ p) in
+          let f = arrival-by size u (length list) count (w .tag) fit (arrival-shown ∙ p) .few in
           let e1 = check-next (soundOf u) NotSound _ (arrival-shown ∙ p) in
           omega (arith, leb-true size (length list) (check-ok (leb size (length list)) ShortOutput _ e1))
       go (Refused why) p =
@@ -122,31 +122,14 @@ module _ (size : ℕ) (u : FunctionUnit) (b : Bank) (list : List Waiting) (count
           (shown-all size (length list) count (leb-true size (length list) e) (leb-true count size l)))
           (λ l. simp l)
 
-  -- an accepted time unit, and what accepts it
-  record Long : Type 0 where
-    pub long : size ≤ length list
-    pub few : count ≤ size
-    pub tags : tagsInside (u .functions) (take count list) ≡ true
-
-  accepted : unitAnswer size u list count ≡ Done → Long
-  unfolding unitAnswer
-  accepted e =
-      let e1 = check-next (soundOf u) NotSound _ e in
-      let e2 = check-next (leb size (length list)) ShortOutput _ e1 in
-      record {
-        long = leb-true size (length list) (check-ok (leb size (length list)) ShortOutput _ e1);
-        few = leb-true count size (check-ok (leb count size) TooManyWait _ e2);
-        tags = check-ok (tagsInside (u .functions) (take count list)) NoSuchTag _ (check-next (leb count size) TooManyWait _ e2);
-      }
-
   all-shown : unitAnswer size u list count ≡ Done → line ≡ take count list
-  all-shown e = let a = accepted e in ap (λ (n : ℕ). take n list) (shown-all size (length list) count (a .long) (a .few))
+  all-shown e = let a = unit-accepted size u list count e in ap (λ (n : ℕ). take n list) (shown-all size (length list) count (a .long) (a .few))
 
   pub first-fits : FirstFits size u (length list) count (seenOf (u .functions) line .first) (seenOf (u .functions) line .fit)
   unfolding seenOf
   first-fits e some =
       let p = sym unit-shown ∙ e in
-      let a = accepted p in
+      let a = unit-accepted size u list count p in
       subst (λ (l : List Waiting). inside (getD l 0 noRecord .tag) (u .functions) ≡ true) (sym (all-shown p)) (first list count some (omega (arith, a .long, a .few)) (a .tags))
     where
       first : (list : List Waiting) (count : ℕ) → 1 ≤ count → count ≤ length list → tagsInside (u .functions) (take count list) ≡ true
@@ -170,7 +153,7 @@ module _ (size : ℕ) (u : FunctionUnit) (b : Bank) (list : List Waiting) (count
       go : (x : Answer) → unitAnswer size u list count ≡ x
           → passedThen (unitAnswer size u list count) (oldestBy b count (getD line 0 noRecord)) ≡ passedThen (unitAnswer size u list count) (oldest b (take count list))
       go Done p =
-          let a = accepted p in
+          let a = unit-accepted size u list count p in
           ap (passedThen (unitAnswer size u list count))
           (ap (λ (l : List Waiting). oldestBy b count (getD l 0 noRecord)) (all-shown p) ∙ oldest-first list count (omega (arith, a .long, a .few)))
       go (Refused why) p =
@@ -207,7 +190,7 @@ module _ (size : ℕ) (u : FunctionUnit) (b : Bank) (list : List Waiting) (count
 
       go : (a : Answer) → unitAnswer size u list count ≡ a → Removes
       go Done p =
-          let t = accepted p in
+          let t = unit-accepted size u list count p in
           record {
             some = omega arith;
             most = omega (arith, t .long, t .few);

@@ -68,18 +68,6 @@ pub struct Seen {
     pub first: Waiting,
 }
 
-// Whether a tag is one of the functions'.
-fn is_tag(tag: u8, functions: u8) -> bool
-    ensures { λ r. ⌜ r ≡ inside tag functions ⌝ }
-{
-    if 1 <= tag {
-        if tag <= functions {
-            return true;
-        }
-    }
-    false
-}
-
 // What some records show, and one more at this place.
 fn look(before: Seen, place: usize, waiting: Waiting, functions: u8) -> Seen
     ensures { λ r. ⌜ r ≡ lookOf functions before place waiting ⌝ }
@@ -100,7 +88,7 @@ fn still(fit: bool, tag: u8, functions: u8) -> bool
     ensures { λ r. ⌜ r ≡ fit && inside tag functions ⌝ }
 {
     if fit {
-        return is_tag(tag, functions);
+        return words::is_inside(tag, functions);
     }
     false
 }
@@ -154,7 +142,7 @@ fn check_arrival(
 ) -> Answer
     ensures { λ r. ⌜ r ≡ arrivalBy room u length count tag fit ⌝ }
 {
-    let known = is_tag(tag, u.functions);
+    let known = words::is_inside(tag, u.functions);
     let free = count < room;
     let of_list = check_list(room, u, length);
     let of_tag = tested(of_list, known, Refusal::NoSuchTag);

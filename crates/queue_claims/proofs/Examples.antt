@@ -19,7 +19,7 @@ use Rattle.collision.specs.Vector.{collides, rowWord, largestColumn}
 use Rattle.controller.specs.declared.Bank.{Bank}
 use Rattle.controller.specs.declared.Event.the-variants.{Start}
 use Rattle.controller.specs.Bank.{register, empty, rowFor, eventAnswer, moved, stepOf}
-use Rattle.controller.specs.History.{bankAfter, Free, Apart, played}
+use Rattle.controller.specs.History.{History, bankAfter, historyAfter, Free, Apart, played}
 use Rattle.controller.proofs.Examples.{figure2}
 use Rattle.queue.specs.declared.Waiting.{Waiting}
 use Rattle.queue.specs.declared.Passed.the-variants as Passed
@@ -282,7 +282,16 @@ pub not-exactly : ((passedOf room pair held-1 (a ∷ none) 1 ≡ Passed.Started 
 unfolding pair noPlan soundOf marksInside marked someBelow rowFor rowWord wordBelow collides register eventAnswer moved stepOf tagsInside forward arrivalAnswer arrivalOf arrivalList unitAnswer oldest passedOf passOf passList after
 not-exactly e = let z : Passed.Idle ≡ Passed.Started a = e .1 (λ y m x. List·Memᴰ·not-nil m) in let y : _≡_ {A = ℕ} 0 1 = cc in omega arith
 
--- nor is it the bank of no events
+-- and an empty bank although a task is under way: it is started, though it would meet that one
+pub not-free : ((passedOf room pair empty (a ∷ none) 1 ≡ Passed.Started a) ↔ Free (marked pair) second (first ∷ [])) → ⊥
+unfolding pair noPlan soundOf marksInside marked someBelow rowFor rowWord wordBelow collides register eventAnswer moved stepOf tagsInside forward arrivalAnswer arrivalOf arrivalList unitAnswer oldest passedOf passOf passList after
+not-free e = e .0 refl first (List·Memᴰ·head refl) meet
+
+-- nor is it the bank of no events, which take no time
 pub not-played : held-1 ≡ bankAfter pair [] → ⊥
 unfolding played
 not-played e = let z : _≡_ {A = ℕ} 1 0 = ap (λ (x : Bank). x .r1) e in omega arith
+
+pub not-in-time : record { time = 1; tasks = [] } ≡ historyAfter pair [] → ⊥
+unfolding played
+not-in-time e = let z : _≡_ {A = ℕ} 1 0 = ap (λ (h : History). h .time) e in omega arith

@@ -29,7 +29,7 @@ use Rattle.queue_claims.specs.Runs.Call.{arrival, unit}
 use Rattle.queue_claims.specs.Runs.Action.{event, call}
 use Rattle.queue_claims.specs.Claims.{dueUnit, dueAt, InTurn, WaitsInTurn, StartsInTurn, unitsAlone, Unaltered}
 use Rattle.queue_claims.proofs.DelayLaws.{Low, due-none, due-some, due-most, due-granted, due-tick}
-use Rattle.queue_claims.proofs.PassLaws.{arrival-accepted}
+use Rattle.queue.proofs.AcceptedLaws.{arrival-accepted}
 use Rattle.queue_claims.proofs.Steady.{held}
 use Rattle.queue_claims.proofs.PortLaws.{Ready, ready-count, ready-arrival, arrival-port, arrival-bank, unit-waits, unit-starts, arrival-low, unit-low}
 

@@ -1,67 +1,19 @@
--- What a call is answered, told by what it needs: an accepted arrival, a time unit that starts a record, and one that starts none. Assumes nothing.
-use Prim.Native.Nat.{ℕ, _≤_, _<_}
+-- What a time unit needs that starts a record, or none. Assumes nothing.
+use Prim.Native.Nat.{ℕ}
 use mathlib.Core.Path.{_≡_, refl, ap, _∙_, subst}
 use mathlib.Core.Bool.{Bool, true, false, cond}
 use mathlib.Core.List.{List, [], _∷_}
 use native.Mathlib.Omega.{arith}
-use lib.Dec.{leb, ltb}
-use lib.ListN.{length, take}
-use borrow.Author.Tests.{leb-true, ltb-true}
+use lib.ListN.{take}
 use Rattle.unit.specs.declared.FunctionUnit.{FunctionUnit}
-use Rattle.unit.specs.declared.Refusal.the-variants.{NotSound, NoSuchTag, ShortOutput, TooManyWait}
 use Rattle.unit.specs.declared.Answer.{Answer}
 use Rattle.unit.specs.declared.Answer.the-variants.{Done, Refused}
-use Rattle.unit.specs.Unit.{inside, soundOf}
-use Rattle.unit.proofs.Laws.{check-ok, check-next}
 use Rattle.controller.specs.declared.Bank.{Bank}
 use Rattle.controller.specs.Bank.{granted}
 use Rattle.queue.specs.declared.Waiting.{Waiting}
 use Rattle.queue.specs.declared.Passed.{Passed}
 use Rattle.queue.specs.declared.Passed.the-variants as Passed
-use Rattle.queue.specs.Line.{tagsInside}
-use Rattle.queue.specs.Calls.{arrivalAnswer, unitAnswer, oldest, passedThen, passedOf}
-
-pub record ArrivalAccepted (size : ℕ) (u : FunctionUnit) (list : List Waiting) (count : ℕ) (w : Waiting) : Type 0 where
-  pub sound : soundOf u ≡ true
-  pub long : size ≤ length list
-  pub tag : inside (w .tag) (u .functions) ≡ true
-  pub few : count < size
-  pub tags : tagsInside (u .functions) (take count list) ≡ true
-
-pub arrival-accepted : (size : ℕ) (u : FunctionUnit) (list : List Waiting) (count : ℕ) (w : Waiting) → arrivalAnswer size u list count w ≡ Done
-    → ArrivalAccepted size u list count w
-unfolding arrivalAnswer
-arrival-accepted size u list count w e =
-    let e1 = check-next (soundOf u) NotSound _ e in
-    let e2 = check-next (leb size (length list)) ShortOutput _ e1 in
-    let e3 = check-next (inside (w .tag) (u .functions)) NoSuchTag _ e2 in
-    let e4 = check-next (ltb count size) TooManyWait _ e3 in
-    record {
-      sound = check-ok (soundOf u) NotSound _ e;
-      long = leb-true size (length list) (check-ok (leb size (length list)) ShortOutput _ e1);
-      tag = check-ok (inside (w .tag) (u .functions)) NoSuchTag _ e2;
-      few = ltb-true count size (check-ok (ltb count size) TooManyWait _ e3);
-      tags = check-ok (tagsInside (u .functions) (take count list)) NoSuchTag _ e4;
-    }
-
-pub record UnitAccepted (size : ℕ) (u : FunctionUnit) (list : List Waiting) (count : ℕ) : Type 0 where
-  pub sound : soundOf u ≡ true
-  pub long : size ≤ length list
-  pub few : count ≤ size
-  pub tags : tagsInside (u .functions) (take count list) ≡ true
-
-pub unit-accepted : (size : ℕ) (u : FunctionUnit) (list : List Waiting) (count : ℕ) → unitAnswer size u list count ≡ Done → UnitAccepted size u list count
-unfolding unitAnswer
-unit-accepted size u list count e =
-    let e1 = check-next (soundOf u) NotSound _ e in
-    let e2 = check-next (leb size (length list)) ShortOutput _ e1 in
-    let e3 = check-next (leb count size) TooManyWait _ e2 in
-    record {
-      sound = check-ok (soundOf u) NotSound _ e;
-      long = leb-true size (length list) (check-ok (leb size (length list)) ShortOutput _ e1);
-      few = leb-true count size (check-ok (leb count size) TooManyWait _ e2);
-      tags = check-ok (tagsInside (u .functions) (take count list)) NoSuchTag _ e3;
-    }
+use Rattle.queue.specs.Calls.{unitAnswer, oldest, passedThen, passedOf}
 
 module _ (size : ℕ) (u : FunctionUnit) (b : Bank) (list : List Waiting) (count : ℕ) where
   -- a record was started: the unit was accepted, and the record was the oldest and granted

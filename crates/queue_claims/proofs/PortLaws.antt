@@ -1,12 +1,11 @@
 -- What a call leaves at a port whose records are those of a line. Assumes nothing.
-use Prim.Native.Nat.{ℕ, suc, _+_, _-_, _≤_}
+use Prim.Native.Nat.{suc, _+_, _-_, _≤_}
 use mathlib.Core.Path.{_≡_, refl, ap, _∙_, sym, subst}
 use mathlib.Core.Bool.{true, false, cond}
 use mathlib.Core.Logic.{_⊎_, inl, inr}
 use mathlib.Core.List.{List, [], _∷_, _++_}
 use native.Mathlib.Omega.{arith}
 use lib.ListN.{length, take, length-set, length-take}
-use borrow.Author.Tests.{le-leb}
 use Rattle.unit.specs.declared.FunctionUnit.{FunctionUnit}
 use Rattle.unit.specs.declared.Answer.{Answer}
 use Rattle.unit.specs.declared.Answer.the-variants.{Done, Refused}
@@ -22,11 +21,11 @@ use Rattle.queue.specs.declared.Waiting.{Waiting}
 use Rattle.queue.specs.declared.Passed.{Passed}
 use Rattle.queue.specs.declared.Passed.the-variants as Passed
 use Rattle.queue.specs.Line.{tagOf, tagsInside}
-use Rattle.queue.specs.Calls.{room, arrivalAnswer, countThen, listThen, arrivalOf, arrivalList, unitAnswer, oldest, passedThen, passedOf, bankThen, fewer, listAfter, passOf, passList}
+use Rattle.queue.specs.Calls.{room, arrivalAnswer, countThen, listThen, arrivalOf, arrivalList, oldest, passedThen, passedOf, bankThen, fewer, listAfter, passOf, passList}
 use Rattle.queue_claims.specs.Runs.{Port, after}
 use Rattle.queue_claims.specs.Runs.Call.{arrival, unit}
 use Rattle.queue_claims.proofs.DelayLaws.{Low, low-started}
-use Rattle.queue_claims.proofs.PassLaws.{arrival-accepted}
+use Rattle.queue.proofs.AcceptedLaws.{arrival-accepted, unit-answered}
 use Rattle.queue.proofs.LineLaws.{tags-first, tags-rest, tags-joined, set-line, forward-length, forward-line}
 
 -- The bank, given by the controller
@@ -36,13 +35,6 @@ pub bank-start : (u : FunctionUnit) (b : Bank) (w : Waiting) → soundOf u ≡ t
 unfolding moved
 bank-start u b w sound i g =
     ap (λ (s : Stepped). s .bank) (sym (step-done u b (Start (tagOf w)) (start-answered u b (tagOf w) sound i g)))
-
--- A time unit is accepted
-
-pub unit-answered : (size : ℕ) (u : FunctionUnit) (list : List Waiting) (count : ℕ) → soundOf u ≡ true → size ≤ length list → count ≤ size
-    → tagsInside (u .functions) (take count list) ≡ true → unitAnswer size u list count ≡ Done
-unfolding unitAnswer
-unit-answered size u list count s l c t = simp (s, le-leb size (length list) l, le-leb count size c, t)
 
 -- A port at which every time unit is accepted, and the records that wait there
 pub record Ready (u : FunctionUnit) (p : Port) (line : List Waiting) : Type 0 where

@@ -23,7 +23,8 @@ use Rattle.queue_claims.specs.Runs.{Port, Action, after, done, doneAll, 
 use Rattle.queue_claims.specs.Runs.Call.{arrival, unit}
 use Rattle.queue_claims.specs.Runs.Action.{event, call}
 use Rattle.queue_claims.specs.Claims.{StaysSteady}
-use Rattle.queue_claims.proofs.PassLaws.{arrival-accepted, unit-accepted, was-started}
+use Rattle.queue.proofs.AcceptedLaws.{arrival-accepted, unit-accepted, unit-answered}
+use Rattle.queue_claims.proofs.PassLaws.{was-started}
 
 -- what a list and a count keep: nothing waits that the unit does not have, nor where it is not sound or the list too short
 pub record Held (u : FunctionUnit) (list : List Waiting) (count : ℕ) : Type 0 where
@@ -103,7 +104,7 @@ module _ (u : FunctionUnit) where
 
   -- and a time unit is accepted where something waits
   pub waits-accepted : (list : List Waiting) (count : ℕ) → Held u list count → 1 ≤ count → unitAnswer room u list count ≡ Done
-  waits-accepted list count h l = units list count h ∙ simp (h .sound l, le-leb room (length list) (h .long l))
+  waits-accepted list count h l = unit-answered room u list count (h .sound l) (h .long l) (h .few) (h .tags)
 
 pub stays-steady : StaysSteady
 stays-steady u list actions =

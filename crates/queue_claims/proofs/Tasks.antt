@@ -28,7 +28,8 @@ use Rattle.queue_claims.specs.Runs.Call.{arrival, unit}
 use Rattle.queue_claims.specs.Runs.Action.{event, call}
 use Rattle.queue_claims.specs.Tasks.{unitThen, historyNext, historyFrom, unitEvents, actionEvents, eventsFrom, eventsOf, QueuePlays, QueueApart, QueueExactly}
 use Rattle.queue.proofs.LineLaws.{tags-first}
-use Rattle.queue_claims.proofs.PassLaws.{unit-accepted, was-started, was-idle, granted-started}
+use Rattle.queue_claims.proofs.PassLaws.{was-started, was-idle, granted-started}
+use Rattle.queue.proofs.AcceptedLaws.{unit-accepted}
 use Rattle.queue_claims.proofs.Steady.{held, waits-accepted}
 
 -- One action

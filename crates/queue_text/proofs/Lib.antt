@@ -1,2 +1,3 @@
 pub mod FlatLaws
 pub mod TellLaws
+pub mod Examples

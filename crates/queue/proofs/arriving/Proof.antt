@@ -1,10 +1,9 @@
 -- `queue::arriving` meets its contract: the count of an accepted arrival is one more. Assumes nothing.
-use mathlib.Core.Path.{_≡_, sym, ap, _∙_}
+use mathlib.Core.Path.{sym, ap, _∙_}
 use native.Mathlib.Omega.{arith}
 use Rattle.unit.specs.declared.Answer.{Answer}
-use Rattle.queue.specs.Calls.{arrivalBy}
 use Rattle.queue.specs.Inner.{arrivedBy}
-use Rattle.queue.proofs.CoreLaws.{arrival-few}
+use Rattle.queue.proofs.AcceptedLaws.{arrival-by}
 use borrow.Author.Needs.{needs}
 use Rattle.queue.proofs.arriving.Statement.{statement}
 use Rattle.queue.proofs.arriving.Tie as tie
@@ -21,7 +20,7 @@ enum-told c = search needs
 add-t12 : tie.Need-add-t12
 add-t12 c =
     let a = c .before .before .before .args in
-    omega (arith, arrival-few (a .room) (a .u) (a .length) (a .count) (a .tag) (a .fit) (sym (c .before .before .check-arrival .ensures) ∙ c .enum-told .given .1))
+    omega (arith, arrival-by (a .room) (a .u) (a .length) (a .count) (a .tag) (a .fit) (sym (c .before .before .check-arrival .ensures) ∙ c .enum-told .given .1) .few)
 
 returns : tie.Need-returns
 returns c =

@@ -11,8 +11,8 @@ use borrow.Author.Needs.{needs}
 use Rattle.queue.proofs.check_arrival.Statement.{statement}
 use Rattle.queue.proofs.check_arrival.Tie as tie
 
-is-tag-requires : tie.Need-is-tag-requires
-is-tag-requires c κs = search needs
+is-inside-requires : tie.Need-is-inside-requires
+is-inside-requires c κs = search needs
 
 check-list-requires : tie.Need-check-list-requires
 check-list-requires c κs = search needs
@@ -34,14 +34,14 @@ returns c =
     ∙ ap (λ (x : Answer). testedBy x (a .fit) NoSuchTag)
     (c .before .tested2 .ensures
     ∙ ap (λ (x : Answer). testedBy x (ltb (a .count) (a .room)) TooManyWait)
-    (tag .tested .ensures ∙ ap₂ (λ (x : Answer) (y : Bool). testedBy x y NoSuchTag) (tag .before .check-list .ensures) (tag .before .before .is-tag .ensures)))
+    (tag .tested .ensures ∙ ap₂ (λ (x : Answer) (y : Bool). testedBy x y NoSuchTag) (tag .before .check-list .ensures) (tag .before .before .is-inside .ensures)))
     ∙ five-tests (soundOf (a .u)) (leb (a .room) (a .length)) (inside (a .tag) (a .u .functions)) (ltb (a .count) (a .room)) (a .fit) NotSound ShortOutput NoSuchTag TooManyWait NoSuchTag
 
 pub check-arrival-spec : {M : Type 1} → statement M
 check-arrival-spec =
     tie.close
     (tie.spec
-    is-tag-requires
+    is-inside-requires
     check-list-requires
     tested-requires
     tested-requires-2

@@ -1,10 +1,11 @@
 -- `queue::passing` meets its contract: the tests, and then the oldest record, if one waits. Assumes nothing.
-use mathlib.Core.Path.{_≡_, sym, ap, _∙_}
+use mathlib.Core.Path.{sym, ap, _∙_}
 use native.Mathlib.Omega.{arith}
 use Rattle.unit.specs.declared.Answer.{Answer}
-use Rattle.queue.specs.Calls.{unitBy, passedThen}
+use Rattle.queue.specs.Calls.{passedThen}
 use Rattle.queue.specs.Inner.{oldestBy, passBy}
-use Rattle.queue.proofs.CoreLaws.{unit-sound, oldest-none}
+use Rattle.queue.proofs.AcceptedLaws.{unit-by}
+use Rattle.queue.proofs.CoreLaws.{oldest-none}
 use borrow.Author.Needs.{needs}
 use Rattle.queue.proofs.passing.Statement.{statement}
 use Rattle.queue.proofs.passing.Tie as tie
@@ -38,7 +39,7 @@ tried-requires c κs =
     let e = sym (t .before .before .check-unit .ensures) ∙ t .enum-told .given .1 in
     let some = c .if1 .left in
     record {
-      sound = unit-sound (a .room) (a .u) (a .length) (a .count) (a .fit) e;
+      sound = unit-by (a .room) (a .u) (a .length) (a .count) (a .fit) e .sound;
       some = omega arith;
       tag = s .pre e (omega arith);
     }
