@@ -2,6 +2,8 @@
 
 #![allow(dead_code)]
 
+mod callers;
+mod callers_check;
 mod charts;
 mod charts_check;
 mod delays;
@@ -27,7 +29,8 @@ fn main() {
     let checked = checked.and_then(|units| records_check::run().map(|_| units));
     let checked = checked.and_then(|units| charts_check::run().map(|_| units));
     let checked = checked.and_then(|units| delays_check::run().map(|_| units));
-    match checked.and_then(|units| queue_check::run().map(|_| units)) {
+    let checked = checked.and_then(|units| queue_check::run().map(|_| units));
+    match checked.and_then(|units| callers_check::run().map(|_| units)) {
         Ok(units) => println!("model: agrees with the paper's tables and, on {units} random units, with itself"),
         Err(why) => {
             println!("model: {why}");

@@ -1,9 +1,9 @@
 //! A test of the program `designer` from outside.
 //!
 //! Scripts of 100,000 lines and more, good lines and bad ones, are made from fixed seeds; each line's answer is worked out by the tests'
-//! own implementation of the paper (`model.rs`, `loops.rs`, `records.rs`, `charts.rs`, `delays.rs`, `queue.rs`, `console_model.rs`) before
-//! the program is run; then the program answers the scripts, and the first difference ends the run. Before them come runs of a few lines,
-//! each with special files or a special output (`console_outside.rs`).
+//! own implementation of the paper (`model.rs`, `loops.rs`, `records.rs`, `charts.rs`, `delays.rs`, `queue.rs`, `callers.rs`,
+//! `console_model.rs`) before the program is run; then the program answers the scripts, and the first difference ends the run. Before them
+//! come runs of a few lines, each with special files or a special output (`console_outside.rs`).
 //!
 //!     console PROGRAM            everything
 //!     console PROGRAM special    everything, and how often each special case was met
@@ -11,6 +11,9 @@
 
 #![allow(dead_code)]
 
+mod callers;
+mod callers_check;
+mod callers_met;
 mod charts;
 mod charts_check;
 mod console_check;

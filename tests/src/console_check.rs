@@ -42,7 +42,7 @@ pub struct Counts {
 }
 
 /// The refusals and the words that each command can answer with. Besides, each can be told what was expected.
-const ANSWERS: [(&str, &[u32], &[&str]); 30] = [
+const ANSWERS: [(&str, &[u32], &[&str]); 33] = [
     ("fresh", &[1], &["ok"]),
     ("mark", &[2, 3, 4], &["ok", "no unit"]),
     ("unmark", &[2, 3, 4], &["ok", "no unit"]),
@@ -73,6 +73,9 @@ const ANSWERS: [(&str, &[u32], &[&str]); 30] = [
     ("arrive", &[2, 14], &["ok", "no unit"]),
     ("pass", &[], &["started", "none", "no unit"]),
     ("queue", &[], &["ok", "no unit"]),
+    ("callers", &[18], &["ok", "no unit"]),
+    ("call", &[2, 14, 18], &["ok", "no unit"]),
+    ("turn", &[18], &["started", "none", "no unit"]),
 ];
 
 const OTHERS: [(Sort, &str); 4] = [

@@ -6,7 +6,7 @@ use crate::console_model::Console;
 use crate::console_program::Ending;
 use crate::console_script::{Feed, Line, Script};
 use crate::console_watch::Watch;
-use crate::{charts_check, delays_check, loops_check, model_check, queue_check, records_check};
+use crate::{callers_check, charts_check, delays_check, loops_check, model_check, queue_check, records_check};
 
 /// A session as it is to be seen: after `>` what is typed. The paper's Fig. 1 and Fig. 2, its tables "No marks" and "Marks 1 11", loops
 /// over them and over a table whose second function no loop names, and the lines of the console's description.
@@ -1282,6 +1282,388 @@ fn full_queue() -> String {
     seen + ">pass\nnone\n>queue\nqueue 0:\n>bank\n0 0 0 0\n"
 }
 
+/// Callers in turn: forms and refusals, before there are callers and after; both functions of Fig. 2, whose starts may come as far apart as
+/// above, beside a start by hand and the queue; whose turn it is where a caller has no work, is held back or has started its last; what
+/// leaves the tasks and the turn as they are and what takes them away, but not the callers; and the function that is in one segment in all
+/// of its four columns.
+const CALLERS: &str = "\
+>callers 2
+no unit
+>call 1 1 7
+no unit
+>turn
+no unit
+>callers 0
+no unit
+>call 4294967295 4294967295 4294967295
+no unit
+>callers
+line 6: expected callers C
+>callers 2 3
+line 7: expected callers C
+>callers x
+line 8: expected callers C
+>callers 4294967296
+line 9: expected callers C
+>call
+line 10: expected call I Q TICKET
+>call 1 1
+line 11: expected call I Q TICKET
+>call 1 1 7 7
+line 12: expected call I Q TICKET
+>call 1 1 -7
+line 13: expected call I Q TICKET
+>call 1 1 4294967296
+line 14: expected call I Q TICKET
+>call 1 4294967296 1
+line 15: expected call I Q TICKET
+>call 4294967296 1 1
+line 16: expected call I Q TICKET
+>turn 1
+line 17: expected turn
+>caller 2
+line 18: expected a command
+>calls 1 1 7
+line 19: expected a command
+>Turn
+line 20: expected a command
+>load figure_2
+ok
+>turn
+refused 18
+>call 1 1 7
+refused 18
+>call 0 9 7
+refused 18
+>callers 0
+refused 18
+>callers 5
+refused 18
+>callers 256
+refused 18
+>callers 257
+refused 18
+>callers 4294967295
+refused 18
+>start 1
+ok
+>turn
+refused 18
+>bank
+6 10 0 0
+>\tcallers\t003 \r
+ok
+>bank
+6 10 0 0
+>turn
+none
+>bank
+3 5 0 0
+>call 4 1 7
+refused 18
+>call 0 1 7
+refused 18
+>call 258 1 7
+refused 18
+>call 4 9 7
+refused 18
+>call 1 3 7
+refused 2
+>call 1 0 7
+refused 2
+>call 2 257 7
+refused 2
+>turn
+none
+>bank
+1 2 0 0
+>call 2 2 17
+ok
+>\tcall\t03  1 4294967295 \r
+ok
+>turn
+started 2 2 17
+>bank
+11 7 0 0
+>call 1 1 0000
+ok
+>turn
+none
+>turn
+none
+>bank
+2 1 0 0
+>turn\r
+started 3 1 4294967295
+>bank
+7 10 0 0
+>call 3 2 20
+ok
+>call 2 1 21
+ok
+>turn
+none
+>turn
+none
+>turn
+none
+>bank
+0 1 0 0
+>turn
+started 1 1 0
+>turn
+started 2 1 21
+>bank
+7 15 0 0
+>turn
+none
+>turn
+none
+>turn
+none
+>turn
+none
+>bank
+0 0 0 0
+>turn
+started 3 2 20
+>bank
+11 6 0 0
+>turn
+none
+>call 1 1 22
+ok
+>call 3 1 23
+ok
+>turn
+none
+>turn
+started 3 1 23
+>arrive 2 5
+ok
+>bank
+7 10 0 0
+>pass
+started 2 5
+>bank
+11 7 0 0
+>turn
+none
+>queue
+queue 0:
+>turn
+none
+>start 2
+refused 10
+>turn
+started 1 1 22
+>bank
+7 10 0 0
+>call 2 1 24
+ok
+>call 3 2 25
+ok
+>turn
+none
+>call 1 2 26
+ok
+>mark 3 1 1
+refused 2
+>unmark 1 4 1
+refused 3
+>mark 1 1 6
+refused 4
+>mark 1 1
+line 94: expected mark Q R C
+>fresh 0 1 1
+refused 1
+>load missing
+no file
+>search 1
+ok
+>read
+plan 1 cycle 1 4 sum 5
+>callers 9
+refused 18
+>call 5 1 1
+refused 18
+>arrive 1 6
+ok
+>bank
+3 5 0 0
+>turn
+none
+>turn
+none
+>turn
+started 2 1 24
+>queue
+queue 1: 1 6
+>bank
+6 10 0 0
+>mark 1 1 1
+ok
+>bank
+0 0 0 0
+>queue
+queue 0:
+>turn
+none
+>call 3 1 27
+ok
+>call 2 1 28
+ok
+>turn
+started 2 1 28
+>load figure_2
+ok
+>call 3 1 29
+ok
+>call 1 1 30
+ok
+>arrive 2 31
+ok
+>turn
+started 1 1 30
+>callers 2
+ok
+>call 3 1 32
+refused 18
+>queue
+queue 1: 2 31
+>turn
+none
+>bank
+3 5 0 0
+>callers 3
+ok
+>turn
+none
+>bank
+1 2 0 0
+>call 3 2 33
+ok
+>unmark 1 1 2
+ok
+>turn
+none
+>call 3 2 34
+ok
+>fresh 1 1 4
+ok
+>turn
+none
+>mark 1 1 1
+ok
+>mark 1 1 2
+ok
+>mark 1 1 3
+ok
+>mark 1 1 4
+ok
+>call 4 1 1
+refused 18
+>call 3 2 1
+refused 2
+>call 3 1 1
+ok
+>call 3 1 2
+ok
+>turn
+started 3 1 1
+>call 2 1 3
+ok
+>call 1 1 4
+ok
+>turn
+none
+>turn
+none
+>turn
+none
+>bank
+0 0 0 0
+>turn
+started 3 1 2
+>turn
+none
+>turn
+none
+>turn
+none
+>turn
+started 1 1 4
+>turn
+none
+>turn
+none
+>turn
+none
+>turn
+started 2 1 3
+>callers 1
+ok
+>bank
+7 0 0 0
+>call 2 1 5
+refused 18
+>call 1 1 5
+ok
+>call 1 1 6
+ok
+>turn
+none
+>turn
+none
+>turn
+none
+>turn
+started 1 1 5
+>turn
+none
+>turn
+none
+>turn
+none
+>turn
+started 1 1 6
+>turn
+none
+";
+
+/// Four callers with as many tasks as can wait: without marks each unit starts one, and each caller has every fourth unit. One that has
+/// started has room for another task, and one that has none left is passed over. And where 1 is forbidden, a burst of 8 lets the others
+/// start between.
+fn full_callers() -> String {
+    let mut seen = ">fresh 4 16 32\nok\n>callers 4\nok\n".to_string();
+    let tag_of = |ticket: u32| ticket % 3 + 2;
+    for ticket in 0..32 {
+        seen += &format!(">call {} {} {ticket}\nok\n", ticket / 8 + 1, tag_of(ticket));
+    }
+    seen +=
+        ">call 1 1 32\nrefused 14\n>call 4 4 32\nrefused 14\n>call 4 5 32\nrefused 2\n>call 5 4 32\nrefused 18\n>call 5 5 32\nrefused 18\n";
+    for place in 0..4 {
+        seen += &format!(">turn\nstarted {} {} {}\n", place + 1, tag_of(8 * place), 8 * place);
+    }
+    seen += ">call 2 1 4294967295\nok\n>call 2 1 33\nrefused 14\n>call 3 1 4294967295\nok\n";
+    for place in 4..32 {
+        let ticket = 8 * (place % 4) + place / 4;
+        seen += &format!(">turn\nstarted {} {} {ticket}\n", place % 4 + 1, tag_of(ticket));
+    }
+    seen += ">turn\nstarted 2 1 4294967295\n>turn\nstarted 3 1 4294967295\n>turn\nnone\n>bank\n0 0 0 0\n";
+    seen += ">fresh 1 1 2\nok\n>mark 1 1 1\nok\n>mark 1 1 2\nok\n";
+    for ticket in 1..=8 {
+        seen += &format!(">call 2 1 {ticket}\nok\n");
+    }
+    seen += ">call 2 1 9\nrefused 14\n>turn\nstarted 2 1 1\n>call 1 1 11\nok\n>call 1 1 12\nok\n>turn\nnone\n>turn\nstarted 2 1 2\n";
+    seen += ">turn\nnone\n>turn\nstarted 1 1 11\n>turn\nnone\n>turn\nstarted 2 1 3\n>call 4 1 41\nok\n>turn\nnone\n>turn\nstarted 1 1 12\n";
+    seen += ">turn\nnone\n>turn\nstarted 2 1 4\n>turn\nnone\n>turn\nstarted 4 1 41\n";
+    for ticket in 5..=8 {
+        seen += &format!(">turn\nnone\n>turn\nstarted 2 1 {ticket}\n");
+    }
+    seen + ">turn\nnone\n>bank\n0 0 0 0\n"
+}
+
 /// The files that the first lines write: Fig. 1's unit, whose table begins at byte 6 and has a word for each segment.
 const FOUND_FILES: [(&str, &[u8]); 2] = [("figure", FIGURE_1), ("a\rb", FIGURE_1)];
 const FIGURE_1: &[u8] = &[1, 5, 9, 0, 6, 0, 0x01, 0x01, 0, 0, 0x86, 0, 0, 0, 0x08, 0, 0, 0, 0x30, 0, 0, 0, 0xC0, 0, 0, 0];
@@ -1368,8 +1750,10 @@ pub fn examples() -> Result<(), String> {
     session("the examples of delays", DELAYS, Folder::default(), &FOUND_DELAYS)?;
     let mut before = Folder::default();
     put_files(&mut before, &QUEUE_FILES);
-    session("the examples of queues", QUEUES, before, &[])?;
-    session("the example of a full queue", &full_queue(), Folder::default(), &[])
+    session("the examples of queues", QUEUES, before.clone(), &[])?;
+    session("the example of a full queue", &full_queue(), Folder::default(), &[])?;
+    session("the examples of callers", CALLERS, before, &[])?;
+    session("the example of callers with full queues", &full_callers(), Folder::default(), &[])
 }
 
 /// The model against the paper's tables and its own definitions, and against the examples.
@@ -1380,5 +1764,6 @@ pub fn check_model() -> Result<(), String> {
     charts_check::run()?;
     delays_check::run()?;
     queue_check::run()?;
+    callers_check::run()?;
     examples()
 }

@@ -1,6 +1,7 @@
 //! Consoles with one fault each, as a program could have it. The scripts have to show every one of them: an output that is wrong shows that
 //! the comparison works, a console that is wrong shows that the lines reach the fault.
 
+use crate::callers::MOST_CALLERS;
 use crate::charts;
 use crate::console_folder::{part_of, Content, File, Folder, Shelf};
 use crate::console_model::*;
@@ -21,6 +22,10 @@ pub struct Faulty {
     pub skipped: usize,
     /// For a fault that has a second bank.
     pub other: Bank,
+    /// For a fault that counts for each caller.
+    pub counts: [usize; MOST_CALLERS as usize],
+    /// For a fault that knows whose tasks came first.
+    pub came: Vec<u32>,
 }
 
 /// The answer that a console with this fault gives.
@@ -28,7 +33,7 @@ pub type Fault = fn(&mut Faulty, &[u8], usize) -> Answer;
 
 impl Faulty {
     pub fn new(console: Console<Folder>) -> Faulty {
-        Faulty { console, skipped: 0, other: Bank::of_words(&[0; REGISTERS]) }
+        Faulty { console, skipped: 0, other: Bank::of_words(&[0; REGISTERS]), counts: Default::default(), came: Vec::new() }
     }
 
     pub fn answer(&mut self, line: &[u8], place: usize) -> Answer {

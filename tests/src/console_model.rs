@@ -3,13 +3,14 @@
 //! A line is taken apart by the standard library's `split` and its answer is put together from `model.rs`. Of a plan only the number of
 //! the search that made it is known here: which best cycle it holds is free, and is seen when the program first shows it.
 
+use crate::callers::{self, Callers, Shared};
 use crate::charts;
 use crate::console_folder::{written, Content, Shelf, Written};
 use crate::loops::*;
 use crate::model::*;
 use crate::queue::{self, Port, Queue, Task};
 use crate::records::{self, Wrong, LONGEST_LATENCY, LONGEST_RECORD};
-use crate::{delays, delays_met, queue_met};
+use crate::{callers_met, delays, delays_met, queue_met};
 use std::cell::OnceCell;
 use std::collections::{HashMap, HashSet};
 use std::fmt;
@@ -20,7 +21,7 @@ pub const LONGEST_LINE: usize = 4_096;
 
 /// Each command with what it wants after its name: `FILE` is a file's name, which may be any word, `[FILE]` is one or nothing, `L L ..` and
 /// `Q Q ..` are any number of numbers, none too, and all else is a number.
-pub const COMMANDS: [(&str, &str); 30] = [
+pub const COMMANDS: [(&str, &str); 33] = [
     ("fresh", " P S C"),
     ("mark", " Q R C"),
     ("unmark", " Q R C"),
@@ -51,12 +52,27 @@ pub const COMMANDS: [(&str, &str); 30] = [
     ("arrive", " Q TICKET"),
     ("pass", ""),
     ("queue", ""),
+    ("callers", " C"),
+    ("call", " I Q TICKET"),
+    ("turn", ""),
 ];
 
-/// What is as it was before some line: a plan, a bank that is not empty, and tasks that wait.
+/// What is as it was before some line: a plan, a bank that is not empty, tasks that wait, and callers' tasks that do.
 macro_rules! kept {
     ($by:literal) => {
-        [concat!("a plan kept by ", $by), concat!("a bank kept by ", $by), concat!("a queue kept by ", $by)]
+        [
+            concat!("a plan kept by ", $by),
+            concat!("a bank kept by ", $by),
+            concat!("a queue kept by ", $by),
+            concat!("callers' tasks kept by ", $by),
+        ]
+    };
+}
+
+/// What an edit takes away.
+macro_rules! taken {
+    ($by:literal) => {
+        [concat!("a bank in use emptied by ", $by), concat!("a queue emptied by ", $by), concat!("callers' tasks taken away by ", $by)]
     };
 }
 
@@ -530,10 +546,12 @@ pub struct Console<S: Shelf> {
     searches: usize,
     pub bank: Bank,
     pub queue: Queue,
+    pub callers: Callers,
     pub shelf: S,
     /// Others than the right ones where the console is to have a fault.
     pub delay: Delay,
     pub port: Port,
+    pub shared: Shared,
     met: Vec<&'static str>,
     /// What the line before did, for the special cases.
     before: Before,
@@ -541,6 +559,11 @@ pub struct Console<S: Shelf> {
     found: Bank,
     /// Whether the last accepted edit or new unit took away tasks that waited.
     took_tasks: bool,
+    /// The callers as the last accepted edit, new unit or number of callers found them, where none of them was served since then; with the
+    /// special case that another's turn was set back.
+    found_callers: Option<(Callers, &'static str)>,
+    /// The most callers that there were.
+    most_callers: u32,
     /// The searches whose plans were shown.
     shown: HashSet<usize>,
     /// The searches whose plans had a chart before they were shown.
@@ -585,6 +608,14 @@ enum Before {
     RefusedArrival,
     /// A time unit in which a waiting task was started, or none.
     Passed,
+    /// So many callers were said.
+    Counted,
+    RefusedCount,
+    Called,
+    RefusedCall,
+    /// A time unit in which a caller's task was started, or none.
+    Turned,
+    RefusedTurn,
     Bad,
     Other,
 }
@@ -603,13 +634,17 @@ impl<S: Shelf> Console<S> {
             searches: 0,
             bank: empty_bank(),
             queue: Queue::new(),
+            callers: Callers::new(),
             shelf,
             delay: delays::delayed,
             port: queue::PORT,
+            shared: callers::SHARED,
             met: Vec::new(),
             before: Before::Other,
             found: empty_bank(),
             took_tasks: false,
+            found_callers: None,
+            most_callers: 0,
             shown: HashSet::new(),
             charted: HashSet::new(),
             dropped: false,
@@ -708,24 +743,29 @@ impl<S: Shelf> Console<S> {
         reply.unwrap_or_else(|number| said(format!("refused {number}")))
     }
 
-    /// "the bank is emptied by `fresh` and `load`", so is the queue, and "there is no plan".
+    /// "the bank is emptied by `fresh` and `load`", so are the queue and the callers' queues, and "there is no plan".
     fn take_unit(&mut self, unit: Unit) -> Vec<Part> {
-        let (in_use, waits) = (self.bank != empty_bank(), !self.queue.is_empty());
+        let (in_use, waits, calls) = (self.bank != empty_bank(), !self.queue.is_empty(), self.callers.waiting() > 0);
         self.met_if(in_use, "a bank in use emptied by a new unit");
         self.met_if(waits, "a queue emptied by a new unit");
         self.met_if(waits && !in_use, "a queue emptied by a new unit beside an empty bank");
+        self.met_if(calls, "callers' tasks taken away by a new unit");
+        self.met_if(calls && !in_use && !waits, "callers' tasks taken away by a new unit beside an empty bank and queue");
+        self.met_if(!calls && in_use && waits, "a bank in use and a queue emptied by a new unit while no caller waits");
         self.met_if(self.plan.is_some(), "a plan dropped by a new unit");
         self.unit = Some(unit);
         self.plan = None;
         self.dropped = false;
-        self.empty_port();
+        self.empty_port("turn: caller 1's, where a new unit set another's back");
         said("ok".to_string())
     }
 
-    /// Empties bank and queue.
-    fn empty_port(&mut self) {
+    /// Empties bank and queue and the callers' queues, and sets their turn back.
+    fn empty_port(&mut self, set_back: &'static str) {
         self.found = std::mem::replace(&mut self.bank, empty_bank());
         self.took_tasks = !std::mem::take(&mut self.queue).is_empty();
+        self.found_callers = Some((self.callers.clone(), set_back));
+        self.callers.empty();
     }
 
     fn ask(&mut self, unit: &mut Unit, name: &str, numbers: &[u32], file: &[u8]) -> Reply<Vec<Part>> {
@@ -736,10 +776,10 @@ impl<S: Shelf> Console<S> {
                 let stood = unit.marks.contains(&mark);
                 if name == "mark" { unit.mark(mark) } else { unit.unmark(mark) }?;
                 self.meet_edit(name, stood);
-                // "An accepted one drops the plan, even where the mark already stood so", and "empties the console's bank": and its queue
+                // "An accepted one drops the plan, even where the mark already stood so", and "empties the console's bank": and its queues
                 self.dropped |= self.plan.is_some();
                 self.plan = None;
-                self.empty_port();
+                self.empty_port("turn: caller 1's, where an edit set another's back");
                 done()
             }
             ("read", []) => self.read(unit),
@@ -774,6 +814,26 @@ impl<S: Shelf> Console<S> {
             ("queue", []) => {
                 self.meet_queue();
                 Ok(said((self.port.list)(&self.queue)))
+            }
+            ("callers", &[count]) => {
+                self.met.extend(callers_met::count(&self.callers, count));
+                let before = self.callers.clone();
+                (self.shared.count)(&mut self.callers, count)?;
+                self.found_callers = Some((before, "turn: caller 1's, where a number of callers set another's back"));
+                self.most_callers = self.most_callers.max(count);
+                done()
+            }
+            ("call", &[caller, tag, ticket]) => {
+                let task = Task { tag, ticket };
+                self.met.extend(callers_met::call(unit, &self.bank, &self.callers, self.most_callers, caller, task));
+                (self.shared.call)(unit, &mut self.callers, caller, task)?;
+                done()
+            }
+            ("turn", []) => {
+                self.meet_turn(unit);
+                let started = (self.shared.turn)(unit, &mut self.bank, &mut self.callers)?;
+                let told = |(caller, Task { tag, ticket })| format!("started {caller} {tag} {ticket}");
+                Ok(said(started.map_or("none".to_string(), told)))
             }
             // all others have a tag first
             (_, &[tag, ref others @ ..]) => {
@@ -1148,6 +1208,18 @@ impl<S: Shelf> Console<S> {
             [b"arrive", _, _, _] => self.met_if(are_numbers, "arrive: a number too many"),
             [b"pass", _] => self.met_if(are_numbers, "pass: a number after it"),
             [b"queue", _] => self.met_if(are_numbers, "queue: a number after it"),
+            [b"callers"] => self.met.push("callers: no number"),
+            [b"callers", count] => self.met_if(large(count), "callers: a number above 4294967295"),
+            [b"callers", _, _] => self.met_if(are_numbers, "callers: a number too many"),
+            [b"call", _, _] => self.met_if(are_numbers, "call: no ticket"),
+            [b"call", caller, tag, ticket] => {
+                let [caller_is, tag_is, ticket_is] = [caller, tag, ticket].map(|word| number(word).is_some());
+                self.met_if(caller_is && tag_is && large(ticket), "call: a ticket above 4294967295");
+                self.met_if(caller_is && ticket_is && large(tag), "call: a tag above 4294967295");
+                self.met_if(tag_is && ticket_is && large(caller), "call: a caller above 4294967295");
+            }
+            [b"call", _, _, _, _] => self.met_if(are_numbers, "call: a number too many"),
+            [b"turn", _] => self.met_if(are_numbers, "turn: a number after it"),
             _ => {}
         }
         if let [b"delays", tag, latency, rest @ ..] = words {
@@ -1162,16 +1234,20 @@ impl<S: Shelf> Console<S> {
 
     fn meet_edit(&mut self, name: &str, stood: bool) {
         let (is_mark, in_use, waits) = (name == "mark", self.bank != empty_bank(), !self.queue.is_empty());
+        let calls = self.callers.waiting() > 0;
         self.met_if(is_mark && stood, "a mark that stood");
         self.met_if(!is_mark && !stood, "an unmark of no mark");
-        let [bank, queue] = match (is_mark, stood) {
-            (true, false) => ["a bank in use emptied by a mark", "a queue emptied by a mark"],
-            (true, true) => ["a bank in use emptied by a mark that stood", "a queue emptied by a mark that stood"],
-            (false, true) => ["a bank in use emptied by an unmark", "a queue emptied by an unmark"],
-            (false, false) => ["a bank in use emptied by an unmark of no mark", "a queue emptied by an unmark of no mark"],
+        let [bank, queue, tasks] = match (is_mark, stood) {
+            (true, false) => taken!("a mark"),
+            (true, true) => taken!("a mark that stood"),
+            (false, true) => taken!("an unmark"),
+            (false, false) => taken!("an unmark of no mark"),
         };
         self.met_if(in_use, bank);
         self.met_if(waits, queue);
+        self.met_if(calls, tasks);
+        self.met_if(calls && !in_use && !waits, "callers' tasks taken away by an edit beside an empty bank and queue");
+        self.met_if(!calls && in_use && waits, "a bank in use and a queue emptied by an edit while no caller waits");
         self.met_if(waits && !in_use, "a queue emptied by an edit beside an empty bank");
         self.met_if(!waits && in_use, "a bank in use emptied by an edit beside an empty queue");
     }
@@ -1343,6 +1419,12 @@ impl<S: Shelf> Console<S> {
             ("arrive", "ok") => Before::Arrived,
             ("arrive", "refused 2" | "refused 14") => Before::RefusedArrival,
             ("pass", "started" | "none") => Before::Passed,
+            ("callers", "ok") => Before::Counted,
+            ("callers", "refused 18") => Before::RefusedCount,
+            ("call", "ok") => Before::Called,
+            ("call", "refused 2" | "refused 14" | "refused 18") => Before::RefusedCall,
+            ("turn", "started" | "none") => Before::Turned,
+            ("turn", "refused 18") => Before::RefusedTurn,
             // what only looks leaves what was done before in place
             ("read" | "bank" | "queue" | "diagram" | "vector" | "bound" | "upper" | "constant" | "row" | "list" | "table", _) => before,
             (_, "expected") => Before::Bad,
@@ -1350,15 +1432,15 @@ impl<S: Shelf> Console<S> {
         }
     }
 
-    /// What the line before left as it was: the plan, the bank in use and the tasks that wait.
-    fn kept(&self) -> [&'static str; 3] {
-        let in_use = "a bank in use";
+    /// What the line before left as it was: the plan, the bank in use, the tasks that wait and the callers' tasks that do.
+    fn kept(&self) -> [&'static str; 4] {
+        let (in_use, queue, tasks) = ("a bank in use", "a queue", "callers' tasks");
         match self.before {
             Before::RefusedFresh => kept!("a refused fresh"),
             Before::RefusedLoad => kept!("a refused load"),
             Before::NoFile => kept!("a load of no file"),
             Before::RefusedEdit => kept!("a refused edit"),
-            Before::Searched => ["a plan", "a bank kept by a search", "a queue kept by a search"],
+            Before::Searched => ["a plan", "a bank kept by a search", "a queue kept by a search", "callers' tasks kept by a search"],
             Before::RefusedSearch => kept!("a refused search"),
             Before::Looped => kept!("a loop"),
             Before::RefusedLoop => kept!("a refused loop"),
@@ -1374,19 +1456,29 @@ impl<S: Shelf> Console<S> {
             Before::DelaysNotWritten => kept!("delays that were not written"),
             Before::Saved => kept!("a save"),
             Before::NotSaved => kept!("a save that was not written"),
-            Before::Ticked => ["a plan kept by a tick", in_use, "a queue kept by a tick"],
-            Before::Started => ["a plan kept by a start", in_use, "a queue kept by a start"],
+            Before::Ticked => ["a plan kept by a tick", in_use, "a queue kept by a tick", "callers' tasks kept by a tick"],
+            Before::Started => ["a plan kept by a start", in_use, "a queue kept by a start", "callers' tasks kept by a start"],
             Before::RefusedStart => kept!("a refused start"),
-            Before::Arrived => ["a plan kept by an arrival", "a bank kept by an arrival", "a queue"],
+            Before::Arrived => ["a plan kept by an arrival", "a bank kept by an arrival", queue, "callers' tasks kept by an arrival"],
             Before::RefusedArrival => kept!("a refused arrival"),
-            Before::Passed => ["a plan kept by a pass", in_use, "a queue"],
+            Before::Passed => ["a plan kept by a pass", in_use, queue, "callers' tasks kept by a pass"],
+            Before::Counted => {
+                ["a plan kept by a number of callers", "a bank kept by a number of callers", "a queue kept by a number of callers", tasks]
+            }
+            Before::RefusedCount => kept!("a refused number of callers"),
+            Before::Called => ["a plan kept by a call", "a bank kept by a call", "a queue kept by a call", tasks],
+            Before::RefusedCall => kept!("a refused call"),
+            Before::Turned => ["a plan kept by a turn", in_use, "a queue kept by a turn", tasks],
+            Before::RefusedTurn => {
+                ["a plan kept by a refused turn", "a bank kept by a refused turn", "a queue kept by a refused turn", tasks]
+            }
             Before::Bad => kept!("a line that is no command"),
-            Before::Emptied | Before::Edited | Before::Other => ["a plan", in_use, "a queue"],
+            Before::Emptied | Before::Edited | Before::Other => ["a plan", in_use, queue, tasks],
         }
     }
 
     fn meet_plan(&mut self, search: usize) {
-        let [kept, _, _] = self.kept();
+        let [kept, ..] = self.kept();
         self.met.push(kept);
         let is_known = !self.shown.insert(search);
         self.met_if(is_known, "a plan shown again");
@@ -1399,7 +1491,7 @@ impl<S: Shelf> Console<S> {
             self.met_if(self.before == Before::Edited && self.found != empty_bank(), "a bank emptied by an edit");
             return;
         }
-        let [_, kept, _] = self.kept();
+        let [_, kept, ..] = self.kept();
         self.met.push(kept);
     }
 
@@ -1410,7 +1502,26 @@ impl<S: Shelf> Console<S> {
             self.met_if(self.before == Before::Edited && self.took_tasks, "queue: none after an edit");
             return;
         }
-        let [_, _, kept] = self.kept();
+        let [_, _, kept, _] = self.kept();
+        self.met.push(kept);
+    }
+
+    /// A time unit at the callers' port.
+    fn meet_turn(&mut self, unit: &Unit) {
+        self.met.extend(callers_met::turn(unit, &self.bank, &self.callers, &self.queue));
+        if self.callers.waiting() == 0 {
+            let took_tasks = self.found_callers.as_ref().is_some_and(|(found, _)| found.waiting() > 0);
+            self.met_if(self.before == Before::Edited && took_tasks, "turn: nobody waits after an edit");
+            self.met_if(self.before == Before::Emptied && took_tasks, "turn: nobody waits after a new unit");
+            self.met_if(self.before == Before::Counted && took_tasks, "turn: nobody waits after a number of callers");
+            return;
+        }
+        if let Some((Callers { turn, .. }, set_back)) = self.found_callers.take() {
+            // the one whose turn it was has work again
+            let both_wait = turn > 1 && self.callers.is_caller(turn) && self.callers.has_work(turn) && self.callers.has_work(1);
+            self.met_if(both_wait, set_back);
+        }
+        let [.., kept] = self.kept();
         self.met.push(kept);
     }
 }
@@ -1514,6 +1625,12 @@ pub const WANTED: &[&str] = &[
     "a plan kept by an arrival",
     "a plan kept by a refused arrival",
     "a plan kept by a pass",
+    "a plan kept by a number of callers",
+    "a plan kept by a refused number of callers",
+    "a plan kept by a call",
+    "a plan kept by a refused call",
+    "a plan kept by a turn",
+    "a plan kept by a refused turn",
     "a plan kept by a line that is no command",
     "a plan with a sum above 255",
     "a plan of two or more latencies",
@@ -1800,6 +1917,7 @@ pub const WANTED: &[&str] = &[
     "pass: held back by tasks of its own function alone",
     "pass: held back by tasks of other functions alone",
     "pass: held back by tasks started by hand alone",
+    "pass: held back by callers' tasks alone",
     "pass: held back by a task started 31 units before alone",
     "pass: a start of the only one",
     "pass: a start of 32",
@@ -1834,6 +1952,7 @@ pub const WANTED: &[&str] = &[
     "a start by hand of the function that waits longest",
     "a start by hand of another function than waits longest",
     "a start by hand held back as the oldest is",
+    "a start by hand held back by callers' tasks alone",
     "a tick where the oldest would be granted",
     "a queue",
     "a queue emptied by a new unit",
@@ -1867,7 +1986,191 @@ pub const WANTED: &[&str] = &[
     "a queue kept by a start",
     "a queue kept by a refused start",
     "a queue kept by a refused arrival",
+    "a queue kept by a number of callers",
+    "a queue kept by a refused number of callers",
+    "a queue kept by a call",
+    "a queue kept by a refused call",
+    "a queue kept by a turn",
+    "a queue kept by a refused turn",
     "a queue kept by a line that is no command",
+    "callers: no number",
+    "callers: a number too many",
+    "callers: a number above 4294967295",
+    "callers: 0",
+    "callers: 5",
+    "callers: a number that would do without its higher bytes",
+    "callers: refused, and there are none yet",
+    "callers: refused while tasks wait",
+    "callers: refused in another's turn than caller 1's",
+    "callers: the first time",
+    "callers: 1",
+    "callers: 4",
+    "callers: fewer than before, while tasks wait",
+    "callers: as many as before, while tasks wait",
+    "callers: more than before, while tasks wait",
+    "callers: fewer than the one whose turn it is",
+    "callers: said in another's turn than caller 1's",
+    "call: no ticket",
+    "call: a number too many",
+    "call: a caller above 4294967295",
+    "call: a tag above 4294967295",
+    "call: a ticket above 4294967295",
+    "call: caller 1, and there are none yet",
+    "call: caller 4, and there are none yet",
+    "call: no callers yet, and not refused by 2",
+    "call: caller 0",
+    "call: a caller after the last",
+    "call: caller 5 of 4",
+    "call: a caller that there was before",
+    "call: a caller that would do without its higher bytes",
+    "call: refused by 18, and the tag is good",
+    "call: refused by 18 and not by 2",
+    "call: refused by 18 and not by 14",
+    "call: refused by 18, and would do with caller and tag exchanged",
+    "call: refused by 2, and there is room",
+    "call: refused by 2 and not by 14",
+    "call: a tag 0",
+    "call: a tag after the last",
+    "call: a tag that would do without its higher bytes",
+    "call: refused by 2, and would do with caller and tag exchanged",
+    "call: refused by 2, and would do with tag and ticket exchanged",
+    "call: refused by 14, though another has room",
+    "call: refused by 14, where nobody else waits",
+    "call: refused by 14, where four are full",
+    "call: refused by 14 at the one whose turn it is",
+    "call: refused by 14 at another than whose turn it is",
+    "call: the first of all, of the one whose turn it is",
+    "call: the first of all, of another than whose turn it is",
+    "call: the first of its caller, while others wait",
+    "call: of the one whose turn it is, whose queue is empty while others wait",
+    "call: of another than whose turn it is, whose queue is empty while others wait",
+    "call: of another than whose turn it is, who waits",
+    "call: the 8th",
+    "call: the 9th of all, or a later one",
+    "call: the 32nd of all",
+    "call: taken, though another has no room",
+    "call: caller 4",
+    "call: function 4",
+    "call: a function that the bank holds back",
+    "call: the first of all, of a function that the bank grants",
+    "call: would do with caller and tag exchanged",
+    "call: would do with tag and ticket exchanged",
+    "call: a ticket 0",
+    "call: a ticket 4294967295",
+    "call: a ticket above 65535",
+    "call: a ticket above 2147483647",
+    "call: a task as one that waits at its caller",
+    "call: a task as one that waits at another caller",
+    "call: a ticket that waits at another caller",
+    "turn: a number after it",
+    "turn: no callers yet, and the bank is in use",
+    "turn: no callers yet, and the bank is empty",
+    "turn: no callers yet, and the queue's oldest would be granted",
+    "turn: nobody waits, and the bank is in use",
+    "turn: nobody waits, and the bank is empty",
+    "turn: nobody waits in another's turn than caller 1's",
+    "turn: nobody waits, and the queue's oldest would be granted",
+    "turn: none, though another caller's oldest would be granted",
+    "turn: none, though one behind the oldest would be granted",
+    "turn: none, though the queue's oldest would be granted",
+    "turn: none, and nobody else waits",
+    "turn: none, and all of four wait",
+    "turn: none of several callers' oldest would be granted",
+    "turn: none, and the turn is handed on all the same",
+    "turn: none, and the turn is handed on round to a lower caller",
+    "turn: none of 8",
+    "turn: none, and one unit later it would be granted",
+    "turn: none, though function 1 would be granted",
+    "turn: none, though the function of the caller's number would be granted",
+    "turn: a start of the one to whom the turn is handed on",
+    "turn: a start of the one to whom the turn is handed on past another",
+    "turn: a start of the one to whom the turn is handed on round",
+    "turn: a start, and nobody is left",
+    "turn: a start of another than caller 1, and nobody is left",
+    "turn: a start, and the starter alone has more",
+    "turn: a start of a caller's only one, while others wait",
+    "turn: a start, and the turn goes to the next caller",
+    "turn: a start, and the turn goes past a caller without work",
+    "turn: a start, and the turn goes round to caller 1",
+    "turn: a start, and the turn goes round past caller 1",
+    "turn: a start, and all of four wait",
+    "turn: a start of 32",
+    "turn: a start of one caller alone",
+    "turn: a start of 8 of one caller alone",
+    "turn: a start of a caller with 8",
+    "turn: a start, though another caller has more tasks",
+    "turn: a start, and another caller's oldest would be granted too",
+    "turn: a start, though the next caller's oldest would be held back",
+    "turn: a start, though its caller's youngest would be held back",
+    "turn: a start beside tasks in the queue",
+    "turn: a start that would be held back one unit later",
+    "turn: a start beside other tasks",
+    "turn: a start, though another function would be held back",
+    "turn: a start, though the function of the caller's number would be held back",
+    "turn: a start in a unit without marks",
+    "turn: a start of a function without marks beside others",
+    "turn: a start of caller 4",
+    "turn: a start of function 4",
+    "turn: a start of a function that has not its caller's number",
+    "turn: a start of a ticket 0",
+    "turn: a start of a ticket above 65535",
+    "turn: a start of a ticket above 2147483647",
+    "turn: nobody waits after an edit",
+    "turn: nobody waits after a new unit",
+    "turn: nobody waits after a number of callers",
+    "turn: caller 1's, where an edit set another's back",
+    "turn: caller 1's, where a new unit set another's back",
+    "turn: caller 1's, where a number of callers set another's back",
+    "turn: held back by tasks of its own caller alone",
+    "turn: held back by tasks of other callers alone",
+    "turn: held back by the queue's tasks alone",
+    "turn: held back by tasks started by hand alone",
+    "turn: held back by a task started 31 units before alone",
+    "turn: a start, though another caller's task waits longer",
+    "turn: a second start of a caller, though another came between",
+    "turn: a second start of a caller, though another came before it when nobody waited",
+    "turn: a start of the one to whom the turn was handed, with work by now where it came from",
+    "turn: a start in the last unit that it may be in, of one caller",
+    "turn: a start in the last unit that it may be in, of two callers",
+    "turn: a start in the last unit that it may be in, of four callers",
+    "turn: a start in unit 128",
+    "callers' tasks",
+    "callers' tasks taken away by a new unit",
+    "callers' tasks taken away by a new unit beside an empty bank and queue",
+    "callers' tasks taken away by a mark",
+    "callers' tasks taken away by a mark that stood",
+    "callers' tasks taken away by an unmark",
+    "callers' tasks taken away by an unmark of no mark",
+    "callers' tasks taken away by an edit beside an empty bank and queue",
+    "callers' tasks kept by a refused fresh",
+    "callers' tasks kept by a refused load",
+    "callers' tasks kept by a load of no file",
+    "callers' tasks kept by a refused edit",
+    "callers' tasks kept by a search",
+    "callers' tasks kept by a refused search",
+    "callers' tasks kept by a loop",
+    "callers' tasks kept by a refused loop",
+    "callers' tasks kept by a record",
+    "callers' tasks kept by a refused record",
+    "callers' tasks kept by a record that was not written",
+    "callers' tasks kept by a record that is shown",
+    "callers' tasks kept by a file that is no record",
+    "callers' tasks kept by a chart",
+    "callers' tasks kept by a refused chart",
+    "callers' tasks kept by delays",
+    "callers' tasks kept by refused delays",
+    "callers' tasks kept by delays that were not written",
+    "callers' tasks kept by a save",
+    "callers' tasks kept by a save that was not written",
+    "callers' tasks kept by a tick",
+    "callers' tasks kept by a start",
+    "callers' tasks kept by a refused start",
+    "callers' tasks kept by an arrival",
+    "callers' tasks kept by a refused arrival",
+    "callers' tasks kept by a pass",
+    "callers' tasks kept by a refused number of callers",
+    "callers' tasks kept by a refused call",
+    "callers' tasks kept by a line that is no command",
     "no plan after a loop",
     "a bank in use",
     "a bank emptied",
@@ -1877,6 +2180,8 @@ pub const WANTED: &[&str] = &[
     "a bank in use emptied by an unmark",
     "a bank in use emptied by an unmark of no mark",
     "a bank in use emptied by an edit beside an empty queue",
+    "a bank in use and a queue emptied by an edit while no caller waits",
+    "a bank in use and a queue emptied by a new unit while no caller waits",
     "a bank emptied by an edit",
     "a start granted that the bank before an edit held back",
     "a bank kept by a refused fresh",
@@ -1902,6 +2207,11 @@ pub const WANTED: &[&str] = &[
     "a bank kept by a refused start",
     "a bank kept by an arrival",
     "a bank kept by a refused arrival",
+    "a bank kept by a number of callers",
+    "a bank kept by a refused number of callers",
+    "a bank kept by a call",
+    "a bank kept by a refused call",
+    "a bank kept by a refused turn",
     "a bank kept by a line that is no command",
     "an input of no bytes",
     "an input that comes byte by byte",

@@ -1,5 +1,6 @@
 //! Scripts for the console, good lines and bad ones, made from fixed seeds. Each line has its answer before the program is run.
 
+use crate::callers::{CALLER_ROOM, MOST_CALLERS};
 use crate::charts;
 use crate::console_folder::{has_devices, File, Folder, FULL, INNER, NULL, PART};
 use crate::console_model::*;
@@ -414,7 +415,7 @@ const NO_NUMBERS: [&[u8]; 23] = [
     b"Q",
     b"1/1",
 ];
-const NO_COMMANDS: [&[u8]; 46] = [
+const NO_COMMANDS: [&[u8]; 55] = [
     b"help",
     b"quit",
     b"exit",
@@ -459,6 +460,15 @@ const NO_COMMANDS: [&[u8]; 46] = [
     b"queues",
     b"queu",
     b"queue:",
+    b"caller 2",
+    b"callerss 2",
+    b"callers2",
+    b"calls 1 1 7",
+    b"cal 1 1 7",
+    b"call1 1 7",
+    b"turns",
+    b"tur",
+    b"turn1",
     b"\xef\xbb\xbftick",
     b"line 1: expected a command",
 ];
@@ -493,7 +503,7 @@ const ODD_NAMES: [&[u8]; 25] = [
 ];
 /// Every sort of command, and lines that are none, for a unit of two functions, 3 segments and 5 columns with a plan for the first one and
 /// its record.
-const BETWEEN: [&str; 76] = [
+const BETWEEN: [&str; 87] = [
     "fresh 1 1 1",
     "fresh 2 3 5",
     "fresh 0 3 5",
@@ -567,6 +577,17 @@ const BETWEEN: [&str; 76] = [
     "pass 1",
     "queue",
     "queue 1",
+    "callers 3",
+    "callers 2",
+    "callers 5",
+    "callers",
+    "call 1 1 9",
+    "call 0 1 9",
+    "call 1 3 9",
+    "call 1 1",
+    "turn",
+    "turn 1",
+    "turns",
     "tack",
     "# a comment",
     "",
@@ -597,7 +618,7 @@ const BARE_LINES: [&[u8]; 22] = [
     b"\0",
 ];
 /// In how many forms long lines come.
-const LONG_FORMS: u64 = 47;
+const LONG_FORMS: u64 = 52;
 /// Lengths of lines: around the limit, around multiples of it, and far above it.
 const LENGTHS: [usize; 21] = [
     4_095, 4_095, 4_096, 4_096, 4_096, 4_097, 4_097, 4_098, 5_000, 8_190, 8_191, 8_192, 8_193, 8_194, 12_288, 12_289, 16_384, 65_535,
@@ -607,7 +628,7 @@ const LENGTHS: [usize; 21] = [
 /// What a command wants: a file that is not there, two numbers for any number of them, and this number for each other.
 fn words_for(wants: &str, number: &str) -> String {
     let words = wants.replace("[FILE]", "missing").replace("FILE", "missing").replace("UNITS", "9").replace("TICKET", "9");
-    words.replace(" L L ..", " 1 1").replace(" Q Q ..", " 1 1").replace(['P', 'S', 'Q', 'R', 'C', 'M'], number)
+    words.replace(" L L ..", " 1 1").replace(" Q Q ..", " 1 1").replace(['P', 'S', 'Q', 'R', 'C', 'M', 'I'], number)
 }
 
 impl Writer {
@@ -1115,7 +1136,7 @@ impl Writer {
     /// A ticket, which may be any number: also one that waits, or one of the unit's tags.
     fn ticket(&mut self) -> String {
         let (functions, _, _) = self.counts();
-        let waiting: Vec<u32> = self.console.queue.iter().map(|task| task.ticket).collect();
+        let waiting: Vec<u32> = self.console.queue.iter().chain(self.console.callers.queues.concat().iter()).map(|it| it.ticket).collect();
         let ticket = match self.random.below(24) {
             0..=5 => self.random.pick(&TICKETS),
             6..=9 if !waiting.is_empty() => self.random.pick(&waiting),
@@ -1157,6 +1178,93 @@ impl Writer {
         .into_bytes()
     }
 
+    /// The highest caller that there is, or that there can be where there are none yet.
+    fn most_callers(&self) -> u32 {
+        match self.console.callers.count {
+            0 => MOST_CALLERS,
+            count => count,
+        }
+    }
+
+    fn good_caller(&mut self) -> u32 {
+        let most = self.most_callers();
+        self.random.between(1, most)
+    }
+
+    /// A number of callers that may be said.
+    fn good_count(&mut self) -> Vec<u8> {
+        let count = self.random.pick(&[1, 2, 2, 3, 3, 4, 4]);
+        format!("callers {count}").into_bytes()
+    }
+
+    /// A number of callers, good or bad.
+    fn count(&mut self) -> Vec<u8> {
+        let good = self.random.between(1, MOST_CALLERS);
+        match self.random.below(24) {
+            0..=3 => format!("callers {}", self.random.pick(&[0, 5, 5, 6, 8, 255, 256])),
+            4 | 5 => format!("callers {}", self.random.pick(&[256, 65_536, 1 << 24, u32::MAX - 255]) + good),
+            6 => format!("callers {}", self.random.pick(&MANY)),
+            7 => format!("callers {}", self.random.pick(&TOO_MANY)),
+            8 => format!("callers {}", (1u64 << 32) + good as u64),
+            9 => "callers".to_string(),
+            10 => format!("callers {good} {}", self.random.between(0, 9)),
+            _ => format!("callers {}", self.digits(good)),
+        }
+        .into_bytes()
+    }
+
+    /// What is no caller, or no number.
+    fn bad_caller(&mut self) -> String {
+        let (most, good) = (self.most_callers(), self.good_caller());
+        match self.random.below(16) {
+            0..=3 => "0".to_string(),
+            4..=7 => (most + 1).to_string(),
+            8 => "5".to_string(),
+            9..=11 => (self.random.pick(&[256, 65_536, 1 << 24, u32::MAX - 255]) + good).to_string(),
+            12 => ((1u64 << 32) + good as u64).to_string(),
+            13 => self.random.pick(&TOO_MANY).to_string(),
+            _ => self.random.pick(&["x", "-1", "1x", "1,", "+1", "0x1"]).to_string(),
+        }
+    }
+
+    /// A task of a function of the unit, of one of the callers.
+    fn good_call(&mut self) -> Vec<u8> {
+        let (caller, tag) = (self.good_caller(), self.good_tag());
+        format!("call {caller} {tag} {}", self.ticket()).into_bytes()
+    }
+
+    /// A task of one of the callers, mostly of a function of the unit.
+    fn call(&mut self) -> Vec<u8> {
+        let caller = match self.random.below(12) {
+            0 | 1 => self.bad_caller(),
+            2 => {
+                let most = self.most_callers();
+                self.argument(most)
+            }
+            _ => self.good_caller().to_string(),
+        };
+        let tag = match self.random.below(12) {
+            0 | 1 => self.bad_tag(),
+            2 => self.tag(),
+            _ => self.good_tag().to_string(),
+        };
+        let ticket = match self.random.below(24) {
+            0 => self.random.pick(&TOO_MANY).to_string(),
+            1 => ((1u64 << 32) + self.random.between(0, 99) as u64).to_string(),
+            _ => self.ticket(),
+        };
+        match self.random.below(48) {
+            // the other way about, too few numbers, or one too many
+            0 => format!("call {tag} {caller} {ticket}"),
+            1 => format!("call {caller} {ticket} {tag}"),
+            2 => format!("call {tag} {ticket}"),
+            3 => format!("call {caller}"),
+            4 => format!("call {caller} {tag} {ticket} {}", self.random.between(0, 9)),
+            _ => format!("call {caller} {tag} {ticket}"),
+        }
+        .into_bytes()
+    }
+
     fn view(&mut self) -> Vec<u8> {
         let reader: &[u8] = self.random.pick(&[b"report ", b"ring "]);
         [reader, &self.view_name()].concat()
@@ -1191,7 +1299,7 @@ impl Writer {
     }
 
     fn command(&mut self) -> Vec<u8> {
-        match self.random.below(146) {
+        match self.random.below(157) {
             0..=22 => self.mark(),
             23..=29 => self.unmark(),
             30..=38 => self.about("search"),
@@ -1226,7 +1334,10 @@ impl Writer {
             135..=138 => self.arrive(),
             139..=142 => b"pass".to_vec(),
             143 | 144 => b"queue".to_vec(),
-            _ => format!("{} {}", self.random.pick(&["pass", "queue"]), self.random.between(0, 9)).into_bytes(),
+            145..=148 => self.call(),
+            149..=153 => b"turn".to_vec(),
+            154 => self.count(),
+            _ => format!("{} {}", self.random.pick(&["pass", "queue", "turn"]), self.random.between(0, 9)).into_bytes(),
         }
     }
 
@@ -1404,6 +1515,9 @@ impl Writer {
             }
             42 => filled(format!("arrive {tag} "), "4294967295".to_string()),
             43 => filled("arrive ".to_string(), format!("{tag} 7")),
+            47 => filled("callers ".to_string(), "2".to_string()),
+            48 => filled("call ".to_string(), format!("2 {tag} 7")),
+            49 => filled(format!("call 1 {tag} "), "4294967295".to_string()),
             // blanks in place of what is missing: in front, between, at the end
             _ => {
                 let mut blank = || self.random.pick(&[b' ', b' ', b'\t']);
@@ -1425,6 +1539,8 @@ impl Writer {
                     44 => long(format!("arrive {tag}"), "7".to_string()),
                     45 => long("pass".to_string(), String::new()),
                     46 => long(String::new(), "queue\r".to_string()),
+                    50 => long(format!("call 1 {tag}"), "7".to_string()),
+                    51 => long("turn".to_string(), String::new()),
                     _ => long(format!("\tvector {tag}"), "x".to_string()),
                 }
             }
@@ -1469,7 +1585,7 @@ impl Writer {
     fn search_and_read(&mut self) {
         let tag = self.good_tag();
         self.put(format!("search {tag}"));
-        match self.random.below(37) {
+        match self.random.below(40) {
             0 => {
                 let line = self.refused_fresh();
                 self.put(line);
@@ -1546,6 +1662,15 @@ impl Writer {
             30 => {
                 let name = self.random.pick(&["again1", "missing/out", INNER]);
                 self.put(format!("save {name}"));
+            }
+            31 => {
+                let line = self.call();
+                self.put(line);
+            }
+            32 => self.put("turn"),
+            33 => {
+                let line = self.count();
+                self.put(line);
             }
             _ => {}
         }
@@ -1882,7 +2007,7 @@ impl Writer {
         let (functions, segments, columns) = self.counts();
         let tag = self.good_tag();
         let edit = self.random.pick(&["mark", "unmark"]);
-        match self.random.below(51) {
+        match self.random.below(56) {
             0 => self.refused_fresh(),
             1 => format!("load {}", damaged_name(self.random.below(DAMAGED_FILES as u64) as usize)).into_bytes(),
             2 => self.fresh(),
@@ -1917,6 +2042,9 @@ impl Writer {
             47 => self.about("start"),
             48 => [b"save ", &self.save_name()[..]].concat(),
             49 => format!("save {}", self.random.pick(&["missing/out", INNER])).into_bytes(),
+            50 | 51 => self.call(),
+            52 => b"turn".to_vec(),
+            53 => self.count(),
             _ => b"tick".to_vec(),
         }
     }
@@ -2104,6 +2232,237 @@ impl Writer {
         }
     }
 
+    /// Tasks of callers, time units of their port, and what may come between.
+    fn some_calls(&mut self) {
+        for _ in 0..self.random.between(1, 3) {
+            match self.random.below(24) {
+                0..=2 => self.burst(),
+                3..=5 => {}
+                _ => {
+                    let count = self.random.between(1, 8) as usize;
+                    self.calls(count);
+                }
+            }
+            if self.random.chance(2, 3) {
+                let line = if self.random.chance(2, 3) { self.between_starts() } else { self.command() };
+                self.put(line);
+            }
+            let units = match self.random.below(8) {
+                0 => 30,
+                1 => 1,
+                _ => self.random.between(2, 16),
+            };
+            self.turns(units);
+        }
+    }
+
+    /// Calls of one caller until no other has room, and now and then some more.
+    fn burst(&mut self) {
+        let caller = self.good_caller();
+        let room = CALLER_ROOM - self.console.callers.queue(caller).len();
+        for _ in 0..room + self.random.pick(&[0, 1, 2]) {
+            let line = match self.random.below(30) {
+                0 => b"turn".to_vec(),
+                1 => self.good_call(),
+                2 => format!("call {caller} {} {}", self.bad_tag(), self.ticket()).into_bytes(),
+                _ => format!("call {caller} {} {}", self.good_tag(), self.ticket()).into_bytes(),
+            };
+            self.put(line);
+        }
+    }
+
+    /// So many calls, most of them good.
+    fn calls(&mut self, count: usize) {
+        for _ in 0..count {
+            let line = match self.random.below(30) {
+                0 | 1 => self.call(),
+                2 => b"turn".to_vec(),
+                3 if self.random.chance(1, 3) => self.count(),
+                _ => self.good_call(),
+            };
+            self.put(line);
+        }
+    }
+
+    /// So many time units of the callers' port, some of them by hand or of the queue.
+    fn turns(&mut self, count: u32) {
+        for _ in 0..count {
+            let waits = self.console.callers.waiting() > 0;
+            let line = match self.random.below(48) {
+                0 => b"tick".to_vec(),
+                1 | 2 => format!("start {}", self.good_tag()).into_bytes(),
+                3 => b"pass".to_vec(),
+                4 => self.good_arrival(),
+                5 => b"queue".to_vec(),
+                6 => b"bank".to_vec(),
+                7 => self.call(),
+                8 if self.random.chance(1, 3) => self.count(),
+                9..=14 => self.good_call(),
+                15..=28 if !waits => self.good_call(),
+                _ => b"turn".to_vec(),
+            };
+            self.put(line);
+        }
+    }
+
+    /// Lines with a semicolon between each two.
+    fn put_list(&mut self, lines: &str) {
+        for line in lines.split("; ") {
+            self.put(line);
+        }
+    }
+
+    /// Before there are callers: what is refused, and what is to be as it was before it.
+    fn no_callers(&mut self) {
+        self.put(format!("load {}", queue_name(FIGURE_2)));
+        self.put_list("turn; call 1 1 7; call 4 2 7; call 0 1 7; call 5 1 7; call 1 3 7; call 1 0 7; call 257 1 7; turn");
+        self.put_list("callers 0; callers 5; callers 257; callers 4294967295; caller 2; calls 1 1 7; turn; call 1 1 7");
+        for line in ["turn", "call 1 1 7", "call 9 9 7", "callers 0", "callers", "turn 1"] {
+            for seen in ["bank", "read", "queue"] {
+                self.put_list(&format!("search 1; start 1; arrive 2 17; {line}; {seen}; pass; bank; queue"));
+            }
+        }
+        // an edit and a new unit make no callers
+        self.put_list("mark 1 1 1; turn; call 1 1 7; fresh 1 1 1; turn; call 1 1 7");
+    }
+
+    /// Callers on special units.
+    fn hard_callers(&mut self) {
+        // four callers with 8 tasks each; no other has room
+        self.put(format!("load {}", queue_name(NO_MARKS)));
+        self.put("callers 4");
+        for ticket in 0..36 {
+            self.put(format!("call {} {} {}", ticket % 4 + 1, ticket / 4 % 4 + 1, 40 - ticket));
+        }
+        self.put_list("call 5 1 1; call 0 1 1; call 260 1 1; call 1 5 1; call 4 0 1; call 3 257 1; call 5 5 1; bank");
+        self.put_list("turn; turn; call 3 4 4294967295; call 2 1 2147483648; call 2 3 65536; call 1 4 0");
+        self.put_all(&["turn"; 36]);
+        // a burst, and others who come while it goes on
+        self.put_list("callers 3; call 2 1 0; call 2 2 1; call 2 2 2; call 2 2 3; call 2 2 4; call 2 2 5");
+        self.put_list("call 2 2 6; call 2 2 7; call 2 2 8");
+        self.put_list("turn; call 3 3 31; turn; call 1 1 11; turn; call 3 2 32; call 1 4 12; turn; turn; turn; turn");
+        self.put_list("call 2 1 10; call 2 1 11; call 2 1 12; turn; turn; call 3 1 33");
+        self.put_all(&["turn"; 9]);
+        // whose turn it is after a start, where the starter alone has more, and where nobody is left
+        for count in 2..=4 {
+            for caller in 1..=count {
+                let (next, last) = (caller % count + 1, (caller + count - 2) % count + 1);
+                self.put_list(&format!("callers {count}; call {caller} 1 1; call {caller} 2 2; turn; call {next} 3 3; turn; turn; turn"));
+                self.put_list(&format!("call {last} 4 4; call {next} 1 5; turn; turn"));
+                self.put_list(&format!("call {caller} 1 6; turn; call {last} 2 7; call {caller} 3 8; turn; turn"));
+            }
+        }
+        // fewer callers, more and as many, while tasks wait and it is another's turn
+        for (before, after) in [(4, 2), (4, 3), (2, 4), (3, 3), (4, 1), (1, 4), (3, 2), (2, 1)] {
+            self.put(format!("callers {before}"));
+            for ticket in 0..9 {
+                self.put(format!("call {before} 1 {ticket}"));
+            }
+            self.put_list(&format!("call 1 2 21; call 1 3 22; turn; callers 0; turn; call {before} 1 9; call 1 2 23"));
+            self.put_list(&format!("callers {after}; turn"));
+            self.put_list(&format!("call {} 1 31; call {before} 4 32; call {} 2 33; call 1 2 34", after + 1, before.min(after)));
+            self.put_list("turn; turn; turn; turn; callers 4; turn; call 1 1 41; turn");
+        }
+        // a caller's task holds back the queue's and those by hand, and the other way about
+        self.put(format!("load {}", queue_name(ALL_OF_4)));
+        self.put_list("callers 2; call 2 1 7; turn; arrive 1 8; pass; start 1; call 1 1 9; turn; pass; pass; turn; turn; turn; turn");
+        self.put_list("turn; turn; call 1 1 10; start 1; turn; tick; turn; bank; turn; turn; queue");
+        // the turn is handed on though the bank does not grant the start, and kept whoever comes
+        for (caller, others) in [(3, [1, 2]), (2, [1, 3]), (2, [3, 1])] {
+            self.put_list(&format!("callers 3; start 1; call {caller} 1 1; turn; call {} 1 2; turn; call {} 1 3", others[0], others[1]));
+            self.put_all(&["turn"; 12]);
+        }
+        // as long as can be
+        for count in 1..=4 {
+            self.put_list(&format!("tick; tick; tick; callers {count}; start 1"));
+            for caller in (1..=count).rev().chain(1..=count) {
+                self.put_list(&format!("call {caller} 1 65535; call {caller} 1 4294967295"));
+            }
+            self.put_all(&vec!["turn"; 4 * 4 * count + 2]);
+        }
+        // for 31 time units after the other's tasks one of function 2 would meet one of them
+        self.put(format!("load {}", queue_name(APART)));
+        self.put("callers 2");
+        for ticket in 0..32 {
+            self.put_list(&format!("call 1 1 {ticket}; turn"));
+        }
+        self.put_list("call 2 2 2147483648; call 1 1 65536");
+        self.put_all(&["turn"; 35]);
+    }
+
+    /// Every sort of command while several callers wait, with what becomes of their tasks, of the turn and of the number of callers.
+    fn between_turns(&mut self) {
+        let load = format!("load {}", queue_name(FIGURE_2));
+        for line in BETWEEN {
+            self.put_list(&format!("{load}; callers 3; search 1; record 1 plan0; call 1 2 17; call 3 1 4294967295; call 1 1 5; turn"));
+            self.put(line);
+            self.put_list("turn; bank; turn; read; turn; call 3 2 9; call 2 1 8; turn; turn; turn; turn; turn; bank; queue");
+        }
+        self.put_list(&format!("{load}; callers 2; call 2 1 7"));
+        self.put([b'x'; LONGEST_LINE + 1]);
+        self.put_list("turn; turn");
+        // new units and edits beside an empty bank and queue, while nobody waits, and in another's turn
+        let empties = |line: &&str| ["fresh ", "load ", "mark ", "unmark "].iter().any(|name| line.starts_with(name));
+        for line in BETWEEN.into_iter().filter(empties) {
+            self.put_list(&format!("{load}; callers 2; call 2 1 7; {line}; turn; call 2 1 8; call 1 1 9; turn; turn"));
+            self.put_list(&format!("{load}; call 1 1 7; call 2 1 7; turn; {line}; call 2 1 8; call 1 1 9; turn; turn; bank"));
+            self.put_list(&format!("{load}; callers 3; call 3 1 7; turn; arrive 2 7; {line}; bank; queue; call 3 1 8; call 1 1 9; turn"));
+        }
+    }
+
+    /// Four callers whose tasks each fill the unit: each task waits for 128 time units once it is its caller's oldest.
+    fn longest_turns(&mut self) {
+        self.put(format!("load {}", queue_name(ALL_OF_32)));
+        self.put("callers 4");
+        for ticket in 0..12 {
+            self.put(format!("call {} 1 {ticket}", ticket % 4 + 1));
+        }
+        for unit in 1..=12 * MOST_COLUMNS {
+            self.put("turn");
+            // what comes later waits behind
+            if unit % 48 == 0 {
+                self.put(format!("call {} 1 {unit}", unit / 48 % 4 + 1));
+            }
+        }
+    }
+
+    /// Callers on a unit for tasks, above all.
+    fn caller_session(&mut self) {
+        let (good, own) = (self.random.below(GOOD_FILES as u64) as usize, self.random.below(QUEUE_FILES as u64) as usize);
+        match self.random.below(8) {
+            0 => self.begin(),
+            1 => self.put(format!("load {}", good_name(good))),
+            _ => self.put(format!("load {}", queue_name(own))),
+        }
+        if self.console.callers.count == 0 || self.random.chance(1, 3) {
+            let line = self.good_count();
+            self.put(line);
+        }
+        for _ in 0..self.random.between(1, 6) {
+            match self.random.below(16) {
+                0 | 1 => self.some_queue(),
+                2 => self.events(),
+                3 => self.some_line(),
+                4 => {
+                    let tag = self.good_tag();
+                    self.put(format!("search {tag}"));
+                }
+                5 | 6 => {
+                    let units = self.random.between(1, 60);
+                    self.burst();
+                    self.turns(units);
+                }
+                7 => {
+                    for _ in 0..self.random.between(2, 5) {
+                        self.burst();
+                    }
+                    self.turns(40);
+                }
+                _ => self.some_calls(),
+            }
+        }
+    }
+
     /// As long as any task can wait: 31 are ahead, n is 31, and each of them waits until nothing else is in the unit.
     fn longest_wait(&mut self) {
         self.put(format!("load {}", queue_name(ALL_OF_32)));
@@ -2210,7 +2569,7 @@ impl Writer {
             if self.console.unit.as_ref().is_some_and(|unit| unit.marks.len() < 3) && self.random.chance(1, 3) {
                 self.marks();
             }
-            match self.random.below(69) {
+            match self.random.below(71) {
                 0..=5 => self.search_and_read(),
                 6 => self.questions(),
                 7 => self.events(),
@@ -2220,6 +2579,7 @@ impl Writer {
                 12 => self.charts(),
                 13 => self.some_delays(),
                 14 => self.some_queue(),
+                15 => self.some_calls(),
                 _ => self.some_line(),
             }
         }
@@ -2281,6 +2641,8 @@ fn sessions(lines: usize, before: &Folder, console: Console<Folder>) -> (Script,
     for (name, wants) in COMMANDS.into_iter().filter(|(_, wants)| wants.starts_with(" Q")) {
         writer.put(format!("{name}{}", words_for(wants, "4")));
     }
+    writer.no_callers();
+    writer.put("fresh 3 4 9");
     for form in 0..LONG_FORMS {
         for length in [4_095, 4_096, 4_097, 4_098, 100_000] {
             let line = writer.long(form, length);
@@ -2293,6 +2655,8 @@ fn sessions(lines: usize, before: &Folder, console: Console<Folder>) -> (Script,
     writer.hard_charts();
     writer.hard_delays();
     writer.hard_queues();
+    writer.hard_callers();
+    writer.between_turns();
     writer.hard_names();
     while !writer.full() {
         writer.session();
@@ -2309,7 +2673,7 @@ fn sessions(lines: usize, before: &Folder, console: Console<Folder>) -> (Script,
 /// A few lines that end in a special way.
 fn ending(place: usize, last: &[u8], newline: bool, before: &Folder, console: Console<Folder>) -> (Script, Console<Folder>) {
     let mut writer = Writer::new(seed_of(201, place as u64), 10, console.again(before.clone()));
-    for line in ["fresh 1 2 3", "mark 1 2 1", "mark 1 2 3", "search 1", "arrive 1 7"] {
+    for line in ["fresh 1 2 3", "mark 1 2 1", "mark 1 2 3", "search 1", "arrive 1 7", "callers 2", "call 2 1 7"] {
         writer.put_bare(line);
     }
     writer.put_bare(last);
@@ -2377,6 +2741,24 @@ fn queues(before: &Folder, console: Console<Folder>) -> (Script, Console<Folder>
     writer.script(QUEUES, before.clone())
 }
 
+/// The name of the script about callers, and how many lines it has.
+pub const CALLERS: &str = "the callers";
+const CALLER_LINES: usize = 20_000;
+
+/// Callers in turn, on units of all sorts: before the first unit, before there are any, on special units, as long as can be, and at random.
+fn callers(before: &Folder, console: Console<Folder>) -> (Script, Console<Folder>) {
+    let mut writer = Writer::new(seed_of(206, 0), CALLER_LINES, console.again(before.clone()));
+    writer.put_all(&["turn", "callers 2", "call 1 1 7", "callers 0", "call 0 0 7", "turn"]);
+    writer.no_callers();
+    writer.hard_callers();
+    writer.between_turns();
+    writer.longest_turns();
+    while !writer.full() {
+        writer.caller_session();
+    }
+    writer.script(CALLERS, before.clone())
+}
+
 /// Whether a file of this folder is no unit.
 fn decode_fails(folder: &Folder, place: usize) -> bool {
     match folder.files.get(format!("r{place}").as_bytes()) {
@@ -2408,7 +2790,7 @@ pub fn scripts(lines: usize) -> Vec<Script> {
     let command = format!("vector {}1", "0".repeat(LONGEST_LINE - 8));
     let returned = format!("vector {}1\r", "0".repeat(LONGEST_LINE - 9));
     let too_long = format!("{command}\r");
-    let lasts: [&[u8]; 41] = [
+    let lasts: [&[u8]; 48] = [
         b"",
         b"table 1",
         b"tick",
@@ -2443,6 +2825,13 @@ pub fn scripts(lines: usize) -> Vec<Script> {
         b"pass\r",
         b"queue",
         b"queue ",
+        b"callers 4",
+        b"callers 0 \r",
+        b"call 1 1 4294967295",
+        b"call 2 1 8 \r",
+        b"turn",
+        b"turn\r",
+        b"turn ",
         command.as_bytes(),
         returned.as_bytes(),
         too_long.as_bytes(),
@@ -2490,6 +2879,8 @@ pub fn scripts(lines: usize) -> Vec<Script> {
     let made = records(take(&mut console));
     keep(made, &mut console);
     let made = queues(&before, take(&mut console));
+    keep(made, &mut console);
+    let made = callers(&before, take(&mut console));
     keep(made, &mut console);
     scripts
 }

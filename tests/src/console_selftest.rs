@@ -7,6 +7,10 @@
 
 #![allow(dead_code)]
 
+mod callers;
+mod callers_check;
+mod callers_faults;
+mod callers_met;
 mod charts;
 mod charts_check;
 mod console_check;
@@ -40,13 +44,15 @@ mod sheet;
 mod tally;
 mod units;
 
+use callers::{Shared, SHARED};
+use callers_faults::{shared_faults, CALLER_FAULTS, UNTOUCHED_FAULTS};
 use console_check::{check, Counts, Difference, Run};
 use console_faults::{file_of, sketched, Fault, Faulty, CHART_FAULTS, DELAY_FAULTS, FAULTS, RECORD_FAULTS};
 use console_folder::{store, Content, File, Folder, OfWritten, Shelf, HEAD, PART};
 use console_model::*;
 use console_outside::{cases, Outcome, Program};
 use console_program::{Ending, Place};
-use console_script::{scripts, Feed, Line, Script, LINES, QUEUES, RECORDS};
+use console_script::{scripts, Feed, Line, Script, CALLERS, LINES, QUEUES, RECORDS};
 use console_words::{one_turn, plan_drawing, Draw, Filler, Finder};
 use delays_check::by_trial;
 use loops::Loops;
@@ -340,6 +346,18 @@ impl Spoiler<'_> {
         })
     }
 
+    /// The words of a time unit's answer that a caller's task was started: `started`, caller, tag and ticket.
+    fn change_started(&mut self, edit: impl Fn(&mut Vec<&str>)) -> Placed {
+        self.change(|line, text, _, _| {
+            let mut words: Vec<&str> = text.trim_end().split(' ').collect();
+            if !matches!(&line.answer.sort, Sort::Of("turn", told) if told == "started") {
+                return None;
+            }
+            edit(&mut words);
+            Some(format!("{}\n", words.join(" ")))
+        })
+    }
+
     fn end(&self) -> Placed {
         Some(self.script.lines.len() + 1)
     }
@@ -476,7 +494,7 @@ fn worse(drawn: &Drawn, latencies: &[u8]) -> bool {
 
 type Wrong = (&'static str, fn(&mut Spoiler) -> Placed);
 
-const WRONG: [Wrong; 273] = [
+const WRONG: [Wrong; 317] = [
     ("mark: ok in place of refused 2", |it| it.change_of("mark", "refused 2", |_| "ok\n".to_string())),
     ("mark: refused 3 in place of refused 4", |it| it.change_of("mark", "refused 4", |_| "refused 3\n".to_string())),
     ("unmark: refused 2 in place of ok", |it| it.change_of("unmark", "ok", |_| "refused 2\n".to_string())),
@@ -1060,6 +1078,69 @@ const WRONG: [Wrong; 273] = [
     ("queue: none in place of some", |it| it.change_of("queue", "queue", |_| "queue 0:\n".to_string())),
     ("queue: none waits in place of no unit", |it| it.change_of("queue", "no unit", |_| "queue 0:\n".to_string())),
     ("queue: a number was expected", |it| it.change_of("queue", "line", |text| text.replace("expected queue", "expected queue Q"))),
+    ("callers: ok in place of refused 18", |it| it.change_of("callers", "refused 18", |_| "ok\n".to_string())),
+    ("callers: refused 18 in place of ok", |it| it.change_of("callers", "ok", |_| "refused 18\n".to_string())),
+    ("callers: refused 1 in place of refused 18", |it| it.change_of("callers", "refused 18", |_| "refused 1\n".to_string())),
+    ("callers: ok in place of no unit", |it| it.change_of("callers", "no unit", |_| "ok\n".to_string())),
+    ("callers: refused 18 in place of no unit", |it| it.change_of("callers", "no unit", |_| "refused 18\n".to_string())),
+    ("callers: refused 18 in place of what was expected", |it| it.change_of("callers", "line", |_| "refused 18\n".to_string())),
+    ("callers: nothing after it was expected", |it| it.change_of("callers", "line", |text| text.replace("callers C", "callers"))),
+    ("call: ok in place of refused 18", |it| it.change_of("call", "refused 18", |_| "ok\n".to_string())),
+    ("call: ok in place of refused 14", |it| it.change_of("call", "refused 14", |_| "ok\n".to_string())),
+    ("call: ok in place of refused 2", |it| it.change_of("call", "refused 2", |_| "ok\n".to_string())),
+    ("call: refused 14 in place of ok", |it| it.change_of("call", "ok", |_| "refused 14\n".to_string())),
+    ("call: refused 18 in place of ok", |it| it.change_of("call", "ok", |_| "refused 18\n".to_string())),
+    ("call: refused 10 in place of ok", |it| it.change_of("call", "ok", |_| "refused 10\n".to_string())),
+    ("call: refused 2 in place of refused 14", |it| it.change_of("call", "refused 14", |_| "refused 2\n".to_string())),
+    ("call: refused 18 in place of refused 2", |it| it.change_of("call", "refused 2", |_| "refused 18\n".to_string())),
+    ("call: refused 14 in place of refused 2, where there is no room", |it| {
+        it.change(|line, _, _, _| line.answer.met.contains(&"call: refused by 2 and not by 14").then(|| "refused 14\n".to_string()))
+    }),
+    ("call: refused 2 in place of refused 18, for both", |it| {
+        it.change(|line, _, _, _| line.answer.met.contains(&"call: refused by 18 and not by 2").then(|| "refused 2\n".to_string()))
+    }),
+    ("call: refused 2 in place of refused 18, where there are no callers yet", |it| {
+        it.change(|line, _, _, _| {
+            line.answer.met.contains(&"call: no callers yet, and not refused by 2").then(|| "refused 2\n".to_string())
+        })
+    }),
+    ("call: refused 14 in place of refused 18, where no other has room", |it| {
+        it.change(|line, _, _, _| line.answer.met.contains(&"call: refused by 18 and not by 14").then(|| "refused 14\n".to_string()))
+    }),
+    ("call: refused 18 in place of no unit", |it| it.change_of("call", "no unit", |_| "refused 18\n".to_string())),
+    ("call: ok in place of what was expected", |it| it.change_of("call", "line", |_| "ok\n".to_string())),
+    ("call: no caller was expected", |it| it.change_of("call", "line", |text| text.replace("call I Q TICKET", "call Q TICKET"))),
+    ("call: another word was expected", |it| it.change_of("call", "line", |text| text.replace("call I", "call C"))),
+    ("turn: none in place of a start", |it| it.change_of("turn", "started", |_| "none\n".to_string())),
+    ("turn: a start in place of none", |it| it.change_of("turn", "none", |_| "started 1 1 1\n".to_string())),
+    ("turn: a start in place of none, where another caller's would be granted", |it| {
+        it.change(|line, _, _, _| {
+            let is_held = line.answer.met.contains(&"turn: none, though another caller's oldest would be granted");
+            is_held.then(|| "started 1 1 1\n".to_string())
+        })
+    }),
+    ("turn: none in place of refused 18", |it| it.change_of("turn", "refused 18", |_| "none\n".to_string())),
+    ("turn: refused 18 in place of none", |it| it.change_of("turn", "none", |_| "refused 18\n".to_string())),
+    ("turn: refused 18 in place of a start", |it| it.change_of("turn", "started", |_| "refused 18\n".to_string())),
+    ("turn: another ticket", |it| it.change_of("turn", "started", next_digit)),
+    ("turn: another caller", |it| it.change_started(|words| words[1] = if words[1] == "1" { "2" } else { "1" })),
+    ("turn: another tag", |it| it.change_started(|words| words[2] = if words[2] == "1" { "2" } else { "1" })),
+    ("turn: caller and tag exchanged", |it| it.change_started(|words| words.swap(1, 2))),
+    ("turn: tag and ticket exchanged", |it| it.change_started(|words| words.swap(2, 3))),
+    ("turn: no caller", |it| {
+        it.change_started(|words| {
+            words.remove(1);
+        })
+    }),
+    ("turn: no ticket", |it| it.change_started(|words| words.truncate(3))),
+    ("turn: two spaces", |it| it.change_of("turn", "started", |text| text.replacen(' ', "  ", 1))),
+    ("turn: a zero in front of the caller", |it| it.change_of("turn", "started", |text| text.replacen(' ', " 0", 1))),
+    ("turn: ok in place of a start", |it| it.change_of("turn", "started", |_| "ok\n".to_string())),
+    ("turn: ok in place of none", |it| it.change_of("turn", "none", |_| "ok\n".to_string())),
+    ("turn: refused 10 in place of none", |it| it.change_of("turn", "none", |_| "refused 10\n".to_string())),
+    ("turn: none in place of no unit", |it| it.change_of("turn", "no unit", |_| "none\n".to_string())),
+    ("turn: none in place of what was expected", |it| it.change_of("turn", "line", |_| "none\n".to_string())),
+    ("turn: a number was expected", |it| it.change_of("turn", "line", |text| text.replace("turn", "turn I"))),
     ("line N: one more", |it| {
         it.change(|_, text, _, _| {
             let (number, rest) = text.strip_prefix("line ")?.split_once(':')?;
@@ -1210,16 +1291,17 @@ fn try_programs(script: &Script, right: &Run) -> Result<(), String> {
     Ok(())
 }
 
-/// How a console answers lines, draws charts, gives delays and lets tasks wait.
+/// How a console answers lines, draws charts, gives delays, lets tasks wait and lets callers take turns.
 #[derive(Clone, Copy)]
 struct Manner {
     answer: Fault,
     draw: Draw,
     delay: Delay,
     port: Port,
+    shared: Shared,
 }
 
-const RIGHT: Manner = Manner { answer: Faulty::answer, draw: sketched, delay: by_trial, port: PORT };
+const RIGHT: Manner = Manner { answer: Faulty::answer, draw: sketched, delay: by_trial, port: PORT, shared: SHARED };
 
 /// A console with a fault in one of these: on the first lines of the script, and on all of it where these don't show the fault.
 fn try_fault(script: &Script, what: &str, manner: Manner, console: Console<Folder>) -> Result<(String, Console<Folder>), String> {
@@ -1227,7 +1309,7 @@ fn try_fault(script: &Script, what: &str, manner: Manner, console: Console<Folde
     for count in [2_000, 5_000, 20_000, script.lines.len()] {
         let count = count.min(script.lines.len());
         let mut faulty = Faulty::new(console.again(script.before.clone()));
-        (faulty.console.delay, faulty.console.port) = (manner.delay, manner.port);
+        (faulty.console.delay, faulty.console.port, faulty.console.shared) = (manner.delay, manner.port, manner.shared);
         let (mut filler, mut random) = (Filler::new(manner.draw), Random::new(what.len() as u64));
         let mut output = Vec::new();
         for (place, line) in (1..).zip(&script.lines[..count]) {
@@ -1458,6 +1540,11 @@ fn run(lines: usize) -> Result<(), String> {
         return Err(format!("selftest: NOT REPORTED by tasks laid out in time: {}", unseen.join("; ")));
     }
     println!("selftest: {} ports with a fault, and tasks laid out in time report every one", port_faults().len());
+    let unseen: Vec<&str> = shared_faults().iter().filter(|(_, port)| callers_check::judged(port).is_ok()).map(|(what, _)| *what).collect();
+    if !unseen.is_empty() {
+        return Err(format!("selftest: NOT REPORTED by callers' tasks laid out in time: {}", unseen.join("; ")));
+    }
+    println!("selftest: {} shared ports with a fault, and callers' tasks laid out in time report every one", shared_faults().len());
 
     let outside = try_outside()?;
 
@@ -1507,6 +1594,9 @@ fn run(lines: usize) -> Result<(), String> {
     let of_ports = port_faults().into_iter().map(|(what, port)| (named(QUEUES), what, Manner { port, ..RIGHT }));
     let faults = of_answers(&whole[0], FAULTS).chain(of_answers(named(RECORDS), RECORD_FAULTS)).chain(of_charts).chain(of_delays);
     let faults = faults.chain(of_answers(named(QUEUES), QUEUE_FAULTS)).chain(of_ports);
+    let of_shared = shared_faults().into_iter().map(|(what, shared)| (named(CALLERS), what, Manner { shared, ..RIGHT }));
+    let faults =
+        faults.chain(of_answers(named(CALLERS), CALLER_FAULTS)).chain(of_answers(named(CALLERS), UNTOUCHED_FAULTS)).chain(of_shared);
     let mut faulty = 0;
     for (script, what, manner) in faults {
         let (told, after) = try_fault(script, what, manner, console)?;

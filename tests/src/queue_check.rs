@@ -16,11 +16,19 @@ type Checked = Result<(), String>;
 // ---------------------------------------------------------------------------------------------------------------------------------
 // Tasks laid out in time
 
+/// Who let a task start.
+#[derive(Clone, Copy, PartialEq, Eq, Debug)]
+pub enum By {
+    Hand,
+    Queue,
+    Caller(u32),
+}
+
 /// A task that was started.
-struct Laid {
+pub struct Laid {
     tag: u32,
-    start: u32,
-    by_hand: bool,
+    pub start: u32,
+    pub by: By,
 }
 
 /// A record that was taken. Within so many units it has to start where nothing but arrivals and passing units follows: as many as were
@@ -36,7 +44,7 @@ struct Record {
 pub struct Layout {
     unit: Unit,
     /// How many time units have passed.
-    now: u32,
+    pub now: u32,
     tasks: Vec<Laid>,
     /// Which of the tasks is in a segment in a time unit.
     cells: HashMap<(u32, u32), usize>,
@@ -73,7 +81,7 @@ impl Layout {
     }
 
     /// n
-    fn reach(&self) -> u32 {
+    pub fn reach(&self) -> u32 {
         *self.reach.get_or_init(|| reach(&self.unit))
     }
 
@@ -82,24 +90,24 @@ impl Layout {
         (0..self.records.len()).filter(|place| !self.records[*place].is_started).collect()
     }
 
-    fn is_tag(&self, tag: u32) -> bool {
+    pub fn is_tag(&self, tag: u32) -> bool {
         1 <= tag && tag <= self.unit.functions
     }
 
     /// The tasks that one of this function would meet if it were started so many units from now.
-    fn met_by(&self, tag: u32, wait: u32) -> Vec<&Laid> {
+    pub fn met_by(&self, tag: u32, wait: u32) -> Vec<&Laid> {
         let cell = |(segment, column): Spot| self.cells.get(&(segment, self.now + wait + column));
         self.unit.spots(tag).into_iter().filter_map(cell).map(|task| &self.tasks[*task]).collect()
     }
 
     /// "A task started at time a occupies a segment in time unit a + c for each mark that its function has there in column c."
-    fn lay(&mut self, tag: u32, by_hand: bool) -> Checked {
+    fn lay(&mut self, tag: u32, by: By) -> Checked {
         for (segment, column) in self.unit.spots(tag) {
             if self.cells.insert((segment, self.now + column), self.tasks.len()).is_some() {
                 return Err(format!("two tasks are in segment {segment} in time unit {}", self.now + column));
             }
         }
-        self.tasks.push(Laid { tag, start: self.now, by_hand });
+        self.tasks.push(Laid { tag, start: self.now, by });
         Ok(())
     }
 
@@ -141,7 +149,7 @@ impl Layout {
             (None, None) => {}
             (Some(oldest), None) => self.held_back(oldest.tag).map_err(|why| format!("{oldest:?}: {why}"))?,
             (Some(oldest), Some(task)) if oldest == task => {
-                self.lay(task.tag, false).map_err(|why| format!("{task:?}: {why}"))?;
+                self.lay(task.tag, By::Queue).map_err(|why| format!("{task:?}: {why}"))?;
                 self.records[waiting[0]].is_started = true;
                 let Record { ahead, left, .. } = self.records[waiting[0]];
                 let is_last = left == 1 && self.reach() > 0;
@@ -173,7 +181,8 @@ impl Layout {
         let cases = [
             (met.iter().all(|task| task.tag == tag), "pass: held back by tasks of its own function alone"),
             (met.iter().all(|task| task.tag != tag), "pass: held back by tasks of other functions alone"),
-            (met.iter().all(|task| task.by_hand), "pass: held back by tasks started by hand alone"),
+            (met.iter().all(|task| task.by == By::Hand), "pass: held back by tasks started by hand alone"),
+            (met.iter().all(|task| matches!(task.by, By::Caller(_))), "pass: held back by callers' tasks alone"),
             (met.iter().all(|task| self.now - task.start == 31), "pass: held back by a task started 31 units before alone"),
         ];
         self.met.extend(cases.into_iter().filter(|(holds, _)| *holds).map(|(_, what)| what));
@@ -195,8 +204,10 @@ impl Layout {
         self.met_if(reply.is_ok() && is_oldest, "a start by hand of the function that waits longest");
         self.met_if(reply.is_ok() && !waiting.is_empty() && !is_oldest, "a start by hand of another function than waits longest");
         self.met_if(reply == Err(10) && is_oldest, "a start by hand held back as the oldest is");
+        let is_held = reply == Err(10) && self.met_by(tag, 0).iter().all(|task| matches!(task.by, By::Caller(_)));
+        self.met_if(is_held, "a start by hand held back by callers' tasks alone");
         if reply.is_ok() {
-            self.lay(tag, true)?;
+            self.lay(tag, By::Hand)?;
             self.now += 1;
             self.count_anew();
         }
@@ -208,6 +219,16 @@ impl Layout {
         self.met_if(oldest.is_some_and(|tag| self.met_by(tag, 0).is_empty()), "a tick where the oldest would be granted");
         self.now += 1;
         self.count_anew();
+    }
+
+    /// A time unit of the callers' port, in which this caller's task of this function was started, or none.
+    pub fn turn(&mut self, started: Option<(u32, u32)>) -> Checked {
+        if let Some((caller, tag)) = started {
+            self.lay(tag, By::Caller(caller))?;
+        }
+        self.now += 1;
+        self.count_anew();
+        Ok(())
     }
 
     /// The bank's words: bit i of register Q is 1 where a task of function Q, started i units from now, would meet another.
@@ -379,7 +400,7 @@ fn calls(unit: &Unit, has_own_tickets: bool, by_hand: bool, random: &mut Random)
     calls
 }
 
-fn random_unit(random: &mut Random) -> Unit {
+pub fn random_unit(random: &mut Random) -> Unit {
     match random.below(4) {
         0 => units::unit(random),
         1 => figure_2(),

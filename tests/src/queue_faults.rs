@@ -79,7 +79,7 @@ fn first_by(queue: &Queue, number: impl Fn(&Task) -> u32) -> Option<usize> {
 }
 
 /// With these rows beside what the bank holds.
-fn joined(bank: &Bank, rows: &[Vec<bool>]) -> Bank {
+pub fn joined(bank: &Bank, rows: &[Vec<bool>]) -> Bank {
     let mut words = bank.words();
     for (word, row) in words.iter_mut().zip(rows) {
         *word |= word_of(row);
@@ -108,7 +108,7 @@ fn banking(unit: &Unit, bank: &mut Bank, queue: &mut Queue, change: impl Fn(&Ban
     started
 }
 
-fn ticked(bank: &Bank) -> Bank {
+pub fn ticked(bank: &Bank) -> Bank {
     let mut bank = bank.clone();
     bank.tick();
     bank
@@ -664,7 +664,7 @@ fn take_oldest(console: &mut Console<Folder>) {
     console.queue.drain(..console.queue.len().min(1));
 }
 
-fn tick(console: &mut Console<Folder>) {
+pub fn tick(console: &mut Console<Folder>) {
     console.bank.tick();
 }
 
@@ -684,15 +684,15 @@ macro_rules! emptied {
     };
 }
 
-fn not_written(told: &str) -> bool {
+pub fn not_written(told: &str) -> bool {
     told == "not written"
 }
 
-fn no_file(told: &str) -> bool {
+pub fn no_file(told: &str) -> bool {
     told == "no file"
 }
 
-fn expected(told: &str) -> bool {
+pub fn expected(told: &str) -> bool {
     told == "expected"
 }
 

@@ -10,6 +10,9 @@
 
 #![allow(dead_code)]
 
+mod callers;
+mod callers_check;
+mod callers_met;
 mod charts;
 mod charts_check;
 mod console_check;

@@ -1,8 +1,6 @@
 mod FillLaws
 mod DigitLaws
-mod CellLaws
-mod LineLaws
+pub mod CellLaws
+pub mod LineLaws
 mod SegmentLaws
-mod ChartLaws
-pub mod Claims
-mod Examples
+pub mod ChartLaws

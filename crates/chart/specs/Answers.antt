@@ -21,7 +21,7 @@ use Rattle.chart.specs.Text.{chartOf}
 unfoldable pub planAnswer : FunctionUnit → Plan → Answer
 planAnswer u p = andThen (tagAnswer u (p .tag)) (check (holdsCycle p) BadRecord Done)
 
--- the first refusal among the steps of n units (`TenAlone`, specs/Claims.antt: where the plan is good, that is 10)
+-- the first refusal among the steps of n units (`TenAlone`, crate chart_claims: where the plan is good, that is 10)
 unfoldable pub unitsAnswer : FunctionUnit → Plan → ℕ → Answer
 unitsAnswer u p zero = Done
 unitsAnswer u p (suc n) = andThen (unitsAnswer u p n) (unitAfter u p n .answer)

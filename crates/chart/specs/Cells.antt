@@ -9,7 +9,7 @@ use Rattle.unit.specs.Unit.{marked}
 use Rattle.simulator.specs.Play.{unitAfter}
 
 -- the letter of task k, tasks being counted from 0: A to Z, a to z, and then A again
--- (`LettersApart`, specs/Claims.antt: two tasks in one time unit have different letters)
+-- (`LettersApart`, crate chart_claims: two tasks in one time unit have different letters)
 abbrev pub letter : ℕ → ℕ
 letter k = cond (ltb (k % 52) 26) (65 + k % 52) (71 + k % 52)
 

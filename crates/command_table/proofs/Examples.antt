@@ -32,6 +32,10 @@ pub usage-of-arrive : usageAt 27 ≡ ascii "arrive Q TICKET"
 unfolding usageAt rowAt
 usage-of-arrive = refl
 
+pub usage-of-call : usageAt 31 ≡ ascii "call I Q TICKET"
+unfolding usageAt rowAt
+usage-of-call = refl
+
 pub mark-is-found : commandOf (ascii "mark") ≡ Named.Known (entryAt 1)
 unfolding commandOf among same nameAt rowAt
 mark-is-found = refl
@@ -43,6 +47,10 @@ delays-is-found = refl
 pub queue-is-found : commandOf (ascii "queue") ≡ Named.Known (entryAt 29)
 unfolding commandOf among same nameAt rowAt
 queue-is-found = refl
+
+pub turn-is-found : commandOf (ascii "turn") ≡ Named.Known (entryAt 32)
+unfolding commandOf among same nameAt rowAt
+turn-is-found = refl
 
 pub part-of-a-name : commandOf (ascii "mar") ≡ Named.Unknown
 unfolding commandOf among same nameAt rowAt

@@ -10,6 +10,7 @@ use Rattle.command_table.specs.declared.Ask.the-variants as Ask
 use Rattle.command_table.specs.declared.Show.the-variants as Show
 use Rattle.command_table.specs.declared.View.the-variants as View
 use Rattle.command_table.specs.declared.Issue.the-variants as Issue
+use Rattle.command_table.specs.declared.Share.the-variants as Share
 use Rattle.command_table.specs.declared.Verb.{Verb}
 use Rattle.command_table.specs.declared.Verb.the-variants as Verb
 use Rattle.command_table.specs.declared.Form.{Form}
@@ -61,6 +62,9 @@ rows =
     ∷ row "arrive" " Q TICKET" (Form.Numbers 2) (Verb.Issue Issue.Arrive)
     ∷ row "pass" "" (Form.Numbers 0) (Verb.Issue Issue.Pass)
     ∷ row "queue" "" (Form.Numbers 0) (Verb.Issue Issue.Queue)
+    ∷ row "callers" " C" (Form.Numbers 1) (Verb.Share Share.Callers)
+    ∷ row "call" " I Q TICKET" (Form.Numbers 3) (Verb.Share Share.Call)
+    ∷ row "turn" "" (Form.Numbers 0) (Verb.Share Share.Turn)
     ∷ []
 
 -- beyond the last row: no name, and nothing to write

@@ -56,6 +56,13 @@ pub enum Issue {
     Queue,
 }
 
+// What is done at a port that several callers share.
+pub enum Share {
+    Callers,
+    Call,
+    Turn,
+}
+
 // What a command does. Fresh and load make a unit.
 pub enum Verb {
     Fresh,
@@ -65,6 +72,7 @@ pub enum Verb {
     Show(Show),
     View(View),
     Issue(Issue),
+    Share(Share),
 }
 
 // What comes after the name of a command: so many numbers; so many, and one more that may be left out; so many, and then the name of a file; so many,
@@ -92,7 +100,7 @@ pub enum Named {
 }
 
 // How many commands there are, and how many bytes a row has.
-const COUNT: usize = 30;
+const COUNT: usize = 33;
 
 const WIDTH: usize = 48;
 
@@ -129,6 +137,9 @@ const TABLE: [u8; COUNT * WIDTH] = *b"\
 \x06\x0f\x02arrive Q TICKET                              \
 \x04\x04\x00pass                                         \
 \x05\x05\x00queue                                        \
+\x07\x09\x01callers C                                    \
+\x04\x0f\x03call I Q TICKET                              \
+\x04\x04\x00turn                                         \
 ";
 
 // What each command does, in the order of the rows.
@@ -163,6 +174,9 @@ const VERBS: [Verb; COUNT] = [
     Verb::Issue(Issue::Arrive),
     Verb::Issue(Issue::Pass),
     Verb::Issue(Issue::Queue),
+    Verb::Share(Share::Callers),
+    Verb::Share(Share::Call),
+    Verb::Share(Share::Turn),
 ];
 
 // The table as bytes.

@@ -39,17 +39,16 @@ pub edited-as : (s : Session) {made asked : Outcome} {before after : List ℕ} {
 edited-as s {made} {asked} {before} {after} {t} e m =
     let g = made-as e m in record { line = record { next = g .end; out = g .out }; next = g .next }
 
-pub stepped-as : (s : Session) (event : Event) {stepped : Stepped} {before after : List ℕ} {end : ℕ} → stepped ≡ stepOf (s .unit) (s .bank) event
-    → Line (answerLine (stepped .answer)) before after end
-    → Gives (answerLine (eventAsked s event)) (λ x. x ≡ withBank s (stepOf (s .unit) (s .bank) event .bank)) before after
-    record { session = withBank s (stepped .bank); end = end }
-stepped-as s event e l = record { line = line-as (ap (λ (x : Stepped). answerLine (x .answer)) e) l; next = ap (λ (x : Stepped). withBank s (x .bank)) e }
+pub stepped-as : (s : Session) (event : Event) {stepped : Stepped} {next : Session} {before after : List ℕ} {end : ℕ} → stepped ≡ stepOf (s .unit) (s .bank) event
+    → Line (answerLine (stepped .answer)) before after end → next ≡ withBank s (stepped .bank)
+    → Gives (answerLine (eventAsked s event)) (λ x. x ≡ withBank s (stepOf (s .unit) (s .bank) event .bank)) before after record { session = next; end = end }
+stepped-as s event e l n = record { line = line-as (ap (λ (x : Stepped). answerLine (x .answer)) e) l; next = n ∙ ap (λ (x : Stepped). withBank s (x .bank)) e }
 
 -- A search
 
--- the unit that a search left, with the bank and the queue that were there
+-- the unit that a search left, with what was at its issue port
 abbrev searched : Session → FunctionUnit → Session
-searched s u = record { present = s .present; unit = u; bank = s .bank; queue = s .queue }
+searched s u = record { present = s .present; unit = u; bank = s .bank; queue = s .queue; shared = s .shared }
 
 pub sought : (s : Session) {q : ℕ} {made : Outcome} {words before after : List ℕ} {end : ℕ} (zeros : List ℕ) → length zeros ≡ 16000
     → SearchPromise (s .unit) q zeros words (made .answer) (made .unit) → Line (answerLine (made .answer)) before after end
@@ -62,6 +61,7 @@ sought s {q} {made} zeros n p l =
         present = refl;
         bank = refl;
         queue = refl;
+        shared = refl;
         kept = λ why e. p .kept why (says ∙ e);
         found = λ e. p .found (says ∙ e);
       };

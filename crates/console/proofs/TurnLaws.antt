@@ -8,12 +8,14 @@ use Rattle.text.specs.Text.{putIn, putEnd}
 use Rattle.text.proofs.PutLaws.{put-fits, put-fits-end, placed-none}
 use Rattle.command_table.specs.declared.Act.{Act}
 use Rattle.command_table.specs.declared.Issue.{Issue}
+use Rattle.command_table.specs.declared.Share.{Share}
 use Rattle.command_table.specs.declared.Verb.{Verb}
 use Rattle.command.specs.declared.Request.{Request}
 use Rattle.session.specs.declared.Session.{Session}
 use Rattle.session.specs.declared.Reply.{Reply}
 use Rattle.session.specs.Sessions.{Line}
 use Rattle.queue_text.specs.Told.{issueReply, issueNext, Issued}
+use Rattle.caller_text.specs.Told.{shareReply, shareNext, SharedOn}
 use Rattle.console.specs.Turns.{noUnit, actReply, unitReply, turnReply, ActNext, UnitNext, Next, Turned}
 use Rattle.console.specs.Inner.{Gives}
 use Rattle.session.proofs.LineLaws.{line-as}
@@ -54,6 +56,11 @@ act-by s r {before = before} {after} {t} e g = subst (λ x. Gives (actReply x s 
 pub gives-issued : (s : Session) (r : Request) {what : Issue} {before after : List ℕ} {t : Reply} → Issued what s r before after t
     → Gives (issueReply what s r) (λ x. x ≡ issueNext what s r) before after t
 gives-issued s r i = record { line = record { next = i .end; out = i .out }; next = i .next }
+
+-- at the port that callers share
+pub gives-shared : (s : Session) (r : Request) {what : Share} {before after : List ℕ} {t : Reply} → SharedOn what s r before after t
+    → Gives (shareReply what s r) (λ x. x ≡ shareNext what s r) before after t
+gives-shared s r i = record { line = record { next = i .end; out = i .out }; next = i .next }
 
 -- The number of a request as a tag
 

@@ -30,13 +30,14 @@ use Rattle.command.specs.declared.Request.{Request}
 use Rattle.command.specs.Lines.{latenciesIn}
 use Rattle.session.specs.declared.Session.{Session}
 use Rattle.session.specs.declared.Reply.{Reply}
-use Rattle.session.specs.Sessions.{taken, one, two, three, tag, answerLine}
+use Rattle.session.specs.Sessions.{taken, withPort, one, two, three, tag, answerLine}
 use Rattle.queue_text.specs.Told.{issueReply, issueNext}
+use Rattle.caller_text.specs.Told.{shareReply, shareNext}
 
 -- Sessions
 
 abbrev pub withBank : Session → Bank → Session
-withBank s b = record { present = s .present; unit = s .unit; bank = b; queue = s .queue }
+withBank s b = withPort s b (s .queue) (s .shared)
 
 -- Lines
 
@@ -97,6 +98,7 @@ unitReply Verb.Load s r line = []
 unitReply (Verb.Act a) s r line = actReply a s r
 unitReply (Verb.Ask a) s r line = question s (questionOf a r) line
 unitReply (Verb.Issue a) s r line = issueReply a s r
+unitReply (Verb.Share a) s r line = shareReply a s r
 unitReply (Verb.Show a) s r line = []
 unitReply (Verb.View a) s r line = []
 
@@ -111,10 +113,11 @@ pub record Sought (s : Session) (q : ℕ) (after : Session) : Type 0 where
   pub present : after .present ≡ s .present
   pub bank : after .bank ≡ s .bank
   pub queue : after .queue ≡ s .queue
+  pub shared : after .shared ≡ s .shared
   pub kept : (why : Refusal) → searchAnswer (s .unit) q 16000 ≡ Refused why → after .unit ≡ s .unit
   pub found : searchAnswer (s .unit) q 16000 ≡ Done → Found (s .unit) q (after .unit)
 
--- an accepted mark or unmark leaves another unit, an empty bank and an empty queue, an event another bank; a refused call leaves what was there
+-- an accepted mark or unmark leaves another unit, an empty bank and empty queues, an event another bank; a refused call leaves what was there
 abbrev pub ActNext : Act → Session → Request → Session → Type 0
 ActNext Act.Mark s r after = after ≡ taken s (marking s r .answer) (marking s r .unit)
 ActNext Act.Unmark s r after = after ≡ taken s (unmarking s r .answer) (unmarking s r .unit)
@@ -124,13 +127,14 @@ ActNext Act.Tick s r after = after ≡ withBank s (stepOf (s .unit) (s .bank) Ev
 ActNext Act.Start s r after = after ≡ withBank s (stepOf (s .unit) (s .bank) (Event.Start (tag (one r))) .bank)
 ActNext Act.Bank s r after = after ≡ s
 
--- what is done at the issue port leaves another queue or another bank; every other command leaves the session as it is
+-- what is done at the issue port leaves another queue, another bank or another turn; every other command leaves the session as it is
 unfoldable pub UnitNext : Verb → Session → Request → Session → Type 0
 UnitNext Verb.Fresh s r after = after ≡ s
 UnitNext Verb.Load s r after = after ≡ s
 UnitNext (Verb.Act a) s r after = ActNext a s r after
 UnitNext (Verb.Ask a) s r after = after ≡ s
 UnitNext (Verb.Issue a) s r after = after ≡ issueNext a s r
+UnitNext (Verb.Share a) s r after = after ≡ shareNext a s r
 UnitNext (Verb.Show a) s r after = after ≡ s
 UnitNext (Verb.View a) s r after = after ≡ s
 

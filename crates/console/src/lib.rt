@@ -54,11 +54,13 @@ fn seek(session: Session, tag: Tag, out: &mut [u8]) -> Reply
     let found = made.unit;
     let bank = session.bank;
     let queue = session.queue;
+    let shared = session.shared;
     let next = Session {
         present: session.present,
         unit: found,
         bank,
         queue,
+        shared,
     };
     Reply { session: next, end }
 }
@@ -101,12 +103,8 @@ fn step(session: Session, event: Event, out: &mut [u8]) -> Reply
     let end = session::put_answer(out, answer);
     let bank = stepped.bank;
     let queue = session.queue;
-    let next = Session {
-        present: session.present,
-        unit,
-        bank,
-        queue,
-    };
+    let shared = session.shared;
+    let next = session::with_port(session, bank, queue, shared);
     Reply { session: next, end }
 }
 
@@ -167,6 +165,7 @@ pub fn turn(session: Session, request: Request, line: &[u8], out: &mut [u8]) -> 
         Verb::Act(what) => act(session, what, request, out),
         Verb::Ask(what) => tell(session, what, request, line, out),
         Verb::Issue(what) => queue_text::answer(session, what, request, out),
+        Verb::Share(what) => caller_text::answer(session, what, request, out),
         Verb::Fresh => Reply { session, end: 0 },
         Verb::Load => Reply { session, end: 0 },
         Verb::Show(_) => Reply { session, end: 0 },

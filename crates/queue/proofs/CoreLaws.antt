@@ -1,7 +1,7 @@
--- What the tests and the tries by value say. Assumes nothing.
+-- What the tries by value say. Assumes nothing.
 use Prim.Native.Nat.{ℕ, _-_}
-use mathlib.Core.Path.{_≡_, refl, ap, _∙_, sym}
-use mathlib.Core.Bool.{Bool, true, false, cond}
+use mathlib.Core.Path.{_≡_, ap, _∙_, sym}
+use mathlib.Core.Bool.{false, cond}
 use native.Mathlib.Omega.{arith}
 use lib.Dec.{eqb}
 use borrow.Author.Tests.{ne-eqb, eq-eqb}
@@ -9,7 +9,6 @@ use Rattle.words.proofs.Tests.{by-test}
 use Rattle.unit.specs.declared.FunctionUnit.{FunctionUnit}
 use Rattle.unit.specs.declared.Refusal.{Refusal}
 use Rattle.unit.specs.declared.Answer.the-variants.{Done, Refused}
-use Rattle.unit.specs.Calls.{check}
 use Rattle.unit.proofs.Laws.{never-done}
 use Rattle.controller.specs.declared.Bank.{Bank}
 use Rattle.controller.specs.declared.Event.the-variants.{Start}
@@ -19,7 +18,7 @@ use Rattle.queue.specs.declared.Waiting.{Waiting}
 use Rattle.queue.specs.declared.Passed.{Passed}
 use Rattle.queue.specs.declared.Passed.the-variants as Passed
 use Rattle.queue.specs.Line.{tagOf}
-use Rattle.queue.specs.Inner.{testedBy, oldestBy, Startable}
+use Rattle.queue.specs.Inner.{oldestBy, Startable}
 
 -- what becomes of a record that may be started, by the controller's answer
 
@@ -38,24 +37,3 @@ module _ (u : FunctionUnit) (b : Bank) (count : ℕ) (w : Waiting) (s : Startabl
 -- where none waits, none is started
 pub oldest-none : (b : Bank) (count : ℕ) (w : Waiting) → count ≡ 0 → Passed.Idle ≡ oldestBy b count w
 oldest-none b count w e = ap (λ z. cond z Passed.Idle (cond (granted b (w .tag)) (Passed.Started w) Passed.Idle)) (sym (eq-eqb count 0 e))
-
--- Tests one after the other
-
-pub two-tests : (a b : Bool) (x y : Refusal) → testedBy (testedBy Done a x) b y ≡ check a x (check b y Done)
-two-tests true b x y = refl
-two-tests false b x y = refl
-
--- and two or three more
-pub four-tests : (a b c d : Bool) (x y z w : Refusal) → testedBy (testedBy (check a x (check b y Done)) c z) d w ≡ check a x (check b y (check c z (check d w Done)))
-four-tests true true true d x y z w = refl
-four-tests true true false d x y z w = refl
-four-tests true false c d x y z w = refl
-four-tests false b c d x y z w = refl
-
-pub five-tests : (a b c d e : Bool) (x y z w v : Refusal)
-    → testedBy (testedBy (testedBy (check a x (check b y Done)) c z) d w) e v ≡ check a x (check b y (check c z (check d w (check e v Done))))
-five-tests true true true true e x y z w v = refl
-five-tests true true true false e x y z w v = refl
-five-tests true true false d e x y z w v = refl
-five-tests true false c d e x y z w v = refl
-five-tests false b c d e x y z w v = refl

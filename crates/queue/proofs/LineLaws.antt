@@ -45,12 +45,11 @@ pub tags-joined : (u : FunctionUnit) (line : List Waiting) (w : Waiting) → tag
     → tagsInside (u .functions) (line ++ w ∷ []) ≡ true
 tags-joined u line w e i = tags-one-more (u .functions) line w ∙ and-true e i
 
-pub tags-take : (u : FunctionUnit) (n : ℕ) (line : List Waiting) → tagsInside (u .functions) line ≡ true → tagsInside (u .functions) (take n line) ≡ true
+pub tags-take : (f n : ℕ) (line : List Waiting) → tagsInside f line ≡ true → tagsInside f (take n line) ≡ true
 unfolding tagsInside
-tags-take u zero line e = refl
-tags-take u (suc n) [] e = refl
-tags-take u (suc n) (x ∷ line) e =
-    and-true (and-left (inside (x .tag) (u .functions)) _ e) (tags-take u n line (and-right (inside (x .tag) (u .functions)) _ e))
+tags-take f zero line e = refl
+tags-take f (suc n) [] e = refl
+tags-take f (suc n) (x ∷ line) e = and-true (and-left (inside (x .tag) f) _ e) (tags-take f n line (and-right (inside (x .tag) f) _ e))
 
 -- An arrival
 

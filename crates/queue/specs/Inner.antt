@@ -23,11 +23,6 @@ use Rattle.queue.specs.declared.Seen.{Seen}
 use Rattle.queue.specs.Line.{noRecord, tagsInside}
 use Rattle.queue.specs.Calls.{unitBy, countThen, bankThen, fewer}
 
--- the answer so far, and, where that is done, one more test
-abbrev pub testedBy : Answer → Bool → Refusal → Answer
-testedBy Answer.Done holds why = check holds why Answer.Done
-testedBy (Answer.Refused first) holds why = Answer.Refused first
-
 abbrev pub listBy : ℕ → FunctionUnit → ℕ → Answer
 listBy size u length = check (soundOf u) NotSound (check (leb size length) ShortOutput Answer.Done)
 

@@ -5,7 +5,7 @@ ghost use mathlib.Core.Bool.{_&&_, cond};
 ghost use lib.Dec.{ltb};
 ghost use mathlib.Core.List.{[]};
 ghost use Rattle.unit.specs.Unit.{inside};
-ghost use Rattle.queue.specs.Inner.{testedBy, listBy, arrivedBy, oldestBy, passBy, Startable, FirstFits, seenOf, lookOf, shownOf};
+ghost use Rattle.queue.specs.Inner.{listBy, arrivedBy, oldestBy, passBy, Startable, FirstFits, seenOf, lookOf, shownOf};
 ghost use Rattle.queue.specs.Line.{noRecord, forward};
 ghost use Rattle.queue.specs.Calls.{room, arrivalBy, arrivalOf, unitBy, passedThen, arrivalList, passOf, passList, emptyQueue, joinOf, advanceOf};
 ghost use Prim.Native.Nat.{_≤_, _<_};
@@ -106,29 +106,14 @@ fn shown(room: usize, length: usize, count: usize) -> usize
     count
 }
 
-// The answer so far, and, where that is done, one more test.
-fn tested(answer: Answer, holds: bool, why: Refusal) -> Answer
-    ensures { λ r. ⌜ r ≡ testedBy answer holds why ⌝ }
-{
-    match answer {
-        Answer::Refused(first) => Answer::Refused(first),
-        Answer::Done => {
-            if holds {
-                return Answer::Done;
-            }
-            Answer::Refused(why)
-        }
-    }
-}
-
 // The tests of a list: the unit, and the length.
 fn check_list(room: usize, u: FunctionUnit, length: usize) -> Answer
     ensures { λ r. ⌜ r ≡ listBy room u length ⌝ }
 {
     let sound = unit::sound(u);
     let long = room <= length;
-    let of_unit = tested(Answer::Done, sound, Refusal::NotSound);
-    tested(of_unit, long, Refusal::ShortOutput)
+    let of_unit = unit::tested(Answer::Done, sound, Refusal::NotSound);
+    unit::tested(of_unit, long, Refusal::ShortOutput)
 }
 
 // The tests of an arrival: the unit, the list, the tag offered, the room, and the tags that wait.
@@ -145,9 +130,9 @@ fn check_arrival(
     let known = words::is_inside(tag, u.functions);
     let free = count < room;
     let of_list = check_list(room, u, length);
-    let of_tag = tested(of_list, known, Refusal::NoSuchTag);
-    let of_room = tested(of_tag, free, Refusal::TooManyWait);
-    tested(of_room, fit, Refusal::NoSuchTag)
+    let of_tag = unit::tested(of_list, known, Refusal::NoSuchTag);
+    let of_room = unit::tested(of_tag, free, Refusal::TooManyWait);
+    unit::tested(of_room, fit, Refusal::NoSuchTag)
 }
 
 // The tests of a time unit: the unit, the list, the count, and the tags that wait.
@@ -156,8 +141,8 @@ fn check_unit(room: usize, u: FunctionUnit, length: usize, count: usize, fit: bo
 {
     let few = count <= room;
     let of_list = check_list(room, u, length);
-    let of_count = tested(of_list, few, Refusal::TooManyWait);
-    tested(of_count, fit, Refusal::NoSuchTag)
+    let of_count = unit::tested(of_list, few, Refusal::TooManyWait);
+    unit::tested(of_count, fit, Refusal::NoSuchTag)
 }
 
 // An arrival by value: what it answers, and how many wait then.

@@ -253,14 +253,14 @@ not-steady-arrivals s = never-done (s .arrivals a)
 
 -- The tasks
 
-abbrev first : Task
+abbrev pub first : Task
 first = record { tag = 1; start = 0 }
 
-abbrev second : Task
+abbrev pub second : Task
 second = record { tag = 1; start = 1 }
 
 -- one time unit apart they meet
-meet : Clash (marked pair) first second
+pub meet : Clash (marked pair) first second
 unfolding pair noPlan marked
 meet = record {
   segment = 1;

@@ -177,7 +177,7 @@ module _ (u : FunctionUnit) (sound : soundOf u ≡ true) where
       let y : getD line k noRecord ≡ getD (p .list) k noRecord = getD-take (p .count) (p .list) k noRecord h in
       let m : length (take (k + 1) (p .list)) ≡ k + 1 = omega (arith, length-take (k + 1) (p .list), r .long, r .few) in
       let tags : tagsInside (u .functions) (take (k + 1) (p .list)) ≡ true =
-      subst (λ (l : List Waiting). tagsInside (u .functions) l ≡ true) x (tags-take u (suc k) line (r .tags)) in
+      subst (λ (l : List Waiting). tagsInside (u .functions) l ≡ true) x (tags-take (u .functions) (suc k) line (r .tags)) in
       let due : ℕ = dueAt u p k in
       let s : Timely (getD (p .list) k noRecord) due 0 k (unitsIn calls) (starts u p 0 calls) =
       subst (λ (l : List Waiting). Timely (getD (p .list) k noRecord) (dueUnit u (p .bank) l) 0 k (unitsIn calls) (starts u p 0 calls)) x

@@ -1,5 +1,6 @@
 pub mod ColumnLaws
 pub mod PassLaws
+pub mod PlayLaws
 pub mod PortLaws
 pub mod DelayLaws
 pub mod InTurn

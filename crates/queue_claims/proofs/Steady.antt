@@ -1,5 +1,5 @@
 -- From empty on, a call is refused for the unit, the list and the tag offered, and where 32 wait, and for nothing else. Assumes nothing.
-use Prim.Native.Nat.{ℕ, suc, _-_, _≤_}
+use Prim.Native.Nat.{ℕ, suc, _≤_}
 use mathlib.Core.Path.{_≡_, refl, ap, _∙_, sym, subst}
 use mathlib.Core.Bool.{true}
 use mathlib.Core.List.{List, [], _∷_}
@@ -55,23 +55,23 @@ module _ (u : FunctionUnit) where
           }
 
   held-unit : (p : Port) → Held u (p .list) (p .count) → Held u (after u p unit .list) (after u p unit .count)
-  unfolding after passOf passList
+  unfolding after passedOf passOf passList
   held-unit p h = go (passedOf room u (p .bank) (p .list) (p .count)) refl
     where
       go : (a : Passed) → passedOf room u (p .bank) (p .list) (p .count) ≡ a → Held u (listAfter a (p .list) (p .count)) (fewer a (p .count))
       go (Passed.Refused why) e = h
       go Passed.Idle e = h
       go (Passed.Started w) e =
-          let s = was-started room u (p .bank) (p .list) (p .count) w e in
+          let s = was-started (p .bank) (unitAnswer room u (p .list) (p .count)) (take (p .count) (p .list)) w e in
           let a = unit-accepted room u (p .list) (p .count) (s .accepted) in
           let l : p .count ≤ length (p .list) = omega (arith, a .few, a .long) in
-          let n : suc (length (s .line)) ≡ p .count = sym (ap length (s .first)) ∙ omega (arith, length-take (p .count) (p .list)) in
+          let n : suc (length (s .rest)) ≡ p .count = sym (ap length (s .first)) ∙ omega (arith, length-take (p .count) (p .list)) in
           record {
             sound = λ x. a .sound;
             long = λ x. omega (arith, a .long, forward-length (p .list) (p .count) l (omega arith));
             few = omega (arith, a .few);
-            tags = subst (λ (x : List Waiting). tagsInside (u .functions) x ≡ true) (sym (forward-line (p .list) (p .count) w (s .line) l (s .first)))
-                (tags-rest u w (s .line) (subst (λ (x : List Waiting). tagsInside (u .functions) x ≡ true) (s .first) (a .tags)));
+            tags = subst (λ (x : List Waiting). tagsInside (u .functions) x ≡ true) (sym (forward-line (p .list) (p .count) w (s .rest) l (s .first)))
+                (tags-rest u w (s .rest) (subst (λ (x : List Waiting). tagsInside (u .functions) x ≡ true) (s .first) (a .tags)));
           }
 
   held-done : (p : Port) (d : Action) → Held u (p .list) (p .count) → Held u (done u p d .list) (done u p d .count)

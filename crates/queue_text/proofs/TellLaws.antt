@@ -15,7 +15,7 @@ use Rattle.command_table.specs.declared.Issue.the-variants as Issue
 use Rattle.command.specs.declared.Request.{Request}
 use Rattle.session.specs.declared.Session.{Session}
 use Rattle.session.specs.declared.Reply.{Reply}
-use Rattle.session.specs.Sessions.{one, answerLine, Line}
+use Rattle.session.specs.Sessions.{withPort, one, answerLine, Line}
 use Rattle.session.proofs.LineLaws.{line-as}
 use Rattle.queue_text.specs.Told.{passedLine, flat, queueLine, Issued}
 use Rattle.queue_text.proofs.FlatLaws.{take-most}
@@ -30,29 +30,27 @@ queue-told q n numbers e f l =
 
 -- Commands
 
-pub arrived-as : (s : Session) (r : Request) {t : ℕ} {j : Joined} {before after : List ℕ} {end : ℕ} → t ≡ one r
+pub arrived-as : (s : Session) (r : Request) {t : ℕ} {j : Joined} {next : Session} {before after : List ℕ} {end : ℕ} → t ≡ one r
     → j ≡ joinOf (s .unit) (s .queue) (record { tag = t; ticket = r .second }) → Line (answerLine (j .answer)) before after end
-    → Issued Issue.Arrive s r before after
-    record { session = record { present = s .present; unit = s .unit; bank = s .bank; queue = j .queue }; end = end }
-arrived-as s r e f l =
+    → next ≡ withPort s (s .bank) (j .queue) (s .shared) → Issued Issue.Arrive s r before after record { session = next; end = end }
+arrived-as s r e f l n =
     let g = f ∙ ap (λ (t : ℕ). joinOf (s .unit) (s .queue) (record { tag = t; ticket = r .second })) e in
     let m = line-as (ap (λ (x : Joined). answerLine (x .answer)) g) l in
     record {
       out = m .out;
       end = m .next;
-      next = ap (λ (x : Joined). record { present = s .present; unit = s .unit; bank = s .bank; queue = x .queue }) g;
+      next = n ∙ ap (λ (x : Joined). withPort s (s .bank) (x .queue) (s .shared)) g;
     }
 
-pub passed-as : (s : Session) (r : Request) {a : Advanced} {before after : List ℕ} {end : ℕ} → a ≡ advanceOf (s .unit) (s .bank) (s .queue)
-    → Line (passedLine (a .answer)) before after end
-    → Issued Issue.Pass s r before after
-    record { session = record { present = s .present; unit = s .unit; bank = a .bank; queue = a .queue }; end = end }
-passed-as s r e l =
+pub passed-as : (s : Session) (r : Request) {a : Advanced} {next : Session} {before after : List ℕ} {end : ℕ}
+    → a ≡ advanceOf (s .unit) (s .bank) (s .queue) → Line (passedLine (a .answer)) before after end
+    → next ≡ withPort s (a .bank) (a .queue) (s .shared) → Issued Issue.Pass s r before after record { session = next; end = end }
+passed-as s r e l n =
     let m = line-as (ap (λ (x : Advanced). passedLine (x .answer)) e) l in
     record {
       out = m .out;
       end = m .next;
-      next = ap (λ (x : Advanced). record { present = s .present; unit = s .unit; bank = x .bank; queue = x .queue }) e;
+      next = n ∙ ap (λ (x : Advanced). withPort s (x .bank) (x .queue) (s .shared)) e;
     }
 
 pub issued-by : (s : Session) (r : Request) {what v : Issue} {before after : List ℕ} {t : Reply} → what ≡ v → Issued v s r before after t

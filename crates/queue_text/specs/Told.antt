@@ -18,7 +18,7 @@ use Rattle.command_table.specs.declared.Issue.the-variants as Issue
 use Rattle.command.specs.declared.Request.{Request}
 use Rattle.session.specs.declared.Session.{Session}
 use Rattle.session.specs.declared.Reply.{Reply}
-use Rattle.session.specs.Sessions.{one, answerLine}
+use Rattle.session.specs.Sessions.{withPort, one, answerLine}
 
 -- The calls
 
@@ -65,8 +65,8 @@ issueReply Issue.Queue s r = queueLine (s .queue)
 
 -- an arrival leaves another queue, a time unit another bank and another queue
 abbrev pub issueNext : Issue → Session → Request → Session
-issueNext Issue.Arrive s r = record { present = s .present; unit = s .unit; bank = s .bank; queue = arrived s r .queue }
-issueNext Issue.Pass s r = record { present = s .present; unit = s .unit; bank = passed s .bank; queue = passed s .queue }
+issueNext Issue.Arrive s r = withPort s (s .bank) (arrived s r .queue) (s .shared)
+issueNext Issue.Pass s r = withPort s (passed s .bank) (passed s .queue) (s .shared)
 issueNext Issue.Queue s r = s
 
 -- one command: the line stands in front of the lent bytes, if there is room for it, and the session goes on

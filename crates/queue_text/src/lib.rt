@@ -115,12 +115,8 @@ fn arrive(session: Session, request: Request, out: &mut [u8]) -> Reply
     let answer = after.answer;
     let end = session::put_answer(out, answer);
     let joined = after.queue;
-    let next = Session {
-        present: session.present,
-        unit,
-        bank,
-        queue: joined,
-    };
+    let shared = session.shared;
+    let next = session::with_port(session, bank, joined, shared);
     Reply { session: next, end }
 }
 
@@ -136,12 +132,8 @@ fn pass(session: Session, request: Request, out: &mut [u8]) -> Reply
     let end = put_passed(out, answer);
     let later = after.bank;
     let rest = after.queue;
-    let next = Session {
-        present: session.present,
-        unit,
-        bank: later,
-        queue: rest,
-    };
+    let shared = session.shared;
+    let next = session::with_port(session, later, rest, shared);
     Reply { session: next, end }
 }
 

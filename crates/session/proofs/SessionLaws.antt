@@ -11,6 +11,8 @@ use Rattle.unit.specs.declared.Answer.the-variants.{Done, Refused}
 use Rattle.controller.specs.Bank.{empty}
 use Rattle.queue.specs.declared.Queue.{Queue}
 use Rattle.queue.specs.Calls.{emptyQueue}
+use Rattle.callers.specs.declared.Shared.{Shared}
+use Rattle.callers.specs.Calls.{emptyShared}
 use Rattle.session.specs.declared.Session.{Session}
 use Rattle.session.specs.declared.Reply.{Reply}
 use Rattle.session.specs.Sessions.{taken, answerLine, Line, Made}
@@ -25,14 +27,14 @@ pub taken-refused : (s : Session) (u : FunctionUnit) {a : Answer} {why : Refusal
     → Line (answerLine a) before after end → Made s (record { answer = a; unit = u }) before after record { session = s; end = end }
 taken-refused s u e l = record { out = l .out; end = l .next; next = ap (λ b. taken s b u) (sym e) }
 
-pub taken-done : (s : Session) (u : FunctionUnit) {a : Answer} {q : Queue} {before after : List ℕ} {end : ℕ} → a ≡ Done → q ≡ emptyQueue
-    → Line (answerLine a) before after end
+pub taken-done : (s : Session) (u : FunctionUnit) {a : Answer} {q : Queue} {p : Shared} {before after : List ℕ} {end : ℕ} → a ≡ Done → q ≡ emptyQueue
+    → p ≡ emptyShared (s .shared .callers) → Line (answerLine a) before after end
     → Made s (record { answer = a; unit = u }) before after
-    record { session = record { present = true; unit = u; bank = empty; queue = q }; end = end }
-taken-done s u e f l = record {
+    record { session = record { present = true; unit = u; bank = empty; queue = q; shared = p }; end = end }
+taken-done s u e f g l = record {
   out = l .out;
   end = l .next;
-  next = ap (λ (x : Queue). record { present = true; unit = u; bank = empty; queue = x }) f ∙ ap (λ b. taken s b u) (sym e);
+  next = ap₂ (λ (x : Queue) (y : Shared). record { present = true; unit = u; bank = empty; queue = x; shared = y }) f g ∙ ap (λ b. taken s b u) (sym e);
 }
 
 pub made-as : {s : Session} {made asked : Outcome} {before after : List ℕ} {t : Reply} → made ≡ asked → Made s made before after t → Made s asked before after t

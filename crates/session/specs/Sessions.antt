@@ -1,4 +1,4 @@
--- A designer's session: the unit, the bank and the queue that the commands work on, how it begins, and a unit that is taken into it.
+-- A designer's session: the unit, the bank, the queue and the callers' queues that the commands work on, how it begins, and a unit that is taken into it.
 use mathlib.Core.Path.{_≡_}
 use mathlib.Core.Bool.{true, false}
 use mathlib.Core.List.{List}
@@ -11,20 +11,29 @@ use Rattle.unit.specs.declared.Tag.{Tag}
 use Rattle.unit.specs.declared.Answer.{Answer}
 use Rattle.unit.specs.declared.Answer.the-variants.{Done, Refused}
 use Rattle.unit.specs.Calls.{blank, freshOf}
+use Rattle.controller.specs.declared.Bank.{Bank}
 use Rattle.controller.specs.Bank.{empty}
+use Rattle.queue.specs.declared.Queue.{Queue}
 use Rattle.queue.specs.Calls.{emptyQueue}
+use Rattle.callers.specs.declared.Shared.{Shared}
+use Rattle.callers.specs.Calls.{emptyShared}
 use Rattle.listing.specs.Lines.{refusedLine}
 use Rattle.command.specs.declared.Request.{Request}
 use Rattle.session.specs.declared.Session.{Session}
 use Rattle.session.specs.declared.Reply.{Reply}
 
--- at first there is no unit
+-- at first there is no unit, and no caller
 abbrev pub opening : Session
-opening = record { present = false; unit = blank 0 0 0; bank = empty; queue = emptyQueue }
+opening = record { present = false; unit = blank 0 0 0; bank = empty; queue = emptyQueue; shared = emptyShared 0 }
 
--- a unit that a fresh, a load, a mark or an unmark made, with an empty bank and an empty queue; a refused one keeps the session as it was
+-- the session with this at its unit's issue port: the bank, the queue, and the port that callers share
+abbrev pub withPort : Session → Bank → Queue → Shared → Session
+withPort s b q p = record { present = s .present; unit = s .unit; bank = b; queue = q; shared = p }
+
+-- a unit that a fresh, a load, a mark or an unmark made, with an empty bank and empty queues, for as many callers as before; a refused one keeps the session
+-- as it was
 abbrev pub taken : Session → Answer → FunctionUnit → Session
-taken s Done u = record { present = true; unit = u; bank = empty; queue = emptyQueue }
+taken s Done u = record { present = true; unit = u; bank = empty; queue = emptyQueue; shared = emptyShared (s .shared .callers) }
 taken s (Refused why) u = s
 
 -- Numbers of a request as tags: a number too large for a byte is taken for 0, which is no count, no tag, no segment and no column

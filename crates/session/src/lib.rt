@@ -1,4 +1,4 @@
-// A designer's session: the unit, the bank and the queue that commands work on; how it opens, and how a fresh unit or one from a file is taken into it.
+// A designer's session: the unit, the bank, the queue and the callers' queues that commands work on; how it opens, and how a fresh unit or one from a file is taken into it.
 // Every public function here is proved, total and without a `requires`.
 ghost use mathlib.Core.Path.{_≡_};
 ghost use Prim.Native.Nat.{_≤_};
@@ -6,7 +6,8 @@ ghost use lib.ListN.{length};
 ghost use Rattle.text.specs.Wrote.{Wrote};
 ghost use Rattle.unit_file.specs.Read.{readOf};
 ghost use Rattle.listing.specs.Lines.{refusedLine};
-ghost use Rattle.session.specs.Sessions.{opening, answerLine, Line, freshAsked, Made};
+ghost use Rattle.session.specs.Sessions.{opening, withPort, answerLine, Line, freshAsked, Made};
+use callers::Shared;
 use command::Request;
 use controller::Bank;
 use queue::Queue;
@@ -15,12 +16,13 @@ use unit::FunctionUnit;
 use unit::Outcome;
 use unit::Refusal;
 
-// Whether there is a unit, the unit, the bank, and the queue at its issue port.
+// Whether there is a unit, the unit, and what is at its issue port: the bank, the queue, and the port that callers share.
 pub struct Session {
     pub present: bool,
     pub unit: FunctionUnit,
     pub bank: Bank,
     pub queue: Queue,
+    pub shared: Shared,
 }
 
 // The session after a command, and how many bytes the answer has.
@@ -42,11 +44,27 @@ pub fn open() -> Session
         r4: 0,
     };
     let queue = queue::empty_queue();
+    let shared = callers::empty_shared(0);
     Session {
         present: false,
         unit,
         bank,
         queue,
+        shared,
+    }
+}
+
+// The session with this at its unit's issue port.
+pub fn with_port(session: Session, bank: Bank, queue: Queue, shared: Shared) -> Session
+    ensures { λ r. ⌜ r ≡ withPort session bank queue shared ⌝ }
+{
+    let unit = session.unit;
+    Session {
+        present: session.present,
+        unit,
+        bank,
+        queue,
+        shared,
     }
 }
 
@@ -84,7 +102,7 @@ pub fn put_answer(out: &mut [u8], answer: Answer) -> usize
     }
 }
 
-// Takes the unit that was made or edited, with an empty bank and an empty queue; where none was made the session stays.
+// Takes the unit that was made or edited, with an empty bank and empty queues, for as many callers as before; where none was made the session stays.
 pub fn take_unit(session: Session, made: Outcome, out: &mut [u8]) -> Reply
     ensures { λ r. ⌜ Made session made (now (out .entry)) (now (out .exit)) r ⌝ }
 {
@@ -101,11 +119,14 @@ pub fn take_unit(session: Session, made: Outcome, out: &mut [u8]) -> Reply
                 r4: 0,
             };
             let queue = queue::empty_queue();
+            let before = session.shared;
+            let shared = callers::empty_shared(before.callers);
             let next = Session {
                 present: true,
                 unit,
                 bank,
                 queue,
+                shared,
             };
             Reply { session: next, end }
         }

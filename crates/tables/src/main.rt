@@ -2,6 +2,9 @@
 // that follow from the papers, worked out by hand.
 ghost use mathlib.Core.Path.{_≡_};
 ghost use lib.ListN.{length};
+use callers::Counts;
+use callers::Served;
+use callers::Shared;
 use collision::Number;
 use controller::Bank;
 use controller::Event;
@@ -637,6 +640,93 @@ fn try_queue() {
     show_pass(b"no unit", made.unit, 33, 2, 0);
 }
 
+// Callers in turn: how many wait after an arrival, what a time unit starts, and whose turn it is then. Caller 4's queue holds more than it has room for.
+
+fn shared_of(callers: u8, turn: u8, count: usize, tag: u8) -> Shared {
+    Shared {
+        callers,
+        turn,
+        list: [Waiting { tag, ticket: 7 }; 32],
+        counts: Counts {
+            each: [0, count, 0, 9],
+        },
+    }
+}
+
+fn show_call(name: &[u8], u: FunctionUnit, shared: Shared, caller: u8, tag: u8) {
+    begin(name, b" call");
+    print_number(caller as u32);
+    print_number(tag as u32);
+    let called = callers::call(u, shared, caller, Waiting { tag, ticket: 8 });
+    let answer = called.answer;
+    let after = called.shared;
+    let counts = after.counts;
+    let each = counts.each;
+    match answer {
+        Answer::Refused(why) => print_refusal(why),
+        Answer::Done => {
+            io::write_all(1, b" wait ");
+            io::print_decimal(1, each[1] as u64);
+        }
+    }
+    end_line();
+}
+
+fn print_served(served: Served) {
+    match served {
+        Served::Refused(why) => print_refusal(why),
+        Served::Idle => {
+            io::write_all(1, b" none");
+        }
+        Served::Started(caller, started) => {
+            io::write_all(1, b" started");
+            print_number(caller as u32);
+            print_number(started.tag as u32);
+            print_number(started.ticket);
+        }
+    }
+}
+
+fn show_turn(name: &[u8], u: FunctionUnit, shared: Shared, register: u32) {
+    begin(name, b" turn");
+    print_number(shared.turn as u32);
+    let bank = Bank {
+        r1: register,
+        r2: 0,
+        r3: 0,
+        r4: 0,
+    };
+    let taken = callers::take_turn(u, bank, shared);
+    let served = taken.answer;
+    let after = taken.shared;
+    print_served(served);
+    io::write_all(1, b" then");
+    print_number(after.turn as u32);
+    end_line();
+}
+
+fn try_callers() {
+    let u = one_segment(b"\x01\x02");
+    let made = unit::fresh(5, 5, 9);
+    show_call(b"7 wait", u, shared_of(3, 1, 7, 1), 2, 1);
+    show_call(b"8 wait", u, shared_of(3, 1, 8, 1), 2, 1);
+    show_call(b"8 wait", u, shared_of(3, 1, 8, 1), 2, 2);
+    show_call(b"9 of tag 2 wait", u, shared_of(3, 1, 9, 2), 2, 1);
+    show_call(b"7 of tag 2 wait", u, shared_of(3, 1, 7, 2), 2, 1);
+    show_call(b"no such caller", u, shared_of(3, 1, 9, 2), 4, 2);
+    show_call(b"five callers", u, shared_of(5, 1, 9, 2), 2, 2);
+    show_call(b"no unit", made.unit, shared_of(5, 1, 9, 2), 9, 2);
+    show_turn(b"2 wait", u, shared_of(3, 1, 2, 1), 0);
+    show_turn(b"one waits for another", u, shared_of(3, 1, 1, 1), 1);
+    show_turn(b"none waits", u, shared_of(3, 3, 0, 2), 0);
+    show_turn(b"9 of caller 4 wait", u, shared_of(4, 3, 0, 1), 0);
+    show_turn(b"9 of tag 2 wait", u, shared_of(3, 1, 9, 2), 0);
+    show_turn(b"8 of tag 2 wait", u, shared_of(3, 1, 8, 2), 0);
+    show_turn(b"no such caller", u, shared_of(3, 4, 9, 2), 0);
+    show_turn(b"no callers", u, shared_of(0, 1, 9, 2), 0);
+    show_turn(b"no unit", made.unit, shared_of(0, 0, 9, 2), 0);
+}
+
 fn try_limit() {
     let full = one_segment(b"\x01\x0a");
     show_states(b"marks 1 10", full);
@@ -741,6 +831,7 @@ fn main() {
     try_other_tables();
     try_delays();
     try_queue();
+    try_callers();
     try_limit();
     try_stale_plan();
     try_refusals();

@@ -7,11 +7,11 @@ use native.Mathlib.Omega.{arith}
 use borrow.Author.Tests.{ne-eqb}
 use lib.Dec.{eqb}
 use Rattle.unit.specs.declared.Refusal.{Refusal}
-use Rattle.unit.specs.declared.Refusal.the-variants.{NotSound, NoSuchTag, NoSuchSegment, NoSuchColumn, ShortWork, ShortOutput, TooManyStates, NoPlan, BadCycle, NotGranted, BadLength, BadHeader, MarkBeyondColumns, TooManyWait, BadRecord, BadLoop, TwoMarks, BadInterval, PlaceBeyond}
+use Rattle.unit.specs.declared.Refusal.the-variants.{NotSound, NoSuchTag, NoSuchSegment, NoSuchColumn, ShortWork, ShortOutput, TooManyStates, NoPlan, BadCycle, NotGranted, BadLength, BadHeader, MarkBeyondColumns, TooManyWait, BadRecord, BadLoop, NoSuchCaller, TwoMarks, BadInterval, PlaceBeyond}
 use Rattle.unit.specs.Numbers.{numberOf, refusals}
 
 -- the papers' list of numbers
-pub numbers : map numberOf refusals ≡ 1 ∷ 2 ∷ 3 ∷ 4 ∷ 5 ∷ 6 ∷ 7 ∷ 8 ∷ 9 ∷ 10 ∷ 11 ∷ 12 ∷ 13 ∷ 14 ∷ 15 ∷ 17 ∷ 19 ∷ 20 ∷ 21 ∷ []
+pub numbers : map numberOf refusals ≡ 1 ∷ 2 ∷ 3 ∷ 4 ∷ 5 ∷ 6 ∷ 7 ∷ 8 ∷ 9 ∷ 10 ∷ 11 ∷ 12 ∷ 13 ∷ 14 ∷ 15 ∷ 17 ∷ 18 ∷ 19 ∷ 20 ∷ 21 ∷ []
 numbers = refl
 
 -- the first of some refusals that is told by a number
@@ -42,6 +42,7 @@ numbered MarkBeyondColumns = record { from = omega arith; to = omega arith; tell
 numbered TooManyWait = record { from = omega arith; to = omega arith; tells = refl }
 numbered BadRecord = record { from = omega arith; to = omega arith; tells = refl }
 numbered BadLoop = record { from = omega arith; to = omega arith; tells = refl }
+numbered NoSuchCaller = record { from = omega arith; to = omega arith; tells = refl }
 numbered TwoMarks = record { from = omega arith; to = omega arith; tells = refl }
 numbered BadInterval = record { from = omega arith; to = omega arith; tells = refl }
 numbered PlaceBeyond = record { from = omega arith; to = omega arith; tells = refl }

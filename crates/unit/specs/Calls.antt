@@ -25,6 +25,10 @@ abbrev pub andThen : Answer → Answer → Answer
 andThen Done next = next
 andThen (Refused why) next = Refused why
 
+-- one more test
+abbrev pub testedBy : Answer → Bool → Refusal → Answer
+testedBy answer holds why = andThen answer (check holds why Done)
+
 -- what every question about one function tries first
 unfoldable pub tagAnswer : FunctionUnit → ℕ → Answer
 tagAnswer u q =

@@ -2,7 +2,7 @@
 use mathlib.Core.List.{List, [], _∷_}
 use Prim.Native.Nat.{ℕ}
 use Rattle.unit.specs.declared.Refusal.{Refusal}
-use Rattle.unit.specs.declared.Refusal.the-variants.{NotSound, NoSuchTag, NoSuchSegment, NoSuchColumn, ShortWork, ShortOutput, TooManyStates, NoPlan, BadCycle, NotGranted, BadLength, BadHeader, MarkBeyondColumns, TooManyWait, BadRecord, BadLoop, TwoMarks, BadInterval, PlaceBeyond}
+use Rattle.unit.specs.declared.Refusal.the-variants.{NotSound, NoSuchTag, NoSuchSegment, NoSuchColumn, ShortWork, ShortOutput, TooManyStates, NoPlan, BadCycle, NotGranted, BadLength, BadHeader, MarkBeyondColumns, TooManyWait, BadRecord, BadLoop, NoSuchCaller, TwoMarks, BadInterval, PlaceBeyond}
 use Rattle.unit.specs.declared.Answer.{Answer}
 use Rattle.unit.specs.declared.Answer.the-variants.{Done, Refused}
 
@@ -31,12 +31,14 @@ numberOf BadLength = 11
 numberOf BadHeader = 12
 -- a mark of a file beyond the columns
 numberOf MarkBeyondColumns = 13
--- at an arrival, 32 or more tasks already wait; when a time unit passes, more than 32
+-- at an arrival, as many tasks already wait as a queue has room for, 32 or a caller's 8; when a time unit passes, more
 numberOf TooManyWait = 14
 -- a plan record, or a plan to be written, that no cycle of 1 to 256 latencies, each 1 to 32, gives; a plan of tag 0 to be written
 numberOf BadRecord = 15
 -- a loop of no tags, or of more than 8
 numberOf BadLoop = 17
+-- callers that are not 1 to 4, no such caller, or a turn that names none
+numberOf NoSuchCaller = 18
 -- two marks of a function in a column
 numberOf TwoMarks = 19
 -- a wanted latency of 0, above 32 or below the largest number of marks in a segment
@@ -48,7 +50,7 @@ numberOf PlaceBeyond = 21
 abbrev pub refusals : List Refusal
 refusals =
     NotSound ∷ NoSuchTag ∷ NoSuchSegment ∷ NoSuchColumn ∷ ShortWork ∷ ShortOutput ∷ TooManyStates ∷ NoPlan ∷ BadCycle ∷ NotGranted ∷ BadLength
-    ∷ BadHeader ∷ MarkBeyondColumns ∷ TooManyWait ∷ BadRecord ∷ BadLoop ∷ TwoMarks ∷ BadInterval ∷ PlaceBeyond ∷ []
+    ∷ BadHeader ∷ MarkBeyondColumns ∷ TooManyWait ∷ BadRecord ∷ BadLoop ∷ NoSuchCaller ∷ TwoMarks ∷ BadInterval ∷ PlaceBeyond ∷ []
 
 -- the number that an answer tells: 0 where the call was accepted
 abbrev pub numberIn : Answer → ℕ

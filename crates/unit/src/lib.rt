@@ -6,7 +6,7 @@ ghost use Prim.Native.Nat.{_≤_};
 ghost use Rattle.unit.specs.Inner.{Between, Beyond, Joins, Tested, Somewhere};
 ghost use Rattle.unit.specs.Numbers.{numberOf, numberIn};
 ghost use Rattle.unit.specs.Unit.{inside, goodCounts, soundPlan, soundOf, place, columnsOf};
-ghost use Rattle.unit.specs.Calls.{noPlan, withWord, tagAnswer, spotAnswer, freshOf, columnAnswer, columnOf};
+ghost use Rattle.unit.specs.Calls.{testedBy, noPlan, withWord, tagAnswer, spotAnswer, freshOf, columnAnswer, columnOf};
 
 // The number of a function, 1 to 4.
 pub struct Tag(pub u8);
@@ -50,6 +50,7 @@ pub enum Refusal {
     TooManyWait,
     BadRecord,
     BadLoop,
+    NoSuchCaller,
     TwoMarks,
     BadInterval,
     PlaceBeyond,
@@ -87,6 +88,7 @@ fn number(why: Refusal) -> u8
         Refusal::TooManyWait => 14,
         Refusal::BadRecord => 15,
         Refusal::BadLoop => 17,
+        Refusal::NoSuchCaller => 18,
         Refusal::TwoMarks => 19,
         Refusal::BadInterval => 20,
         Refusal::PlaceBeyond => 21,
@@ -100,6 +102,21 @@ pub fn number_in(answer: Answer) -> u8
     match answer {
         Answer::Done => 0,
         Answer::Refused(why) => number(why),
+    }
+}
+
+// The answer so far, and, where that is done, one more test.
+pub fn tested(answer: Answer, holds: bool, why: Refusal) -> Answer
+    ensures { λ r. ⌜ r ≡ testedBy answer holds why ⌝ }
+{
+    match answer {
+        Answer::Refused(first) => Answer::Refused(first),
+        Answer::Done => {
+            if holds {
+                return Answer::Done;
+            }
+            Answer::Refused(why)
+        }
     }
 }
 

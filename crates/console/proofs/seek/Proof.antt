@@ -20,7 +20,7 @@ same-length c = search needs
 
 returns : tie.Need-returns
 returns c =
-    let told = c .before .before .before .before .before in
+    let told = c .before .before .before .before .before .before in
     let found = told .before .before .before in
     sought (found .before .before .before .before .args .session) (replicate 16000 0) refl (found .search .ensures) (told .put-answer .ensures)
 

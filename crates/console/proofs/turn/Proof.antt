@@ -1,7 +1,7 @@
 -- `console::turn` meets its contract. Assumes nothing.
 use borrow.Author.Tests.{not-true, not-false}
 use Rattle.console.specs.Turns.{unitReply, UnitNext}
-use Rattle.console.proofs.TurnLaws.{turned-none, turned-by, gives-issued, gives-nothing}
+use Rattle.console.proofs.TurnLaws.{turned-none, turned-by, gives-issued, gives-shared, gives-nothing}
 use borrow.Author.Needs.{needs}
 use Rattle.console.proofs.turn.Statement.{statement}
 use Rattle.console.proofs.turn.Tie as tie
@@ -36,6 +36,12 @@ enum-known-verb-3 c = search needs
 answer-requires : tie.Need-answer-requires
 answer-requires c κs = search needs
 
+enum-known-verb-4 : tie.Need-enum-known-verb-4
+enum-known-verb-4 c = search needs
+
+answer-requires-2 : tie.Need-answer-requires-2
+answer-requires-2 c κs = search needs
+
 enum-told : tie.Need-enum-told
 enum-told c = search needs
 
@@ -69,21 +75,28 @@ returns-4 : tie.Need-returns-4
 unfolding unitReply UnitNext
 returns-4 c = turned-by (not-false _ (c .before .before .before .before .before .before .before .if1 .left)) (c .before .before .before .before .before .verb3 .given .1) (gives-issued _ _ (c .before .before .answer .ensures))
 
+same-length-5 : tie.Need-same-length-5
+same-length-5 c = search needs
+
 returns-5 : tie.Need-returns-5
 unfolding unitReply UnitNext
-returns-5 c = turned-by (not-false _ (c .before .before .if1 .left)) (c .enum-told .given .1) gives-nothing
+returns-5 c = turned-by (not-false _ (c .before .before .before .before .before .before .before .if1 .left)) (c .before .before .before .before .before .verb4 .given .1) (gives-shared _ _ (c .before .before .answer2 .ensures))
 
 returns-6 : tie.Need-returns-6
 unfolding unitReply UnitNext
-returns-6 c = turned-by (not-false _ (c .before .before .if1 .left)) (c .enum-told2 .given .1) gives-nothing
+returns-6 c = turned-by (not-false _ (c .before .before .if1 .left)) (c .enum-told .given .1) gives-nothing
 
 returns-7 : tie.Need-returns-7
 unfolding unitReply UnitNext
-returns-7 c = turned-by (not-false _ (c .before .before .if1 .left)) (c .enum-told3 .given .1) gives-nothing
+returns-7 c = turned-by (not-false _ (c .before .before .if1 .left)) (c .enum-told2 .given .1) gives-nothing
 
 returns-8 : tie.Need-returns-8
 unfolding unitReply UnitNext
-returns-8 c = turned-by (not-false _ (c .before .before .if1 .left)) (c .enum-told4 .given .1) gives-nothing
+returns-8 c = turned-by (not-false _ (c .before .before .if1 .left)) (c .enum-told3 .given .1) gives-nothing
+
+returns-9 : tie.Need-returns-9
+unfolding unitReply UnitNext
+returns-9 c = turned-by (not-false _ (c .before .before .if1 .left)) (c .enum-told4 .given .1) gives-nothing
 
 pub turn-spec : {M : Type 1} → statement M
 turn-spec =
@@ -99,6 +112,8 @@ turn-spec =
     tell-requires
     enum-known-verb-3
     answer-requires
+    enum-known-verb-4
+    answer-requires-2
     enum-told
     enum-told-2
     enum-told-3
@@ -109,7 +124,9 @@ turn-spec =
     returns-3
     same-length-4
     returns-4
+    same-length-5
     returns-5
     returns-6
     returns-7
-    returns-8)
+    returns-8
+    returns-9)

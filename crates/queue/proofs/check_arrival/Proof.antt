@@ -5,8 +5,8 @@ use lib.Dec.{leb, ltb}
 use Rattle.unit.specs.declared.Refusal.the-variants.{NotSound, ShortOutput, NoSuchTag, TooManyWait}
 use Rattle.unit.specs.declared.Answer.{Answer}
 use Rattle.unit.specs.Unit.{inside, soundOf}
-use Rattle.queue.specs.Inner.{testedBy}
-use Rattle.queue.proofs.CoreLaws.{five-tests}
+use Rattle.unit.specs.Calls.{testedBy}
+use Rattle.unit.proofs.TestLaws.{five-tests}
 use borrow.Author.Needs.{needs}
 use Rattle.queue.proofs.check_arrival.Statement.{statement}
 use Rattle.queue.proofs.check_arrival.Tie as tie

@@ -6,8 +6,8 @@ use Rattle.unit.specs.declared.Refusal.the-variants.{NotSound, ShortOutput}
 use Rattle.unit.specs.declared.Answer.{Answer}
 use Rattle.unit.specs.declared.Answer.the-variants.{Done}
 use Rattle.unit.specs.Unit.{soundOf}
-use Rattle.queue.specs.Inner.{testedBy}
-use Rattle.queue.proofs.CoreLaws.{two-tests}
+use Rattle.unit.specs.Calls.{testedBy}
+use Rattle.unit.proofs.TestLaws.{two-tests}
 use borrow.Author.Needs.{needs}
 use Rattle.queue.proofs.check_list.Statement.{statement}
 use Rattle.queue.proofs.check_list.Tie as tie

@@ -4,8 +4,8 @@ use lib.Dec.{leb}
 use Rattle.unit.specs.declared.Refusal.the-variants.{NotSound, ShortOutput, NoSuchTag, TooManyWait}
 use Rattle.unit.specs.declared.Answer.{Answer}
 use Rattle.unit.specs.Unit.{soundOf}
-use Rattle.queue.specs.Inner.{testedBy}
-use Rattle.queue.proofs.CoreLaws.{four-tests}
+use Rattle.unit.specs.Calls.{testedBy}
+use Rattle.unit.proofs.TestLaws.{four-tests}
 use borrow.Author.Needs.{needs}
 use Rattle.queue.proofs.check_unit.Statement.{statement}
 use Rattle.queue.proofs.check_unit.Tie as tie

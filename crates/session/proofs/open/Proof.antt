@@ -10,9 +10,12 @@ fresh-requires c κs = search needs
 empty-queue-requires : tie.Need-empty-queue-requires
 empty-queue-requires c κs = search needs
 
+empty-shared-requires : tie.Need-empty-shared-requires
+empty-shared-requires c κs = search needs
+
 returns : tie.Need-returns
 unfolding freshOf
-returns c = rw (c .before .before .fresh .ensures, c .empty-queue .ensures)
+returns c = rw (c .before .before .before .fresh .ensures, c .before .empty-queue .ensures, c .empty-shared .ensures)
 
 pub open-spec : {M : Type 1} → statement M
-open-spec = tie.close (tie.spec fresh-requires empty-queue-requires returns)
+open-spec = tie.close (tie.spec fresh-requires empty-queue-requires empty-shared-requires returns)

@@ -16,6 +16,9 @@ enum-told-2 c = search needs
 empty-queue-requires : tie.Need-empty-queue-requires
 empty-queue-requires c κs = search needs
 
+empty-shared-requires : tie.Need-empty-shared-requires
+empty-shared-requires c κs = search needs
+
 same-length : tie.Need-same-length
 same-length c = search needs
 
@@ -27,9 +30,9 @@ same-length-2 c = search needs
 
 returns-2 : tie.Need-returns-2
 returns-2 c =
-    let told = c .before .before in
+    let told = c .before .before .before .before in
     let a = told .before .before .before .before .before .before .before .args in
-    taken-done (a .session) (a .made .unit) (told .enum-told2 .given .1) (c .empty-queue .ensures) (told .before .before .before .before .put-answer .ensures)
+    taken-done (a .session) (a .made .unit) (told .enum-told2 .given .1) (c .before .before .empty-queue .ensures) (c .empty-shared .ensures) (told .before .before .before .before .put-answer .ensures)
 
 pub take-unit-spec : {M : Type 1} → statement M
 take-unit-spec =
@@ -39,6 +42,7 @@ take-unit-spec =
     enum-told
     enum-told-2
     empty-queue-requires
+    empty-shared-requires
     same-length
     returns
     same-length-2

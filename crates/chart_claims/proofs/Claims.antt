@@ -40,16 +40,16 @@ use Rattle.simulator.specs.Step.{bitOf, positionAfter, stepAnswer, playing, pla
 use Rattle.simulator.specs.Play.{placeAfter, unitAfter}
 use Rattle.simulator.specs.Claims.{FallsOn, Plays, FoundPlan}
 use Rattle.simulator.proofs.Claims.{every-search-plays}
 use Rattle.chart.specs.declared.Charted.{Charted}
 use Rattle.chart.specs.declared.Charted.the-variants as Charted
 use Rattle.chart.specs.Cells.{letter, none, tasksBefore, startCell, cellOf, segmentCell}
 use Rattle.chart.specs.Text.{chartOf}
 use Rattle.chart.specs.Answers.{planAnswer, unitsAnswer, charted, chartRefusal, chartAnswer, simulateRefusal, simulateAnswer}
-use Rattle.chart.specs.Claims.{PlaysShown, SearchCharted, TenAlone, LettersApart, ChartFits}
+use Rattle.chart_claims.specs.Claims.{PlaysShown, SearchCharted, TenAlone, LettersApart, ChartFits}
 use Rattle.chart.specs.Inner.{Ready, lineLength}
 use Rattle.chart.proofs.CellLaws.{tasks-none, units-none, units-more}
 use Rattle.chart.proofs.LineLaws.{line-is}
 use Rattle.chart.proofs.ChartLaws.{plan-ready, ready-plan, ready-sound, chart-length}
 
 -- Letters
 

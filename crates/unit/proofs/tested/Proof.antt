@@ -1,7 +1,7 @@
--- `queue::tested` meets its contract: by the answer. Assumes nothing.
+-- `unit::tested` meets its contract: by the answer. Assumes nothing.
 use borrow.Author.Needs.{needs}
-use Rattle.queue.proofs.tested.Statement.{statement}
-use Rattle.queue.proofs.tested.Tie as tie
+use Rattle.unit.proofs.tested.Statement.{statement}
+use Rattle.unit.proofs.tested.Tie as tie
 
 enum-known-answer : tie.Need-enum-known-answer
 enum-known-answer c = search needs

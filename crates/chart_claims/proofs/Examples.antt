@@ -22,14 +22,14 @@ use Rattle.function_plan.specs.Own.{ownAnswer}
 use Rattle.simulator.specs.Step.{stepAnswer, playOf}
 use Rattle.simulator.specs.Play.{placeAfter}
 use Rattle.simulator.proofs.Examples.{plan, marked1, figure1, three-four, twice, one}
 use Rattle.chart.specs.declared.Charted.{Charted}
 use Rattle.chart.specs.declared.Charted.the-variants as Charted
 use Rattle.chart.specs.Cells.{letter, tasksBefore, startCell, cellOf, segmentCell}
 use Rattle.chart.specs.Text.{segmentLine, chartText, chartOf}
 use Rattle.chart.specs.Answers.{planAnswer, unitsAnswer, charted, chartRefusal, chartAnswer, chartArea, simulateRefusal, simulateAnswer}
-use Rattle.chart.specs.Claims.{ChartShows}
+use Rattle.chart_claims.specs.Claims.{ChartShows}
 use Rattle.chart.specs.Inner.{topLength, lineLength}
 use Rattle.chart.proofs.ChartLaws.{refused-short}
 
 -- Fig. 1's unit with its plan 3 4
 

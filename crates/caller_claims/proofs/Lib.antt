@@ -1,0 +1,12 @@
+pub mod AheadLaws
+pub mod PartLaws
+pub mod PortLaws
+pub mod AcceptedLaws
+pub mod HeldLaws
+pub mod Steady
+pub mod ReadyLaws
+pub mod Turns
+pub mod Soon
+pub mod Beyond
+pub mod Tasks
+pub mod Examples

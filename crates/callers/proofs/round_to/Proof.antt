@@ -1,0 +1,17 @@
+-- `callers::round_to` meets its contract. Assumes nothing.
+use borrow.Author.Tests.{eq-eqb, ne-eqb}
+use borrow.Author.Needs.{needs}
+use Rattle.callers.proofs.round_to.Statement.{statement}
+use Rattle.callers.proofs.round_to.Tie as tie
+
+returns : tie.Need-returns
+returns c = simp (eq-eqb _ _ (c .if1 .taken))
+
+add-result : tie.Need-add-result
+add-result c = search needs
+
+returns-2 : tie.Need-returns-2
+returns-2 c = simp (ne-eqb _ _ (c .if1 .left))
+
+pub round-to-spec : {M : Type 1} → statement M
+round-to-spec = tie.close (tie.spec returns add-result returns-2)
