@@ -10,7 +10,7 @@ use Rattle.unit.specs.Unit.{inside}
 use Rattle.unit.proofs.Laws.{within, inside-of}
 use Rattle.callers.specs.Turn.{round, firstAfter, nextTurn, turnNow}
 use Rattle.callers.specs.Queues.{hasWork}
-use Rattle.callers.specs.Inner.{OneOf}
+use Rattle.callers.specs.Inner.{Among}
 
 pub data Round (C t r : ℕ) : Type 0 where
   over : t ≡ C → r ≡ 1 → Round C t r
@@ -75,20 +75,20 @@ module _ (C : ℕ) (work : ℕ → Bool) (i stay : ℕ) where
   first-end zero h = refl
   first-end (suc k) h = absurd (omega arith)
 
-one-round : (C i : ℕ) → OneOf C i → OneOf C (round C i)
+one-round : (C i : ℕ) → Among C i → Among C (round C i)
 one-round C i o =
     let w = within (round C i) C (round-inside C i (inside-of i C (o .least) (o .most))) in
     record { few = o .few; least = w .least; most = w .most }
 
 -- so many callers are still to be asked
 pub record Going (C : ℕ) (counts : List ℕ) (from caller left : ℕ) : Type 0 where
-  pub here : OneOf C caller
+  pub here : Among C caller
   pub rest : nextTurn C (hasWork counts) from ≡ firstAfter left C (hasWork counts) caller from
 
-pub going-one : {C : ℕ} {counts : List ℕ} {from caller left : ℕ} → Going C counts from caller left → (r : ℕ) → r ≡ round C caller → OneOf 4 r
+pub going-one : {C : ℕ} {counts : List ℕ} {from caller left : ℕ} → Going C counts from caller left → (r : ℕ) → r ≡ round C caller → Among 4 r
 going-one {C} {counts} {from} {caller} {left} g r e =
     let o = one-round C caller (g .here) in
-    subst (OneOf 4) (sym e) (record { few = omega arith; least = o .least; most = omega (arith, o .most, o .few) })
+    subst (Among 4) (sym e) (record { few = omega arith; least = o .least; most = omega (arith, o .most, o .few) })
 
 pub going-found : {C : ℕ} {counts : List ℕ} {from caller left : ℕ} → Going C counts from caller left → 0 < left → (r : ℕ) → r ≡ round C caller
     → hasWork counts r ≡ true → r ≡ nextTurn C (hasWork counts) from

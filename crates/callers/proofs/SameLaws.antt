@@ -1,7 +1,7 @@
 -- What is found on records that are the queues of a list is what the list says. Assumes nothing.
 use Prim.Native.Nat.{ℕ, _+_, _-_, _*_, _≤_}
 use mathlib.Core.Path.{_≡_, refl, ap, _∙_, sym}
-use mathlib.Core.Bool.{true}
+use mathlib.Core.Bool.{Bool, true}
 use mathlib.Core.List.{List, [], _∷_}
 use native.Mathlib.Omega.{arith}
 use lib.Dec.{leb, ltb}
@@ -9,7 +9,7 @@ use lib.ListN.{length, take, drop, length-take, length-drop}
 use borrow.Author.Tests.{leb-true, leb-false, ltb-true, le-leb, lt-leb}
 use Rattle.words.proofs.Tests.{by-test, and-left}
 use Rattle.unit.specs.declared.FunctionUnit.{FunctionUnit}
-use Rattle.unit.specs.declared.Refusal.the-variants.{NoSuchTag, ShortOutput, TooManyWait}
+use Rattle.unit.specs.declared.Refusal.the-variants.{NotSound, NoSuchTag, ShortOutput, TooManyWait}
 use Rattle.unit.specs.declared.Answer.{Answer}
 use Rattle.unit.specs.declared.Answer.the-variants.{Done, Refused}
 use Rattle.unit.specs.Unit.{inside, soundOf}
@@ -23,12 +23,12 @@ use Rattle.queue.specs.Line.{tagsInside}
 use Rattle.queue.specs.Calls.{arrivalAnswer, oldest, passedThen}
 use Rattle.callers.specs.Turn.{eachCaller}
 use Rattle.callers.specs.Queues.{room, placeOf, queueOf, countOf, waitingOf}
-use Rattle.callers.specs.Calls.{oneOf, arrivalAt, unitAt, callerOf, passedAt}
-use Rattle.callers.specs.Parts.{arrivalBy, unitBy}
-use Rattle.callers.specs.Inner.{OneOf}
+use Rattle.callers.specs.Calls.{oneOf, callerFirst, arrivalAt, unitAt, callerOf, passedAt}
+use Rattle.callers.specs.Parts.{arrivalIn, unitIn}
+use Rattle.callers.specs.Inner.{Among}
 use Rattle.callers.proofs.EachLaws.{each-true, each-false, each-same, each-at}
 use Rattle.callers.proofs.PartLaws.{queue-length, line-part}
-use Rattle.callers.proofs.TestedLaws.{one-of, fewAt, fitsAt, unit-accepted, unit-long}
+use Rattle.callers.proofs.TestedLaws.{one-of, reaches, fewAt, fitsAt, unit-accepted, unit-long}
 use Rattle.callers.proofs.TryLaws.{caller-there}
 
 -- a queue is all in the list exactly where the list reaches its end
@@ -48,21 +48,22 @@ long-queues list C some = by-test (leb (room * C) (length list))
 -- An arrival
 
 module _ (u : FunctionUnit) (C i : ℕ) (list ys : List Waiting) (same : oneOf C i ≡ true → placeOf i + room ≤ length ys → queueOf list i ≡ queueOf ys i) where
-  pub arrival-same : (count : ℕ) (w : Waiting) → arrivalBy u C i (length ys) list count (w .tag) ≡ arrivalAt u C i (queueOf ys i) count w
+  pub arrival-same : (count : ℕ) (w : Waiting) → arrivalIn u C i (length ys) list count (w .tag) ≡ arrivalAt u C i (queueOf ys i) count w
   unfolding arrivalAt arrivalAnswer
-  arrival-same count w = by-test (soundOf u) (λ s. simp s (by-test (oneOf C i) (λ o. simp (o, long-queue ys i) (rest o)) (λ o. simp o))) (λ s. simp s)
+  arrival-same count w = by-test (oneOf C i) (λ o. simp (long-queue ys i, reaches (placeOf i) (length ys)) (rest o)) (λ o. simp o)
     where
-      rest : oneOf C i ≡ true
-          → check (leb (placeOf i + room) (length ys)) ShortOutput
-          (check (inside (w .tag) (u .functions)) NoSuchTag
-          (check (ltb count room) TooManyWait (check (tagsInside (u .functions) (take count (drop (placeOf i) list))) NoSuchTag Done)))
-          ≡ check (leb (placeOf i + room) (length ys)) ShortOutput
-          (check (inside (w .tag) (u .functions)) NoSuchTag
-          (check (ltb count room) TooManyWait (check (tagsInside (u .functions) (take count (queueOf ys i))) NoSuchTag Done)))
+      -- the tests of a queue, by the tags that wait
+      tests : Bool → Answer
+      tests fit =
+          callerFirst u C i
+          (check (soundOf u) NotSound
+          (check (leb (placeOf i + room) (length ys)) ShortOutput
+          (check (inside (w .tag) (u .functions)) NoSuchTag (check (ltb count room) TooManyWait (check fit NoSuchTag Done)))))
+
+      rest : oneOf C i ≡ true → tests (tagsInside (u .functions) (take count (drop (placeOf i) list))) ≡ tests (tagsInside (u .functions) (take count (queueOf ys i)))
       rest o = by-test (leb (placeOf i + room) (length ys))
           (λ l. by-test (ltb count room)
-          (λ f. ap (λ (line : List Waiting). check (leb (placeOf i + room) (length ys)) ShortOutput
-          (check (inside (w .tag) (u .functions)) NoSuchTag (check (ltb count room) TooManyWait (check (tagsInside (u .functions) line) NoSuchTag Done))))
+          (λ f. ap (λ (line : List Waiting). tests (tagsInside (u .functions) line))
           (sym (line-part list i count (omega (arith, ltb-true count room f))) ∙ ap (take count) (same o (leb-true _ _ l))))
           (λ f. simp f))
           (λ l. simp l)
@@ -77,7 +78,7 @@ module _ (u : FunctionUnit) (C turn : ℕ) (list ys : List Waiting) (counts : Li
       (λ i h. ap (tagsInside (u .functions))
       (sym (line-part list i (countOf counts i) (leb-true _ _ (each-at C (fewAt counts) i few h))) ∙ ap (take (countOf counts i)) (same c l i h)))
 
-  pub unit-same : unitBy u C turn (length ys) list counts ≡ unitAt u C turn ys counts
+  pub unit-same : unitIn u C turn (length ys) list counts ≡ unitAt u C turn ys counts
   unfolding unitAt
   unit-same = by-test (soundOf u)
       (λ s. simp s (by-test (oneOf C turn) (λ o. simp (o, long-queues ys C (within C 4 (and-left (inside C 4) _ o) .least)) (rest (and-left (inside C 4) _ o))) (λ o. simp o)))
@@ -96,7 +97,7 @@ module _ (u : FunctionUnit) (C turn : ℕ) (list ys : List Waiting) (counts : Li
           (λ l. simp l)
 
   -- what is started is the same
-  pub passed-same : (b : Bank) → passedThen (unitBy u C turn (length ys) list counts) (oldest b (waitingOf list counts (callerOf C turn counts))) ≡ passedAt u b C turn ys counts
+  pub passed-same : (b : Bank) → passedThen (unitIn u C turn (length ys) list counts) (oldest b (waitingOf list counts (callerOf C turn counts))) ≡ passedAt u b C turn ys counts
   unfolding passedAt
   passed-same b =
       ap (λ (a : Answer). passedThen a (oldest b (waitingOf list counts (callerOf C turn counts)))) unit-same ∙ go (unitAt u C turn ys counts) refl
@@ -117,7 +118,7 @@ module _ (u : FunctionUnit) (C turn : ℕ) (list ys : List Waiting) (counts : Li
 pub record StartedThere (C i : ℕ) (ys : List Waiting) (counts : List ℕ) : Type 0 where
   pub four : inside C 4 ≡ true
   pub long : room * C ≤ length ys
-  pub caller : OneOf C i
+  pub caller : Among C i
   pub full : length (queueOf ys i) ≡ room
   pub some : 1 ≤ countOf counts i
   pub few : countOf counts i ≤ room

@@ -26,7 +26,7 @@ use Rattle.queue.proofs.LineLaws.{tags-first}
 use Rattle.callers.specs.Queues.{placeOf, queueOf, countOf, waitingOf, hasWork}
 use Rattle.callers.specs.Calls.{callerOf}
 use Rattle.callers.specs.Parts.{onBy}
-use Rattle.callers.specs.Inner.{OneOf, Servable, Startable}
+use Rattle.callers.specs.Inner.{Among, Servable, Startable}
 use Rattle.callers.proofs.EachLaws.{each-at}
 use Rattle.callers.proofs.RoundLaws.{now-inside}
 use Rattle.callers.proofs.PartLaws.{line-part}
@@ -77,8 +77,8 @@ module _ (u : FunctionUnit) (b : Bank) (C i : ℕ) (list : List Waiting) (counts
 
 -- Whose turn it is
 
-module _ (C turn : ℕ) (counts : List ℕ) (t : OneOf C turn) where
-  pub caller-there : OneOf C (callerOf C turn counts)
+module _ (C turn : ℕ) (counts : List ℕ) (t : Among C turn) where
+  pub caller-there : Among C (callerOf C turn counts)
   caller-there =
       let w = within (callerOf C turn counts) C (now-inside C (hasWork counts) turn (inside-of turn C (t .least) (t .most))) in
       record { few = t .few; least = w .least; most = w .most }
@@ -90,7 +90,7 @@ nothing-starts b list counts i e =
     sym (ap (λ (k : ℕ). oldest b (take k (queueOf list i))) (eqb-true (countOf counts i) 0 (not-false _ e)))
 
 -- and one with work may start where the tests passed
-pub may-start : (u : FunctionUnit) (C turn : ℕ) (list : List Waiting) (counts : List ℕ) (i : ℕ) → Servable u C turn list counts → OneOf C i → hasWork counts i ≡ true
+pub may-start : (u : FunctionUnit) (C turn : ℕ) (list : List Waiting) (counts : List ℕ) (i : ℕ) → Servable u C turn list counts → Among C i → hasWork counts i ≡ true
     → Startable u C i list counts
 may-start u C turn list counts i s o e =
     let h = inside-of i C (o .least) (o .most) in

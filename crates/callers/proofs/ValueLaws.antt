@@ -20,16 +20,16 @@ use Rattle.callers.specs.declared.UnitOn.{UnitOn}
 use Rattle.callers.specs.declared.Shared.{Shared}
 use Rattle.callers.specs.Queues.{queueOf, withQueue, countOf, withCount}
 use Rattle.callers.specs.Calls.{oneOf, arrivalAt, arrivalOf, arrivalList, callerOf, turnedBy, unitOf, listBy, unitList, callOf, takenOf}
-use Rattle.callers.specs.Parts.{arrivalBy, arrivalOnBy, unitBy, unitOnBy}
+use Rattle.callers.specs.Parts.{arrivalIn, arrivalOnBy, unitIn, unitOnBy}
 use Rattle.callers.proofs.TestedLaws.{caller-4}
 use Rattle.callers.proofs.SameLaws.{arrival-same, passed-same}
 
 -- A time unit
 
 module _ (u : FunctionUnit) (b : Bank) (s : Shared) (n : ℕ) (full : n ≡ length (s .list)) (on : UnitOn)
-    (e : on ≡ unitOnBy u b (s .callers) (s .turn) (s .list) (s .counts .each) (unitBy u (s .callers) (s .turn) n (s .list) (s .counts .each))) where
-  found : on ≡ unitOnBy u b (s .callers) (s .turn) (s .list) (s .counts .each) (unitBy u (s .callers) (s .turn) (length (s .list)) (s .list) (s .counts .each))
-  found = e ∙ ap (λ (k : ℕ). unitOnBy u b (s .callers) (s .turn) (s .list) (s .counts .each) (unitBy u (s .callers) (s .turn) k (s .list) (s .counts .each))) full
+    (e : on ≡ unitOnBy u b (s .callers) (s .turn) (s .list) (s .counts .each) (unitIn u (s .callers) (s .turn) n (s .list) (s .counts .each))) where
+  found : on ≡ unitOnBy u b (s .callers) (s .turn) (s .list) (s .counts .each) (unitIn u (s .callers) (s .turn) (length (s .list)) (s .list) (s .counts .each))
+  found = e ∙ ap (λ (k : ℕ). unitOnBy u b (s .callers) (s .turn) (s .list) (s .counts .each) (unitIn u (s .callers) (s .turn) k (s .list) (s .counts .each))) full
 
   abbrev caller : ℕ
   caller = callerOf (s .callers) (s .turn) (s .counts .each)
@@ -60,7 +60,7 @@ module _ (u : FunctionUnit) (b : Bank) (s : Shared) (n : ℕ) (full : n ≡ leng
 -- An arrival: how many wait does not matter at what is no caller
 
 module _ (u : FunctionUnit) (s : Shared) (i : ℕ) (w : Waiting) (n count : ℕ) (full : n ≡ length (s .list)) (there : count ≡ cond (inside i 4) (countOf (s .counts .each) i) 0)
-    (on : ArrivalOn) (e : on ≡ arrivalOnBy i (s .list) count w (arrivalBy u (s .callers) i n (s .list) count (w .tag)))
+    (on : ArrivalOn) (e : on ≡ arrivalOnBy i (s .list) count w (arrivalIn u (s .callers) i n (s .list) count (w .tag)))
     (more : List ℕ) (m : more ≡ cond (inside i 4) (withCount (s .counts .each) i (on .arrival .count)) (s .counts .each)) where
   abbrev own : ℕ
   own = countOf (s .counts .each) i
@@ -74,7 +74,7 @@ module _ (u : FunctionUnit) (s : Shared) (i : ℕ) (w : Waiting) (n count : ℕ)
   found-at : on ≡ leaves count (answerAt count)
   found-at =
       e
-      ∙ ap (λ (k : ℕ). leaves count (arrivalBy u (s .callers) i k (s .list) count (w .tag))) full
+      ∙ ap (λ (k : ℕ). leaves count (arrivalIn u (s .callers) i k (s .list) count (w .tag))) full
       ∙ ap (leaves count) (arrival-same u (s .callers) i (s .list) (s .list) (λ o l. refl) count w)
 
   abbrev Calls : Type 0

@@ -31,12 +31,14 @@ use Rattle.callers.specs.Queues.{room, queueOf, withQueue, countOf, with
 abbrev pub oneOf : ℕ → ℕ → Bool
 oneOf C i = inside C 4 && inside i C
 
--- An arrival tests C, its own caller and its queue only: 1; 18 for C or the caller; then as in a single queue with room for 8
+-- what each call tries first: 1; 18 for C, or for a caller or a turn that is none of them
+abbrev pub callerFirst : FunctionUnit → ℕ → ℕ → Answer → Answer
+callerFirst u C i next = check (soundOf u) NotSound (check (oneOf C i) NoSuchCaller next)
+
+-- An arrival tests C, its own caller and its queue only: then as in a single queue with room for 8
 
 unfoldable pub arrivalAt : FunctionUnit → ℕ → ℕ → List Waiting → ℕ → Waiting → Answer
-arrivalAt u C i queue count offered =
-    check (soundOf u) NotSound
-    (check (oneOf C i) NoSuchCaller (arrivalAnswer room u queue count offered))
+arrivalAt u C i queue count offered = callerFirst u C i (arrivalAnswer room u queue count offered)
 
 -- an accepted arrival waits behind the caller's others; it does not move the turn
 unfoldable pub arrivalOf : FunctionUnit → ℕ → ℕ → List Waiting → ℕ → Waiting → Arrival
@@ -49,16 +51,18 @@ arrivalOf u C i list count offered = record {
 unfoldable pub arrivalList : FunctionUnit → ℕ → ℕ → List Waiting → ℕ → Waiting → List Waiting
 arrivalList u C i list count offered = withQueue list i (listThen (arrivalAt u C i (queueOf list i) count offered) (queueOf list i) count offered)
 
--- A time unit tests the turn and all C queues: 1; 18 for C or a turn that names none; 6 where a queue is not all in the list; 14 for a count above 8; 2 for
--- the tag of any waiting record
+-- A time unit tests the turn and all C queues: then 6 where a queue is not all in the list; 14 for a count above 8; 2 for the tag of any waiting record
+
+abbrev pub queueTests : Bool → Bool → Bool → Answer
+queueTests long few fit = check long ShortOutput (check few TooManyWait (check fit NoSuchTag Answer.Done))
 
 unfoldable pub unitAt : FunctionUnit → ℕ → ℕ → List Waiting → List ℕ → Answer
 unitAt u C turn list counts =
-    check (soundOf u) NotSound
-    (check (oneOf C turn) NoSuchCaller
-    (check (eachCaller C (λ i. leb room (length (queueOf list i)))) ShortOutput
-    (check (eachCaller C (λ i. leb (countOf counts i) room)) TooManyWait
-    (check (eachCaller C (λ i. tagsInside (u .functions) (waitingOf list counts i))) NoSuchTag Answer.Done))))
+    callerFirst u C turn
+    (queueTests
+    (eachCaller C (λ i. leb room (length (queueOf list i))))
+    (eachCaller C (λ i. leb (countOf counts i) room))
+    (eachCaller C (λ i. tagsInside (u .functions) (waitingOf list counts i))))
 
 -- whose turn it is in this unit
 abbrev pub callerOf : ℕ → ℕ → List ℕ → ℕ

@@ -17,7 +17,7 @@ use Rattle.callers.specs.Queues.{room, placeOf, queueOf, withQueue, coun
 use Rattle.callers.specs.Calls.{oneOf}
 
 -- 1 to 4 callers, and one of them
-pub record OneOf (callers caller : ℕ) : Type 0 where
+pub record Among (callers caller : ℕ) : Type 0 where
   pub few : callers ≤ 4
   pub least : 1 ≤ caller
   pub most : caller ≤ callers
@@ -53,7 +53,7 @@ pub record Servable (u : FunctionUnit) (C turn : ℕ) (list : List Waiting) (cou
 -- a caller whose oldest record may be started, if the bank grants it
 pub record Startable (u : FunctionUnit) (C i : ℕ) (list : List Waiting) (counts : List ℕ) : Type 0 where
   pub sound : soundOf u ≡ true
-  pub caller : OneOf C i
+  pub caller : Among C i
   pub some : 1 ≤ countOf counts i
   pub few : countOf counts i ≤ room
   pub fit : tagsInside (u .functions) (take (countOf counts i) (drop (placeOf i) list)) ≡ true

@@ -1,44 +1,35 @@
 -- The calls on records by value: those of the first queues of a list, of which only the length is known besides. The calls on a lent list and on a port as a
 -- value are made of these.
-use Prim.Native.Nat.{ℕ, _+_, _*_}
+use Prim.Native.Nat.{ℕ, _-_, _*_}
 use mathlib.Core.List.{List}
-use lib.Dec.{leb, ltb}
+use lib.Dec.{leb}
 use lib.ListN.{take, drop}
 use Rattle.unit.specs.declared.FunctionUnit.{FunctionUnit}
-use Rattle.unit.specs.declared.Refusal.the-variants.{NotSound, NoSuchTag, ShortOutput, TooManyWait, NoSuchCaller}
 use Rattle.unit.specs.declared.Answer.{Answer}
-use Rattle.unit.specs.declared.Answer.the-variants as Answer
-use Rattle.unit.specs.Unit.{inside, soundOf}
-use Rattle.unit.specs.Calls.{check}
 use Rattle.controller.specs.declared.Bank.{Bank}
 use Rattle.queue.specs.declared.Waiting.{Waiting}
 use Rattle.queue.specs.declared.Passed.{Passed}
 use Rattle.queue.specs.Line.{tagsInside}
-use Rattle.queue.specs.Calls.{countThen, listThen, oldest, passedThen}
+use Rattle.queue.specs.Calls.{arrivalBy, countThen, listThen, oldest, passedThen}
 use Rattle.callers.specs.declared.ArrivalOn.{ArrivalOn}
 use Rattle.callers.specs.declared.UnitOn.{UnitOn}
 use Rattle.callers.specs.Turn.{eachCaller}
 use Rattle.callers.specs.Queues.{room, placeOf, queueOf, withQueue, countOf, waitingOf}
-use Rattle.callers.specs.Calls.{oneOf, callerOf, turnedBy, listBy}
+use Rattle.callers.specs.Calls.{callerFirst, queueTests, callerOf, turnedBy, listBy}
 
--- The tests, in the calls' order
+-- The tests, by the length of the list and the records
 
-abbrev pub arrivalBy : FunctionUnit → ℕ → ℕ → ℕ → List Waiting → ℕ → ℕ → Answer
-arrivalBy u C i length list count tag =
-    check (soundOf u) NotSound
-    (check (oneOf C i) NoSuchCaller
-    (check (leb (placeOf i + room) length) ShortOutput
-    (check (inside tag (u .functions)) NoSuchTag
-    (check (ltb count room) TooManyWait
-    (check (tagsInside (u .functions) (take count (drop (placeOf i) list))) NoSuchTag Answer.Done)))))
+abbrev pub arrivalIn : FunctionUnit → ℕ → ℕ → ℕ → List Waiting → ℕ → ℕ → Answer
+arrivalIn u C i length list count tag =
+    callerFirst u C i (arrivalBy room u (length - placeOf i) count tag (tagsInside (u .functions) (take count (drop (placeOf i) list))))
 
-abbrev pub unitBy : FunctionUnit → ℕ → ℕ → ℕ → List Waiting → List ℕ → Answer
-unitBy u C turn length list counts =
-    check (soundOf u) NotSound
-    (check (oneOf C turn) NoSuchCaller
-    (check (leb (room * C) length) ShortOutput
-    (check (eachCaller C (λ i. leb (countOf counts i) room)) TooManyWait
-    (check (eachCaller C (λ i. tagsInside (u .functions) (take (countOf counts i) (drop (placeOf i) list)))) NoSuchTag Answer.Done))))
+abbrev pub unitIn : FunctionUnit → ℕ → ℕ → ℕ → List Waiting → List ℕ → Answer
+unitIn u C turn length list counts =
+    callerFirst u C turn
+    (queueTests
+    (leb (room * C) length)
+    (eachCaller C (λ i. leb (countOf counts i) room))
+    (eachCaller C (λ i. tagsInside (u .functions) (take (countOf counts i) (drop (placeOf i) list)))))
 
 -- What is done with the records
 

@@ -15,8 +15,8 @@ ghost use Rattle.queue.specs.Line.{noRecord, tagsInside, forward};
 ghost use Rattle.callers.specs.Turn.{eachCaller, round, nextTurn, turnNow};
 ghost use Rattle.callers.specs.Queues.{room, placeOf, countOf, withCount, waitingOf, hasWork};
 ghost use Rattle.callers.specs.Calls.{oneOf, emptyShared, callOf, takenOf};
-ghost use Rattle.callers.specs.Parts.{arrivalBy, arrivalOnBy, unitBy, onBy, unitOnBy};
-ghost use Rattle.callers.specs.Inner.{OneOf, askedOf, FewEach, startedBy, Servable, Startable};
+ghost use Rattle.callers.specs.Parts.{arrivalIn, arrivalOnBy, unitIn, onBy, unitOnBy};
+ghost use Rattle.callers.specs.Inner.{Among, askedOf, FewEach, startedBy, Servable, Startable};
 use controller::Bank;
 use controller::Event;
 use queue::Arrival;
@@ -88,7 +88,7 @@ pub struct UnitOn {
 
 // The caller after this one, going round.
 fn round_to(callers: u8, caller: u8) -> u8
-    requires { ⌜ OneOf callers caller ⌝ }
+    requires { ⌜ Among callers caller ⌝ }
     ensures { λ r. ⌜ r ≡ round callers caller ⌝ }
 {
     if caller == callers {
@@ -99,7 +99,7 @@ fn round_to(callers: u8, caller: u8) -> u8
 
 // Whether a record waits in the caller's queue.
 fn has_work(counts: [usize; 4], caller: u8) -> bool
-    requires { ⌜ OneOf 4 caller ⌝ }
+    requires { ⌜ Among 4 caller ⌝ }
     ensures { λ r. ⌜ r ≡ hasWork counts caller ⌝ }
 {
     let place = (caller - 1) as usize;
@@ -108,7 +108,7 @@ fn has_work(counts: [usize; 4], caller: u8) -> bool
 
 // The next caller with work, going round; where none has any, the turn stays.
 fn next_turn(callers: u8, counts: [usize; 4], from: u8) -> u8
-    requires { ⌜ OneOf callers from ⌝ }
+    requires { ⌜ Among callers from ⌝ }
     ensures { λ r. ⌜ r ≡ nextTurn callers (hasWork counts) from ⌝ }
 {
     let mut caller = from;
@@ -125,7 +125,7 @@ fn next_turn(callers: u8, counts: [usize; 4], from: u8) -> u8
 
 // Whose turn it is in a time unit.
 fn turn_now(callers: u8, counts: [usize; 4], turn: u8) -> u8
-    requires { ⌜ OneOf callers turn ⌝ }
+    requires { ⌜ Among callers turn ⌝ }
     ensures { λ r. ⌜ r ≡ turnNow callers (hasWork counts) turn ⌝ }
 {
     if has_work(counts, turn) {
@@ -222,7 +222,7 @@ fn check_unit(
     list: [Waiting; 32],
     counts: [usize; 4],
 ) -> Answer
-    ensures { λ r. ⌜ r ≡ unitBy u callers turn length list counts ⌝ }
+    ensures { λ r. ⌜ r ≡ unitIn u callers turn length list counts ⌝ }
 {
     let sound = unit::sound(u);
     let known = named(callers, turn);
@@ -268,7 +268,7 @@ fn check_arrival(
     count: usize,
     tag: u8,
 ) -> Answer
-    ensures { λ r. ⌜ r ≡ arrivalBy u callers caller length list count tag ⌝ }
+    ensures { λ r. ⌜ r ≡ arrivalIn u callers caller length list count tag ⌝ }
 {
     let sound = unit::sound(u);
     let known = named(callers, caller);
@@ -306,7 +306,7 @@ pub fn arrival_on(
     count: usize,
     offered: Waiting,
 ) -> ArrivalOn
-    ensures { λ r. ⌜ r ≡ arrivalOnBy caller (records .list) count offered (arrivalBy u callers caller length (records .list) count (offered .tag)) ⌝ }
+    ensures { λ r. ⌜ r ≡ arrivalOnBy caller (records .list) count offered (arrivalIn u callers caller length (records .list) count (offered .tag)) ⌝ }
 {
     let list = records.list;
     let answer = check_arrival(u, callers, caller, length, list, count, offered.tag);
@@ -334,7 +334,7 @@ pub fn arrival_on(
 
 // A time unit in which the turn is this caller's and nothing is started.
 fn idled(u: FunctionUnit, bank: Bank, caller: u8, records: Records, counts: Counts) -> UnitOn
-    requires { ⌜ OneOf 4 caller ⌝ }
+    requires { ⌜ Among 4 caller ⌝ }
     ensures { λ r. ⌜ r ≡ onBy u bank 0 0 (records .list) (counts .each) caller Idle ⌝ }
 {
     let after = controller::step(u, bank, Event::Tick);
@@ -373,7 +373,7 @@ fn started(
     records: Records,
     counts: Counts,
 ) -> UnitOn
-    requires { ⌜ (OneOf callers caller) × (1 ≤ countOf (counts .each) caller) × (countOf (counts .each) caller ≤ 8) ⌝ }
+    requires { ⌜ (Among callers caller) × (1 ≤ countOf (counts .each) caller) × (countOf (counts .each) caller ≤ 8) ⌝ }
     ensures { λ r. ⌜ r ≡ startedBy callers caller first bank (records .list) (counts .each) ⌝ }
 {
     let list = records.list;
@@ -397,7 +397,7 @@ fn started(
 
 // The first record of a queue.
 fn first_of(list: [Waiting; 32], caller: u8) -> Waiting
-    requires { ⌜ OneOf 4 caller ⌝ }
+    requires { ⌜ Among 4 caller ⌝ }
     ensures { λ r. ⌜ (r ≡ getD list (placeOf caller) noRecord) × (length list ≡ 32) ⌝ }
 {
     let place = (caller - 1) as usize;
@@ -459,7 +459,7 @@ pub fn unit_on(
     records: Records,
     counts: Counts,
 ) -> UnitOn
-    ensures { λ r. ⌜ r ≡ unitOnBy u bank callers turn (records .list) (counts .each) (unitBy u callers turn length (records .list) (counts .each)) ⌝ }
+    ensures { λ r. ⌜ r ≡ unitOnBy u bank callers turn (records .list) (counts .each) (unitIn u callers turn length (records .list) (counts .each)) ⌝ }
 {
     let list = records.list;
     let each = counts.each;

@@ -24,7 +24,7 @@ use Rattle.callers.specs.declared.ArrivalOn.{ArrivalOn}
 use Rattle.callers.specs.declared.UnitOn.{UnitOn}
 use Rattle.callers.specs.Queues.{room, placeOf, queueOf, withQueue, countOf, waitingOf}
 use Rattle.callers.specs.Calls.{oneOf, arrivalAt, arrivalOf, arrivalList, callerOf, passedAt, turnedBy, unitOf, listBy, unitList}
-use Rattle.callers.specs.Parts.{arrivalBy, arrivalOnBy, unitBy, unitOnBy}
+use Rattle.callers.specs.Parts.{arrivalIn, arrivalOnBy, unitIn, unitOnBy}
 use Rattle.port.specs.Inner.{reachOf, loadedOf, storedOf}
 use Rattle.callers.proofs.PartLaws.{drop-take, parts, queue-length}
 use Rattle.callers.proofs.TestedLaws.{one-of, arrival-accepted}
@@ -98,10 +98,10 @@ module _ (u : FunctionUnit) (C i : ℕ) (ys : List Waiting) (count : ℕ) (w : W
       let e = reach-all i (length ys) (omega (arith, c .few, c .most)) (omega (arith, c .least)) in
       loaded-queue ys own (reach-there i (length ys)) i (omega (arith, e, c .least))
 
-  found : arrivalBy u C i (length ys) held count (w .tag) ≡ arrivalAt u C i (queueOf ys i) count w
+  found : arrivalIn u C i (length ys) held count (w .tag) ≡ arrivalAt u C i (queueOf ys i) count w
   found = arrival-same u C i held ys same count w
 
-  stored : (a : Answer) → arrivalBy u C i (length ys) held count (w .tag) ≡ a
+  stored : (a : Answer) → arrivalIn u C i (length ys) held count (w .tag) ≡ a
       → storedOf ys (withQueue held i (listThen a (queueOf held i) count w)) own ≡ withQueue ys i (listThen a (queueOf ys i) count w)
   stored (Refused why) e = ap (λ (l : List Waiting). storedOf ys l own) (parts held i) ∙ stored-own ys own (reach-there i (length ys)) ∙ sym (parts ys i)
   stored Done e =
@@ -113,13 +113,13 @@ module _ (u : FunctionUnit) (C i : ℕ) (ys : List Waiting) (count : ℕ) (w : W
       ∙ stored-with ys own (reach-there i (length ys)) i (set (queueOf ys i) count w) (omega (arith, n, c .least))
       (length-set (queueOf ys i) count w ∙ queue-length ys i (a .long))
 
-  pub arrival-lent : (on : ArrivalOn) → on ≡ arrivalOnBy i held count w (arrivalBy u C i (length ys) held count (w .tag))
+  pub arrival-lent : (on : ArrivalOn) → on ≡ arrivalOnBy i held count w (arrivalIn u C i (length ys) held count (w .tag))
       → (on .arrival ≡ arrivalOf u C i ys count w) × (storedOf ys (on .records .list) own ≡ arrivalList u C i ys count w)
   unfolding arrivalOf arrivalList
   arrival-lent on e = (
     ap (λ (x : ArrivalOn). x .arrival) e ∙ ap (λ (a : Answer). record { answer = a; count = countThen a count }) found,
     ap (λ (x : ArrivalOn). storedOf ys (x .records .list) own) e
-        ∙ stored (arrivalBy u C i (length ys) held count (w .tag)) refl
+        ∙ stored (arrivalIn u C i (length ys) held count (w .tag)) refl
         ∙ ap (λ (a : Answer). withQueue ys i (listThen a (queueOf ys i) count w)) found,
   )
 
@@ -140,7 +140,7 @@ module _ (u : FunctionUnit) (b : Bank) (C turn : ℕ) (ys : List Waiting) (count
       let e = reach-all C (length ys) (within C 4 c .most) l in
       loaded-queue ys all (reach-there C (length ys)) i (omega (arith, e, within i C h .least, within i C h .most))
 
-  passes : passedThen (unitBy u C turn (length ys) whole counts) (oldest b (waitingOf whole counts caller)) ≡ passedAt u b C turn ys counts
+  passes : passedThen (unitIn u C turn (length ys) whole counts) (oldest b (waitingOf whole counts caller)) ≡ passedAt u b C turn ys counts
   passes = passed-same u C turn whole ys counts alike b
 
   left : (a : Passed) → passedAt u b C turn ys counts ≡ a → storedOf ys (listBy whole counts caller a) all ≡ listBy ys counts caller a
@@ -154,7 +154,7 @@ module _ (u : FunctionUnit) (b : Bank) (C turn : ℕ) (ys : List Waiting) (count
       ∙ stored-with ys all (reach-there C (length ys)) caller (forward (queueOf ys caller) (countOf counts caller)) (omega (arith, n, d .caller .least, d .caller .most))
       (forward-length (queueOf ys caller) (countOf counts caller) (omega (arith, d .few, d .full)) (d .some) ∙ d .full)
 
-  pub unit-lent : (on : UnitOn) → on ≡ unitOnBy u b C turn whole counts (unitBy u C turn (length ys) whole counts)
+  pub unit-lent : (on : UnitOn) → on ≡ unitOnBy u b C turn whole counts (unitIn u C turn (length ys) whole counts)
       → (on .turned ≡ unitOf u b C turn ys counts) × (storedOf ys (on .records .list) all ≡ unitList u b C turn ys counts)
   unfolding unitOf unitList
   unit-lent on e = (

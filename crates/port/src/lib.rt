@@ -5,7 +5,7 @@ ghost use Prim.Native.Nat.{_≤_, _<_};
 ghost use lib.ListN.{length, getD, set, replicate};
 ghost use Rattle.queue.specs.Line.{noRecord};
 ghost use Rattle.callers.specs.Calls.{arrivalOf, arrivalList, unitOf, unitList};
-ghost use Rattle.callers.specs.Parts.{arrivalBy, arrivalOnBy, unitBy, unitOnBy};
+ghost use Rattle.callers.specs.Parts.{arrivalIn, arrivalOnBy, unitIn, unitOnBy};
 ghost use Rattle.port.specs.Inner.{reachOf, loadedOf, storedOf};
 use callers::ArrivalOn;
 use callers::Counts;
@@ -96,7 +96,7 @@ fn arriving(
     count: usize,
     offered: Waiting,
 ) -> ArrivalOn
-    ensures { λ r. ⌜ r ≡ arrivalOnBy caller (records .list) count offered (arrivalBy u callers caller length (records .list) count (offered .tag)) ⌝ }
+    ensures { λ r. ⌜ r ≡ arrivalOnBy caller (records .list) count offered (arrivalIn u callers caller length (records .list) count (offered .tag)) ⌝ }
 {
     callers::arrival_on(u, callers, caller, length, records, count, offered)
 }
@@ -110,7 +110,7 @@ fn passing(
     records: Records,
     counts: Counts,
 ) -> UnitOn
-    ensures { λ r. ⌜ r ≡ unitOnBy u bank callers turn (records .list) (counts .each) (unitBy u callers turn length (records .list) (counts .each)) ⌝ }
+    ensures { λ r. ⌜ r ≡ unitOnBy u bank callers turn (records .list) (counts .each) (unitIn u callers turn length (records .list) (counts .each)) ⌝ }
 {
     callers::unit_on(u, bank, callers, turn, length, records, counts)
 }

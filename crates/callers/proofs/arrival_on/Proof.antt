@@ -7,7 +7,7 @@ use lib.ListN.{set}
 use Rattle.unit.specs.declared.FunctionUnit.{FunctionUnit}
 use Rattle.unit.specs.declared.Answer.the-variants.{Done, Refused}
 use Rattle.queue.specs.declared.Waiting.{Waiting}
-use Rattle.callers.specs.Parts.{arrivalBy, arrivalOnBy}
+use Rattle.callers.specs.Parts.{arrivalIn, arrivalOnBy}
 use Rattle.callers.proofs.PartLaws.{parts, set-part}
 use Rattle.callers.proofs.TestedLaws.{one-of, placed, placed-is, arrival-accepted}
 use borrow.Author.Needs.{needs}
@@ -15,7 +15,7 @@ use Rattle.callers.proofs.arrival_on.Statement.{statement}
 use Rattle.callers.proofs.arrival_on.Tie as tie
 
 -- the place that the record goes to
-place-fits : (u : FunctionUnit) (C i length : ℕ) (list : List Waiting) (count tag place : ℕ) → arrivalBy u C i length list count tag ≡ Done → place ≡ placed i
+place-fits : (u : FunctionUnit) (C i length : ℕ) (list : List Waiting) (count tag place : ℕ) → arrivalIn u C i length list count tag ≡ Done → place ≡ placed i
     → place + count < 32
 place-fits u C i length list count tag place e s =
     let a = arrival-accepted u C i length list count tag e in

@@ -1,6 +1,6 @@
 -- `callers::check_arrival` meets its contract: the tests are told one after the other. Assumes nothing.
-use Prim.Native.Nat.{ℕ, _+_, _≤_}
-use mathlib.Core.Path.{ap, ap₂, _∙_, sym, subst}
+use Prim.Native.Nat.{ℕ, _+_}
+use mathlib.Core.Path.{ap, ap₂, _∙_}
 use mathlib.Core.Bool.{Bool, true, cond}
 use native.Mathlib.Omega.{arith}
 use lib.Dec.{leb, ltb}

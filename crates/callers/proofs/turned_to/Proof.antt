@@ -8,17 +8,17 @@ use Rattle.callers.specs.Queues.{waitingOf}
 use mathlib.Core.List.{List}
 use Rattle.callers.specs.Calls.{oneOf, callerOf}
 use Rattle.callers.specs.Parts.{onBy}
-use Rattle.callers.specs.Inner.{OneOf}
+use Rattle.callers.specs.Inner.{Among}
 use Rattle.callers.proofs.TestedLaws.{one-of}
 use Rattle.callers.proofs.TryLaws.{caller-there, nothing-starts, may-start, any-turn}
 use Rattle.callers.proofs.turned_to.Statement.{statement}
 use Rattle.callers.proofs.turned_to.Tie as tie
 
-of-four : (C i : ℕ) → OneOf C i → OneOf 4 i
+of-four : (C i : ℕ) → Among C i → Among 4 i
 of-four C i o = record { few = omega arith; least = o .least; most = omega (arith, o .few, o .most) }
 
-there : (C turn : ℕ) (counts : List ℕ) → oneOf C turn ≡ true → {i : ℕ} → i ≡ callerOf C turn counts → OneOf C i
-there C turn counts e s = subst (OneOf C) (sym s) (caller-there C turn counts (one-of C turn e))
+there : (C turn : ℕ) (counts : List ℕ) → oneOf C turn ≡ true → {i : ℕ} → i ≡ callerOf C turn counts → Among C i
+there C turn counts e s = subst (Among C) (sym s) (caller-there C turn counts (one-of C turn e))
 
 turn-now-requires : tie.Need-turn-now-requires
 turn-now-requires c κs = one-of (c .before .args .callers) (c .before .args .turn) (c .before .pre .turn-there)

@@ -55,7 +55,7 @@ use Rattle.queue.proofs.Arrival.Laws as R′
 use Rattle.queue.proofs.Slot.{val}
 use Rattle.queue.proofs.Again.{LentAgain, lends-again, comes-back}
 use Rattle.callers.specs.Calls.{arrivalOf, arrivalList}
-use Rattle.callers.specs.Parts.{arrivalBy, arrivalOnBy}
+use Rattle.callers.specs.Parts.{arrivalIn, arrivalOnBy}
 use Rattle.port.specs.Inner.{reachOf, loadedOf, storedOf}
 use Rattle.callers.specs.declared.Records.{Records}
 use Rattle.callers.specs.declared.ArrivalOn.{ArrivalOn}
@@ -201,7 +201,7 @@ module _ {M : Type 1} (𝓤 : URA M) (H : Heap 𝓤) (A : Atoms 𝓤) (W : Given
       nothing ! $ join ! $ frame ! $ done !
 
   abbrev Worked : ArrivalOn → Type 0
-  Worked r = r ≡ arrivalOnBy i (loaded .list) count w (arrivalBy u C i (length ys) (loaded .list) count (w .tag))
+  Worked r = r ≡ arrivalOnBy i (loaded .list) count w (arrivalIn u C i (length ys) (loaded .list) count (w .tag))
 
   worked : (r : ArrivalOn) → ent 𝓤 (ensured 𝓤 H A working.ended (working.clauses 𝓤 H A at-mem run) tt (u, (C, (i, (length ys, (loaded, (count, (w, tt))))))) tt r) (fact 𝓤 (Worked r))
   worked r = exE 𝓤 _ (λ ws. snd∗ 𝓤 (sem 𝓤 H A (lasts working.ended tt (u, (C, (i, (length ys, (loaded, (count, (w, tt))))))) ws)) (fact 𝓤 (Worked r)))

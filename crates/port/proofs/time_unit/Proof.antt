@@ -53,7 +53,7 @@ use Rattle.queue.specs.declared.Waiting.{Waiting}
 use Rattle.queue.proofs.Waiting as T
 use Rattle.queue.proofs.Again.{LentAgain, lends-again, comes-back}
 use Rattle.callers.specs.Calls.{unitOf, unitList}
-use Rattle.callers.specs.Parts.{unitBy, unitOnBy}
+use Rattle.callers.specs.Parts.{unitIn, unitOnBy}
 use Rattle.port.specs.Inner.{reachOf, loadedOf, storedOf}
 use Rattle.callers.specs.declared.Counts.{Counts}
 use Rattle.callers.specs.declared.Records.{Records}
@@ -211,7 +211,7 @@ module _ {M : Type 1} (𝓤 : URA M) (H : Heap 𝓤) (A : Atoms 𝓤) (W : Given
       nothing ! $ join ! $ frame ! $ done !
 
   abbrev Worked : UnitOn → Type 0
-  Worked r = r ≡ unitOnBy u bank C turn (loaded .list) (counts .each) (unitBy u C turn (length ys) (loaded .list) (counts .each))
+  Worked r = r ≡ unitOnBy u bank C turn (loaded .list) (counts .each) (unitIn u C turn (length ys) (loaded .list) (counts .each))
 
   worked : (r : UnitOn) → ent 𝓤 (ensured 𝓤 H A working.ended (working.clauses 𝓤 H A at-mem run) tt (u, (bank, (C, (turn, (length ys, (loaded, (counts, tt))))))) tt r) (fact 𝓤 (Worked r))
   worked r = exE 𝓤 _ (λ ws. snd∗ 𝓤 (sem 𝓤 H A (lasts working.ended tt (u, (bank, (C, (turn, (length ys, (loaded, (counts, tt))))))) ws)) (fact 𝓤 (Worked r)))
