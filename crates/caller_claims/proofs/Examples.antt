@@ -191,16 +191,47 @@ pub not-sooner : getD (startsOf (eqb 2) (starts pair 2 loaded 0 (unit ∷ unit �
     ≤ 2 * (largestColumn (marked pair) + 1) → ⊥
 not-sooner l = omega (arith, tight)
 
+-- What the claim asks of turn and list is needed
+
+-- on a list that ends before caller 2's queue, and with a turn that names none, a task of caller 1 can wait, and every time unit is refused
+abbrev short : Port
+short = brought pair 2 1 (replicate 15 noRecord) (call (arrival 1 a) ∷ [])
+
+abbrev turnless : Port
+turnless = brought pair 2 3 lent (call (arrival 1 a) ∷ [])
+
+pub waits-on-short : lineOf short 1 ≡ a ∷ []
+unfolding pair noPlan soundOf marksInside marked someBelow tagsInside arrivalAnswer arrivalAt arrivalOf arrivalList after done doneAll
+waits-on-short = refl
+
+short-starts : startsOf (eqb 1) (starts pair 2 short 0 (unit ∷ unit ∷ unit ∷ unit ∷ [])) ≡ []
+unfolding pair noPlan soundOf marksInside marked someBelow rowFor rowWord wordBelow collides register eventAnswer moved stepOf tagsInside forward arrivalAnswer oldest eachCaller firstAfter arrivalAt arrivalOf arrivalList unitAt passedAt unitOf unitList after done doneAll starts startsOf
+short-starts = refl
+
+pub waits-turnless : lineOf turnless 1 ≡ a ∷ []
+unfolding pair noPlan soundOf marksInside marked someBelow tagsInside arrivalAnswer arrivalAt arrivalOf arrivalList after done doneAll
+waits-turnless = refl
+
+turnless-starts : startsOf (eqb 1) (starts pair 2 turnless 0 (unit ∷ unit ∷ unit ∷ unit ∷ [])) ≡ []
+unfolding pair noPlan soundOf marksInside marked someBelow rowFor rowWord wordBelow collides register eventAnswer moved stepOf tagsInside forward arrivalAnswer oldest eachCaller firstAfter arrivalAt arrivalOf arrivalList unitAt passedAt unitOf unitList after done doneAll starts startsOf
+turnless-starts = refl
+
+units-4 : unitsIn (unit ∷ unit ∷ unit ∷ unit ∷ []) ≡ 4
+unfolding unitsIn
+units-4 = refl
+
+pub not-on-short : StartsSoon pair 2 short 1 a (unit ∷ unit ∷ unit ∷ unit ∷ []) → ⊥
+not-on-short s = omega (arith, s .there (omega (arith, pair-last, units-4)), ap length short-starts)
+
+pub not-turnless : StartsSoon pair 2 turnless 1 a (unit ∷ unit ∷ unit ∷ unit ∷ []) → ⊥
+not-turnless s = omega (arith, s .there (omega (arith, pair-last, units-4)), ap length turnless-starts)
+
 -- Not brought from empty
 
 -- where 9 wait at caller 2, every time unit is refused, and caller 1 does not start either
 refused-starts : startsOf (eqb 1) (starts pair 2 (port 0 1 some none 1 9) 0 (unit ∷ unit ∷ unit ∷ unit ∷ [])) ≡ []
 unfolding pair noPlan soundOf marksInside marked someBelow rowFor rowWord wordBelow collides register eventAnswer moved stepOf tagsInside forward oldest eachCaller firstAfter unitAt passedAt unitOf unitList after starts startsOf
 refused-starts = refl
-
-units-4 : unitsIn (unit ∷ unit ∷ unit ∷ unit ∷ []) ≡ 4
-unfolding unitsIn
-units-4 = refl
 
 pub not-there : StartsSoon pair 2 (port 0 1 some none 1 9) 1 a (unit ∷ unit ∷ unit ∷ unit ∷ []) → ⊥
 not-there s = omega (arith, s .there (omega (arith, pair-last, units-4)), ap length refused-starts)
@@ -273,6 +304,19 @@ alone = refl
 pub not-by-turns : Alternate 1 2 (ofBoth (port 0 1 some none 2 0)) ⊎ Alternate 2 1 (ofBoth (port 0 1 some none 2 0)) → ⊥
 not-by-turns (inl t) = let z : _≡_ {A = ℕ} 1 2 = (rw alone at t) .1 .0 in omega arith
 not-by-turns (inr t) = let z : _≡_ {A = ℕ} 1 2 = (rw alone at t) .0 in omega arith
+
+-- what lies beyond C is no caller, though its count may not be 0: of one caller the starts are in a row
+pub beyond-waits : BothWait pair 1 (port 0 1 some others 2 2) 1 2 (unit ∷ unit ∷ unit ∷ [])
+unfolding pair noPlan soundOf marksInside marked someBelow rowFor rowWord wordBelow collides register eventAnswer moved stepOf tagsInside forward oldest eachCaller firstAfter unitAt passedAt unitOf unitList after BothWait
+beyond-waits = (refl, refl, (refl, refl, (refl, refl, tt)))
+
+of-one : startsOf (λ k. eqb 1 k || eqb 2 k) (starts pair 1 (port 0 1 some others 2 2) 0 (unit ∷ unit ∷ unit ∷ []))
+    ≡ record { caller = 1; task = a; unit = 1 } ∷ record { caller = 1; task = b; unit = 3 } ∷ []
+unfolding pair noPlan soundOf marksInside marked someBelow rowFor rowWord wordBelow collides register eventAnswer moved stepOf tagsInside forward oldest eachCaller firstAfter unitAt passedAt unitOf unitList after starts startsOf
+of-one = refl
+
+pub not-beyond : Alternate 1 2 (startsOf (λ k. eqb 1 k || eqb 2 k) (starts pair 1 (port 0 1 some others 2 2) 0 (unit ∷ unit ∷ unit ∷ []))) → ⊥
+not-beyond t = let z : _≡_ {A = ℕ} 1 2 = (rw of-one at t) .1 .0 in omega arith
 
 -- Nothing beyond C
 

@@ -3,7 +3,7 @@
 -- that has work, so this stays until the other starts. Assumes nothing.
 use Prim.Native.Nat.{ℕ, _+_, _<_}
 use mathlib.Core.Path.{_≡_, refl, ap, _∙_, sym, subst}
-use mathlib.Core.Bool.{Bool, true, false, cond, _||_}
+use mathlib.Core.Bool.{Bool, true, false, cond, _&&_, _||_}
 use mathlib.Core.Logic.{_⊎_, inl, inr}
 use mathlib.Core.List.{List, [], _∷_, _++_}
 use native.Mathlib.Omega.{arith}
@@ -12,20 +12,22 @@ use lib.Dec.{eqb}
 use borrow.Author.Tests.{eqb-true, eqb-false, eq-eqb, ne-eqb}
 use Rattle.words.proofs.Tests.{nowhere, by-test, or-true-left, or-true-right}
 use Rattle.unit.specs.declared.FunctionUnit.{FunctionUnit}
-use Rattle.unit.specs.Unit.{inside}
+use Rattle.unit.specs.declared.Refusal.{Refusal}
+use Rattle.unit.specs.declared.Refusal.the-variants.{NotSound, NoSuchCaller}
+use Rattle.unit.specs.Unit.{inside, soundOf}
 use Rattle.queue.specs.declared.Waiting.{Waiting}
 use Rattle.queue.specs.declared.Passed.{Passed}
 use Rattle.queue.specs.declared.Passed.the-variants as Passed
 use Rattle.callers.specs.Turn.{nextTurn, turnNow}
 use Rattle.callers.specs.Queues.{hasWork}
-use Rattle.callers.specs.Calls.{servedBy, countsThen, unitOf}
+use Rattle.callers.specs.Calls.{oneOf, unitAt, passedAt, servedBy, countsThen, unitOf}
 use Rattle.callers.proofs.RoundLaws.{turn-now}
 use Rattle.caller_claims.specs.Runs.{Port, Call, Start, after, startIn, starts, startsOf}
 use Rattle.caller_claims.specs.Runs.Call.{arrival, unit}
 use Rattle.caller_claims.specs.Claims.{BothWait, Alternate, TakeTurns}
 use Rattle.caller_claims.proofs.AheadLaws.{ahead, ahead-self, ahead-same, ahead-lt, ahead-step, ahead-around, goes-next}
 use Rattle.caller_claims.specs.Tasks.{callerIn, passedIn}
-use Rattle.caller_claims.proofs.PortLaws.{unit-port, work-other}
+use Rattle.caller_claims.proofs.PortLaws.{unit-port, unit-refused, work-other}
 
 -- t is a caller, and going round from it a comes before b
 record First (C t a b : ℕ) : Type 0 where
@@ -150,22 +152,59 @@ module _ (u : FunctionUnit) (C : ℕ) (f : ℕ → Bool) where
   next-all (arrival k x ∷ calls) = next-arrival k x calls (next-all calls)
   next-all (unit ∷ calls) = next-unit calls (next-all calls)
 
-pub take-turns : TakeTurns
-take-turns u C p i j ii ij n t calls w = go (decLt (ahead C (p .turn) i) (ahead C (p .turn) j))
-  where
-    only : Only (λ k. eqb i k || eqb j k) i j
-    only = record {
-      one = or-true-left (eqb i i) _ (eq-eqb i i refl);
-      two = or-true-right (eqb i j) _ (eq-eqb j j refl);
-      none = λ k x y. simp (ne-eqb i k (λ e. x (sym e)), ne-eqb j k (λ e. y (sym e)));
-    }
+-- From any port
 
-    go : Dec (ahead C (p .turn) i < ahead C (p .turn) j)
-        → Alternate i j (startsOf (λ k. eqb i k || eqb j k) (starts u C p 0 calls)) ⊎ Alternate j i (startsOf (λ k. eqb i k || eqb j k) (starts u C p 0 calls))
-    go (yes h) = inl (next-all u C (λ k. eqb i k || eqb j k) calls i j ii ij n only p 0 (record { there = t; before = h }) w)
-    go (no h) =
-        inr (next-all u C (λ k. eqb i k || eqb j k) calls j i ij ii (λ e. n (sym e)) (only-swap only) p 0
-        (record { there = t; before = strict h (λ e. n (ahead-same C (p .turn) i j t ii ij e)) }) (both-swap u C p i j calls w))
-      where
-        strict : {x y : ℕ} → (x < y → ⊥) → (x ≡ y → ⊥) → y < x
-        strict a b = omega arith
+-- a turn that names no caller: every time unit is refused, and nothing starts
+no-turn : (u : FunctionUnit) (C : ℕ) (p : Port) → inside (p .turn) C ≡ false → (why : Refusal) × (passedIn u C p ≡ Passed.Refused why)
+unfolding passedAt unitAt
+no-turn u C p f =
+    let o : oneOf C (p .turn) ≡ false = ap (λ t. inside C 4 && t) f ∙ none (inside C 4) in
+    by-test (soundOf u) (λ s. (NoSuchCaller, simp (s, o))) (λ s. (NotSound, simp s))
+  where
+    none : (b : Bool) → b && false ≡ false
+    none true = refl
+    none false = refl
+
+nothing-starts : (u : FunctionUnit) (C : ℕ) (calls : List Call) (p : Port) (m : ℕ) → inside (p .turn) C ≡ false → starts u C p m calls ≡ []
+unfolding starts after unitOf
+nothing-starts u C [] p m f = refl
+nothing-starts u C (arrival k x ∷ calls) p m f = nothing-starts u C calls (after u C p (arrival k x)) m f
+nothing-starts u C (unit ∷ calls) p m f =
+    let r = no-turn u C p f in
+    ap (λ (x : Passed). startIn (servedBy (callerIn C p) x) (m + 1) ++ starts u C (after u C p unit) (m + 1) calls) (r .1)
+    ∙ ap (λ (q : Port). starts u C q (m + 1) calls) (unit-refused u C p (r .0) (r .1))
+    ∙ nothing-starts u C calls p (m + 1) f
+
+module _ (u : FunctionUnit) (C : ℕ) (p : Port) (i j : ℕ) (ii : inside i C ≡ true) (ij : inside j C ≡ true) (n : i ≡ j → ⊥) (calls : List Call)
+    (w : BothWait u C p i j calls) where
+  abbrev both : ℕ → Bool
+  both k = eqb i k || eqb j k
+
+  abbrev ByTurns : Type 0
+  ByTurns = Alternate i j (startsOf both (starts u C p 0 calls)) ⊎ Alternate j i (startsOf both (starts u C p 0 calls))
+
+  only : Only both i j
+  only = record {
+    one = or-true-left (eqb i i) _ (eq-eqb i i refl);
+    two = or-true-right (eqb i j) _ (eq-eqb j j refl);
+    none = λ k x y. simp (ne-eqb i k (λ e. x (sym e)), ne-eqb j k (λ e. y (sym e)));
+  }
+
+  with-turn : inside (p .turn) C ≡ true → ByTurns
+  with-turn t = go (decLt (ahead C (p .turn) i) (ahead C (p .turn) j))
+    where
+      go : Dec (ahead C (p .turn) i < ahead C (p .turn) j) → ByTurns
+      go (yes h) = inl (next-all u C both calls i j ii ij n only p 0 (record { there = t; before = h }) w)
+      go (no h) =
+          inr (next-all u C both calls j i ij ii (λ e. n (sym e)) (only-swap only) p 0
+          (record { there = t; before = strict h (λ e. n (ahead-same C (p .turn) i j t ii ij e)) }) (both-swap u C p i j calls w))
+        where
+          strict : {x y : ℕ} → (x < y → ⊥) → (x ≡ y → ⊥) → y < x
+          strict a b = omega arith
+
+  without-turn : inside (p .turn) C ≡ false → ByTurns
+  unfolding startsOf
+  without-turn f = inl (subst (λ (l : List Start). Alternate i j (startsOf both l)) (sym (nothing-starts u C calls p 0 f)) tt)
+
+pub take-turns : TakeTurns
+take-turns u C p i j ii ij n calls w = by-test (inside (p .turn) C) (with-turn u C p i j ii ij n calls w) (without-turn u C p i j ii ij n calls w)

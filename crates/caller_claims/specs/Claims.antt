@@ -49,10 +49,10 @@ abbrev pub Alternate : ℕ → ℕ → List Start → Type 0
 Alternate a b [] = Unit {0}
 Alternate a b (s ∷ l) = (s .caller ≡ a) × Alternate b a l
 
--- the starts of two callers, while both wait, are by turns; this holds from any port whose turn names a caller (`take-turns`, proofs/Turns.antt)
+-- the starts of two callers, while both wait, are by turns; this holds from any port (`take-turns`, proofs/Turns.antt)
 abbrev pub TakeTurns : Type 0
 TakeTurns =
-    (u : FunctionUnit) (C : ℕ) (p : Port) (i j : ℕ) → inside i C ≡ true → inside j C ≡ true → (i ≡ j → ⊥) → inside (p .turn) C ≡ true → (calls : List Call)
+    (u : FunctionUnit) (C : ℕ) (p : Port) (i j : ℕ) → inside i C ≡ true → inside j C ≡ true → (i ≡ j → ⊥) → (calls : List Call)
     → BothWait u C p i j calls
     → Alternate i j (startsOf (λ k. eqb i k || eqb j k) (starts u C p 0 calls)) ⊎ Alternate j i (startsOf (λ k. eqb i k || eqb j k) (starts u C p 0 calls))
 
