@@ -14,9 +14,10 @@ use Rattle.unit.specs.Unit.{marked, marksInside, soundOf}
 use Rattle.unit.specs.Calls.{noPlan}
 use Rattle.unit.proofs.Laws.{never-done}
 use Rattle.collision.specs.Vector.{collides, rowWord, largestColumn}
+use Rattle.controller.specs.declared.Bank.{Bank}
 use Rattle.controller.specs.declared.Event.the-variants.{Tick, Start}
 use Rattle.controller.specs.Bank.{register, rowFor, eventAnswer, moved, stepOf}
-use Rattle.controller.specs.History.{Free}
+use Rattle.controller.specs.History.{History, taskNow, played, bankAfter, historyAfter, Free}
 use Rattle.queue.specs.declared.Waiting.{Waiting}
 use Rattle.queue.specs.Line.{noRecord, tagsInside, forward}
 use Rattle.queue.specs.Calls.{arrivalAnswer, oldest}
@@ -28,8 +29,10 @@ use Rattle.caller_claims.specs.Runs.{Port, Call, Start as Begun, lineOf,
 use Rattle.caller_claims.specs.Runs.Call.{arrival, unit}
 use Rattle.caller_claims.specs.Runs.Action.{event, call}
 use Rattle.caller_claims.specs.Claims.{StartsSoon, BothWait, Alternate, within, withBeyond, Steady}
-use Rattle.caller_claims.specs.Tasks.{eventsFrom, eventsOf}
+use Rattle.caller_claims.specs.Tasks.{callerIn, historyNext, historyFrom, tasksAfter, eventsFrom, eventsOf}
 use Rattle.caller_claims.proofs.Soon.{starts-soon}
+use Rattle.caller_claims.proofs.Turns.{take-turns}
+use Rattle.caller_claims.proofs.Tasks.{callers-exactly}
 
 -- The unit `pair` has one function and one segment, with marks 1 2: a task may not follow another by one time unit, and n is 1. Two callers have 16 records
 
@@ -305,6 +308,10 @@ pub not-by-turns : Alternate 1 2 (ofBoth (port 0 1 some none 2 0)) ⊎ Alternate
 not-by-turns (inl t) = let z : _≡_ {A = ℕ} 1 2 = (rw alone at t) .1 .0 in omega arith
 not-by-turns (inr t) = let z : _≡_ {A = ℕ} 1 2 = (rw alone at t) .0 in omega arith
 
+-- the claim speaks of them
+pub claimed-turns : Alternate 1 2 (ofBoth (both 1)) ⊎ Alternate 2 1 (ofBoth (both 1))
+claimed-turns = take-turns pair 2 (both 1) 1 2 refl refl (λ e. omega arith) five both-wait
+
 -- what lies beyond C is no caller, though its count may not be 0: of one caller the starts are in a row
 pub beyond-waits : BothWait pair 1 (port 0 1 some others 2 2) 1 2 (unit ∷ unit ∷ unit ∷ [])
 unfolding pair noPlan soundOf marksInside marked someBelow rowFor rowWord wordBelow collides register eventAnswer moved stepOf tagsInside forward oldest eachCaller firstAfter unitAt passedAt unitOf unitList after BothWait
@@ -362,6 +369,28 @@ pub events-there : eventsOf pair 2 1 lent
     ≡ Start (record { 0 = 1 }) ∷ Tick ∷ Start (record { 0 = 1 }) ∷ Tick ∷ Start (record { 0 = 1 }) ∷ []
 unfolding pair noPlan soundOf marksInside marked someBelow rowFor rowWord wordBelow collides register eventAnswer moved stepOf tagsInside forward arrivalAnswer oldest eachCaller firstAfter arrivalAt arrivalOf arrivalList unitAt passedAt unitOf unitList after done eventsFrom
 events-there = refl
+
+-- a bank that was not brought from empty is not that of its events, of which an arrival is none
+pub not-played : after pair 2 (port 1 1 none none 0 0) (arrival 1 a) .bank ≡ bankAfter pair [] → ⊥
+unfolding after played
+not-played e = let z : _≡_ {A = ℕ} 1 0 = ap (λ (x : Bank). x .r1) e in omega arith
+
+-- a refused time unit is no tick: it takes no time
+pub not-in-time : tasksAfter pair 2 3 lent (call unit ∷ []) ≡ historyAfter pair (Tick ∷ []) → ⊥
+unfolding pair noPlan soundOf marksInside marked someBelow eventAnswer moved stepOf eachCaller firstAfter unitAt passedAt unitOf unitList after done historyNext historyFrom played
+not-in-time e = let z : _≡_ {A = ℕ} 0 1 = ap (λ (h : History). h .time) e in omega arith
+
+-- the oldest of the caller whose turn it is waits there, so that the claim speaks of it
+first-waits : lineOf loaded (callerIn 2 loaded) ≡ a ∷ []
+unfolding pair noPlan soundOf marksInside marked someBelow rowFor rowWord wordBelow collides register eventAnswer moved stepOf tagsInside forward arrivalAnswer oldest eachCaller firstAfter arrivalAt arrivalOf arrivalList unitAt passedAt unitOf unitList after done doneAll
+first-waits = refl
+
+abbrev tasks-loaded : History
+tasks-loaded = tasksAfter pair 2 1 lent (event (Start (record { 0 = 1 })) ∷ call (arrival 1 a) ∷ call (arrival 2 c) ∷ [])
+
+pub claimed-exactly : (servedAt pair 2 loaded ≡ Served.Started (callerIn 2 loaded) a) ↔ Free (marked pair) (taskNow tasks-loaded 1) (tasks-loaded .tasks)
+claimed-exactly =
+    callers-exactly pair 2 1 refl lent (omega arith) (event (Start (record { 0 = 1 })) ∷ call (arrival 1 a) ∷ call (arrival 2 c) ∷ []) a [] first-waits
 
 -- a bank that is not that of the tasks so far: the oldest is not started, though it would meet none
 pub not-exactly : ((servedAt pair 2 (port 1 1 some others 1 1) ≡ Served.Started 1 a) ↔ Free (marked pair) first []) → ⊥

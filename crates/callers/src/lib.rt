@@ -321,11 +321,12 @@ pub fn arrival_on(
         Answer::Done => {
             let from = place_of(caller);
             let joined = with_one(list, from + count, offered);
+            let arrival = Arrival {
+                answer: Answer::Done,
+                count: count + 1,
+            };
             ArrivalOn {
-                arrival: Arrival {
-                    answer: Answer::Done,
-                    count: count + 1,
-                },
+                arrival,
                 records: Records { list: joined },
             }
         }

@@ -47,8 +47,8 @@ with-one-requires c κs =
     place-fits (a .u) (a .callers) (a .caller) (a .length) (a .records .list) (a .count) (a .offered .tag) (c .place-of .result)
     (sym (c .before .before .before .check-arrival .ensures) ∙ c .before .enum-told .given .1) (c .place-of .ensures .0)
 
-add-t16 : tie.Need-add-t16
-add-t16 c =
+add-t17 : tie.Need-add-t17
+add-t17 c =
     let a = c .before .before .before .before .before .before .args in
     let o = arrival-accepted (a .u) (a .callers) (a .caller) (a .length) (a .records .list) (a .count) (a .offered .tag)
     (sym (c .before .before .before .before .check-arrival .ensures) ∙ c .before .before .enum-told .given .1) in
@@ -92,6 +92,6 @@ arrival-on-spec =
     place-of-requires
     add-with-one
     with-one-requires
-    add-t16
+    add-t17
     returns
     returns-2)
