@@ -1201,7 +1201,7 @@ impl Faulty {
     /// With room for 8 calls of each caller in all, which are counted anew where it is so of its queue.
     fn counting_calls(&mut self, line: &[u8], place: usize, is_set_back: impl Fn(&Queue) -> bool) -> Answer {
         let mut answer = self.answer(line, place);
-        let is_new = ["fresh", "load", "mark", "unmark", "callers"].iter().any(|name| is(&answer, name, "ok"));
+        let is_new = ["fresh", "load", "mark", "unmark", "small", "callers"].iter().any(|name| is(&answer, name, "ok"));
         for (count, queue) in self.counts.iter_mut().zip(&self.console.callers.queues) {
             if is_new || is_set_back(queue) {
                 *count = 0;
@@ -1318,6 +1318,9 @@ pub const UNTOUCHED_FAULTS: &[(&str, Fault)] = untouched![
     ("a refused call", refused, "call"),
     ("a call that is not as expected", expected, "call"),
     ("a turn that is not as expected", expected, "turn"),
+    ("totals", |told| told == "tables", "small"),
+    ("a refused small table", refused, "small"),
+    ("a small table that is not as expected", expected, "small"),
 ];
 
 pub const CALLER_FAULTS: &[(&str, Fault)] = &[
@@ -1326,6 +1329,7 @@ pub const CALLER_FAULTS: &[(&str, Fault)] = &[
     ("load keeps the callers' tasks", |it, line, place| it.keeping_calls(line, place, &["load"], |_, _, _| true)),
     ("mark keeps the callers' tasks", |it, line, place| it.keeping_calls(line, place, &["mark"], |_, _, _| true)),
     ("unmark keeps the callers' tasks", |it, line, place| it.keeping_calls(line, place, &["unmark"], |_, _, _| true)),
+    ("a small table keeps the callers' tasks", |it, line, place| it.keeping_calls(line, place, &["small"], |_, _, _| true)),
     ("a mark that stood keeps the callers' tasks", |it, line, place| it.keeping_calls_at(line, place, &["mark"], "a mark that stood")),
     ("an unmark of no mark keeps the callers' tasks", |it, line, place| {
         it.keeping_calls_at(line, place, &["unmark"], "an unmark of no mark")
@@ -1335,6 +1339,9 @@ pub const CALLER_FAULTS: &[(&str, Fault)] = &[
     }),
     ("a new unit beside an empty bank and queue keeps the callers' tasks", |it, line, place| {
         it.keeping_calls_at(line, place, &["fresh", "load"], "callers' tasks taken away by a new unit beside an empty bank and queue")
+    }),
+    ("a small table beside an empty bank and queue keeps the callers' tasks", |it, line, place| {
+        it.keeping_calls_at(line, place, &["small"], "callers' tasks taken away by a new unit beside an empty bank and queue")
     }),
     ("a new unit keeps the tasks whose function is there", |it, line, place| {
         it.keeping_calls(line, place, &["fresh", "load"], |console, _, task| {
@@ -1375,6 +1382,7 @@ pub const CALLER_FAULTS: &[(&str, Fault)] = &[
     ("load keeps the turn", |it, line, place| it.keeping_turn(line, place, &["load"], |_, _| true)),
     ("mark keeps the turn", |it, line, place| it.keeping_turn(line, place, &["mark"], |_, _| true)),
     ("unmark keeps the turn", |it, line, place| it.keeping_turn(line, place, &["unmark"], |_, _| true)),
+    ("a small table keeps the turn", |it, line, place| it.keeping_turn(line, place, &["small"], |_, _| true)),
     ("a mark that stood keeps the turn", |it, line, place| {
         it.keeping_turn(line, place, &["mark"], |_, answer| answer.met.contains(&"a mark that stood"))
     }),
@@ -1399,6 +1407,8 @@ pub const CALLER_FAULTS: &[(&str, Fault)] = &[
     ("load takes the callers away", |it, line, place| it.recounting(line, place, &["load"], 0)),
     ("mark takes the callers away", |it, line, place| it.recounting(line, place, &["mark"], 0)),
     ("unmark takes the callers away", |it, line, place| it.recounting(line, place, &["unmark"], 0)),
+    ("a small table takes the callers away", |it, line, place| it.recounting(line, place, &["small"], 0)),
+    ("a small table leaves one caller", |it, line, place| it.recounting(line, place, &["small"], 1)),
     ("an edit leaves one caller", |it, line, place| it.recounting(line, place, &["mark", "unmark"], 1)),
     ("an edit makes it four callers", |it, line, place| it.recounting(line, place, &["mark", "unmark"], 4)),
     ("a new unit leaves one caller", |it, line, place| it.recounting(line, place, &["fresh", "load"], 1)),
@@ -1519,7 +1529,7 @@ pub const CALLER_FAULTS: &[(&str, Fault)] = &[
         if is_unit {
             std::mem::swap(&mut it.console.bank, &mut it.other);
         }
-        if ["fresh", "load", "mark", "unmark"].iter().any(|name| is(&answer, name, "ok")) {
+        if ["fresh", "load", "mark", "unmark", "small"].iter().any(|name| is(&answer, name, "ok")) {
             it.other = it.console.bank.clone();
         }
         answer

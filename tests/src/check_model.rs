@@ -21,6 +21,8 @@ mod records;
 mod records_check;
 mod routes;
 mod sheet;
+mod small;
+mod small_check;
 mod tally;
 mod units;
 
@@ -30,6 +32,7 @@ fn main() {
     let checked = checked.and_then(|units| charts_check::run().map(|_| units));
     let checked = checked.and_then(|units| delays_check::run().map(|_| units));
     let checked = checked.and_then(|units| queue_check::run().map(|_| units));
+    let checked = checked.and_then(|units| small_check::run().map(|_| units));
     match checked.and_then(|units| callers_check::run().map(|_| units)) {
         Ok(units) => println!("model: agrees with the paper's tables and, on {units} random units, with itself"),
         Err(why) => {

@@ -1,7 +1,7 @@
 //! A test of the program `designer` from outside.
 //!
 //! Scripts of 100,000 lines and more, good lines and bad ones, are made from fixed seeds; each line's answer is worked out by the tests'
-//! own implementation of the paper (`model.rs`, `loops.rs`, `records.rs`, `charts.rs`, `delays.rs`, `queue.rs`, `callers.rs`,
+//! own implementation of the paper (`model.rs`, `loops.rs`, `records.rs`, `charts.rs`, `delays.rs`, `queue.rs`, `callers.rs`, `small.rs`,
 //! `console_model.rs`) before the program is run; then the program answers the scripts, and the first difference ends the run. Before them
 //! come runs of a few lines, each with special files or a special output (`console_outside.rs`).
 //!
@@ -41,6 +41,9 @@ mod records;
 mod records_check;
 mod routes;
 mod sheet;
+mod small;
+mod small_check;
+mod small_met;
 mod tally;
 mod units;
 

@@ -42,7 +42,7 @@ pub struct Counts {
 }
 
 /// The refusals and the words that each command can answer with. Besides, each can be told what was expected.
-const ANSWERS: [(&str, &[u32], &[&str]); 33] = [
+const ANSWERS: [(&str, &[u32], &[&str]); 34] = [
     ("fresh", &[1], &["ok"]),
     ("mark", &[2, 3, 4], &["ok", "no unit"]),
     ("unmark", &[2, 3, 4], &["ok", "no unit"]),
@@ -76,6 +76,7 @@ const ANSWERS: [(&str, &[u32], &[&str]); 33] = [
     ("callers", &[18], &["ok", "no unit"]),
     ("call", &[2, 14, 18], &["ok", "no unit"]),
     ("turn", &[18], &["started", "none", "no unit"]),
+    ("small", &[22], &["ok", "tables"]),
 ];
 
 const OTHERS: [(Sort, &str); 4] = [

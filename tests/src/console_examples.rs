@@ -6,7 +6,7 @@ use crate::console_model::Console;
 use crate::console_program::Ending;
 use crate::console_script::{Feed, Line, Script};
 use crate::console_watch::Watch;
-use crate::{callers_check, charts_check, delays_check, loops_check, model_check, queue_check, records_check};
+use crate::{callers_check, charts_check, delays_check, loops_check, model_check, queue_check, records_check, small_check};
 
 /// A session as it is to be seen: after `>` what is typed. The paper's Fig. 1 and Fig. 2, its tables "No marks" and "Marks 1 11", loops
 /// over them and over a table whose second function no loop names, and the lines of the console's description.
@@ -1664,6 +1664,186 @@ fn full_callers() -> String {
     seen + ">turn\nnone\n>bank\n0 0 0 0\n"
 }
 
+/// Small tables: before the first unit, forms and refusals; totals of every size; marks 1 3 6 as table 37 = 1 + 4 + 32; two segments, in
+/// which 89 = (1 + 8) + 16 × (1 + 4); what leaves plan, bank and queues as they are, and what empties them.
+const SMALL_TABLES: &str = "\
+>small 1 0
+refused 22
+>small 1 1 2
+refused 22
+>small
+line 3: expected small S C [NUMBER]
+>small 1
+line 4: expected small S C [NUMBER]
+>small 1 x
+line 5: expected small S C [NUMBER]
+>small x 1
+line 6: expected small S C [NUMBER]
+>small 1 1 x
+line 7: expected small S C [NUMBER]
+>small 1 1 -1
+line 8: expected small S C [NUMBER]
+>small 1 1 1 1
+line 9: expected small S C [NUMBER]
+>small 1 1 4294967296
+line 10: expected small S C [NUMBER]
+>small 4294967297 1
+line 11: expected small S C [NUMBER]
+>smalls 1 1
+line 12: expected a command
+>Small 1 1
+line 13: expected a command
+>small 1 1
+tables 2 at bound 2 largest 1/1 first 0
+>small 1 2
+tables 4 at bound 4 largest 2/1 first 3
+>small 1 3
+tables 8 at bound 8 largest 3/1 first 7
+>small 1 4
+tables 16 at bound 16 largest 4/1 first 11
+>small 1 5
+tables 32 at bound 30 largest 5/1 first 23
+>small 1 6
+tables 64 at bound 58 largest 6/1 first 39
+>small 2 1
+tables 4 at bound 4 largest 1/1 first 0
+>small 2 2
+tables 16 at bound 16 largest 2/1 first 3
+>small 2 3
+tables 64 at bound 64 largest 3/1 first 7
+>small 2 4
+tables 256 at bound 252 largest 4/1 first 11
+>small 2 5
+tables 1024 at bound 944 largest 5/1 first 23
+>\tsmall\t02  0006 \r
+tables 4096 at bound 3796 largest 6/1 first 39
+>read
+no unit
+>small 1 6 0037
+ok
+>table 1
+     1  2  3  4  5  6
+  1  x  .  x  .  .  x
+>table 2
+refused 2
+>read
+refused 8
+>vector 1
+vector 10110
+>bound 1
+bound 3
+>search 1
+ok
+>read
+plan 1 cycle 1 6 sum 7
+>small 0 1
+refused 22
+>small 3 1
+refused 22
+>small 1 7
+refused 22
+>small 6 2
+refused 22
+>small 257 1
+refused 22
+>small 1 258
+refused 22
+>small 4294967295 1 0
+refused 22
+>small 3 7 4096
+refused 22
+>small 1 6 64
+refused 22
+>small 1 6 293
+refused 22
+>small 1 6 65573
+refused 22
+>small 2 6 4096
+refused 22
+>small 1 1 4294967295
+refused 22
+>read
+plan 1 cycle 1 6 sum 7
+>small 1 6 37
+ok
+>read
+refused 8
+>small 2 4 89
+ok
+>table 1
+     1  2  3  4
+  1  x  .  .  x
+  2  x  .  x  .
+>vector 1
+vector 110
+>bound 1
+bound 2
+>search 1
+ok
+>read
+plan 1 cycle 1 4 sum 5
+>callers 3
+ok
+>start 1
+ok
+>arrive 1 7
+ok
+>call 2 1 8
+ok
+>small 2 4
+tables 256 at bound 252 largest 4/1 first 11
+>small 2 4 256
+refused 22
+>small 2 4 x
+line 63: expected small S C [NUMBER]
+>bank
+6 0 0 0
+>queue
+queue 1: 1 7
+>read
+plan 1 cycle 1 4 sum 5
+>turn
+started 2 1 8
+>call 2 1 8
+ok
+>small 2 2 6
+ok
+>table 1
+     1  2
+  1  .  x
+  2  x  .
+>bank
+0 0 0 0
+>queue
+queue 0:
+>turn
+none
+>call 3 1 9
+ok
+>call 4 1 9
+refused 18
+>turn
+started 3 1 9
+>read
+refused 8
+>small 2 6 4095
+ok
+>table 1
+     1  2  3  4  5  6
+  1  x  x  x  x  x  x
+  2  x  x  x  x  x  x
+>bound 1
+bound 6
+>small 2 1 0
+ok
+>table 1
+     1
+  1  .
+  2  .
+>bound 1
+bound 1
+";
+
 /// The files that the first lines write: Fig. 1's unit, whose table begins at byte 6 and has a word for each segment.
 const FOUND_FILES: [(&str, &[u8]); 2] = [("figure", FIGURE_1), ("a\rb", FIGURE_1)];
 const FIGURE_1: &[u8] = &[1, 5, 9, 0, 6, 0, 0x01, 0x01, 0, 0, 0x86, 0, 0, 0, 0x08, 0, 0, 0, 0x30, 0, 0, 0, 0xC0, 0, 0, 0];
@@ -1753,7 +1933,8 @@ pub fn examples() -> Result<(), String> {
     session("the examples of queues", QUEUES, before.clone(), &[])?;
     session("the example of a full queue", &full_queue(), Folder::default(), &[])?;
     session("the examples of callers", CALLERS, before, &[])?;
-    session("the example of callers with full queues", &full_callers(), Folder::default(), &[])
+    session("the example of callers with full queues", &full_callers(), Folder::default(), &[])?;
+    session("the examples of small tables", SMALL_TABLES, Folder::default(), &[])
 }
 
 /// The model against the paper's tables and its own definitions, and against the examples.
@@ -1765,5 +1946,6 @@ pub fn check_model() -> Result<(), String> {
     delays_check::run()?;
     queue_check::run()?;
     callers_check::run()?;
+    small_check::run()?;
     examples()
 }

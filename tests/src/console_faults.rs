@@ -445,7 +445,7 @@ pub fn drop_plan(console: &mut Console<Folder>) {
 }
 
 /// Changes the unit. A plan is kept where its function has the diagram that it had, so that the plan still runs along its arcs.
-fn change_unit(console: &mut Console<Folder>, change: impl FnOnce(&mut Unit)) {
+pub fn change_unit(console: &mut Console<Folder>, change: impl FnOnce(&mut Unit)) {
     let diagram = |console: &mut Console<Folder>| console.plan.and_then(|plan| console.drawn(plan.tag)).map(|drawn| drawn.graph);
     let before = diagram(console);
     if let Some(unit) = &mut console.unit {
@@ -631,7 +631,7 @@ pub const FAULTS: &[(&str, Fault)] = &[
     ("no unit comes before what was expected", |it, line, place| {
         let no_unit = it.console.unit.is_none();
         it.instead(line, place, |answer, _| match &answer.sort {
-            Sort::Of(name, told) if told == "expected" && no_unit && !["fresh", "load", "report", "ring"].contains(name) => {
+            Sort::Of(name, told) if told == "expected" && no_unit && !["fresh", "load", "report", "ring", "small"].contains(name) => {
                 Some("no unit\n".to_string())
             }
             _ => None,

@@ -10,7 +10,8 @@ use crate::loops::*;
 use crate::model::*;
 use crate::queue::{self, Port, Queue, Task};
 use crate::records::{self, Wrong, LONGEST_LATENCY, LONGEST_RECORD};
-use crate::{callers_met, delays, delays_met, queue_met};
+use crate::small::{self, Fact, Size, Small};
+use crate::{callers_met, delays, delays_met, queue_met, small_met};
 use std::cell::OnceCell;
 use std::collections::{HashMap, HashSet};
 use std::fmt;
@@ -19,9 +20,9 @@ use std::rc::Rc;
 /// "over 4,096 bytes: `line N: too long`"
 pub const LONGEST_LINE: usize = 4_096;
 
-/// Each command with what it wants after its name: `FILE` is a file's name, which may be any word, `[FILE]` is one or nothing, `L L ..` and
-/// `Q Q ..` are any number of numbers, none too, and all else is a number.
-pub const COMMANDS: [(&str, &str); 33] = [
+/// Each command with what it wants after its name: `FILE` is a file's name, which may be any word, `[FILE]` is one or nothing, `[NUMBER]` is
+/// a number or nothing, `L L ..` and `Q Q ..` are any number of numbers, none too, and all else is a number.
+pub const COMMANDS: [(&str, &str); 34] = [
     ("fresh", " P S C"),
     ("mark", " Q R C"),
     ("unmark", " Q R C"),
@@ -55,6 +56,7 @@ pub const COMMANDS: [(&str, &str); 33] = [
     ("callers", " C"),
     ("call", " I Q TICKET"),
     ("turn", ""),
+    ("small", " S C [NUMBER]"),
 ];
 
 /// What is as it was before some line: a plan, a bank that is not empty, tasks that wait, and callers' tasks that do.
@@ -332,11 +334,12 @@ struct List {
 }
 
 /// Functions that were met before: many tables have the same collision vector, and so the same diagram. And lists of tags, each with the
-/// marks of all functions.
+/// marks of all functions; and what is known of all tables of a small size.
 struct Book {
     functions: HashMap<Vec<Spot>, Rc<Function>>,
     graphs: HashMap<Vec<bool>, Option<Rc<Graph>>>,
     lists: HashMap<(Vec<Vec<Spot>>, Vec<u32>), Rc<List>>,
+    sizes: HashMap<Size, Rc<Vec<Fact>>>,
     yard: Yard,
 }
 
@@ -363,6 +366,11 @@ impl Book {
         let key = ((1..=unit.functions).map(|tag| unit.spots(tag)).collect(), tags.to_vec());
         let yard = &mut self.yard;
         self.lists.entry(key).or_insert_with(|| Rc::new(List::new(Kernel::new(unit, tags, yard)))).clone()
+    }
+
+    fn facts(&mut self, size: Size) -> Rc<Vec<Fact>> {
+        let yard = &mut self.yard;
+        self.sizes.entry(size).or_insert_with(|| Rc::new(small::facts(size, yard))).clone()
     }
 }
 
@@ -458,7 +466,7 @@ fn told_of(is_written: bool) -> Vec<Part> {
     said(if is_written { "ok" } else { "not written" }.to_string())
 }
 
-/// The sort of a command's answer: `refused N`, `yes`, `no`, `none`, `no unit`, `no file`, `not written`, `started`, and else `ok`.
+/// The sort of a command's answer: `refused N`, `yes`, `no`, `none`, `no unit`, `no file`, `not written`, `started`, `tables`, and else `ok`.
 fn sort_of(name: &'static str, parts: &[Part]) -> Sort {
     let text = match &parts[0] {
         Part::Text(text) => text.trim_end(),
@@ -468,6 +476,7 @@ fn sort_of(name: &'static str, parts: &[Part]) -> Sort {
         "yes" | "no" | "none" | "no unit" | "no file" | "not written" => text,
         _ if text.starts_with("refused ") => text,
         _ if text.starts_with("started ") => "started",
+        _ if text.starts_with("tables ") => "tables",
         _ => "ok",
     };
     Sort::Of(name, told.to_string())
@@ -516,6 +525,9 @@ fn arguments<'a>(wants: &str, words: &[&'a [u8]]) -> Option<Arguments<'a>> {
     if let Some(first) = wants.strip_suffix(" [FILE]") {
         return arguments(first, words).or_else(|| arguments(&format!("{first} FILE"), words));
     }
+    if let Some(first) = wants.strip_suffix(" [NUMBER]") {
+        return arguments(first, words).or_else(|| arguments(&format!("{first} NUMBER"), words));
+    }
     if let Some(first) = wants.strip_suffix(" FILE") {
         let (file, others) = words.split_last()?;
         return arguments(first, others).map(|arguments| Arguments { file, ..arguments });
@@ -552,6 +564,7 @@ pub struct Console<S: Shelf> {
     pub delay: Delay,
     pub port: Port,
     pub shared: Shared,
+    pub small: Small,
     met: Vec<&'static str>,
     /// What the line before did, for the special cases.
     before: Before,
@@ -616,6 +629,11 @@ enum Before {
     /// A time unit in which a caller's task was started, or none.
     Turned,
     RefusedTurn,
+    /// The totals of a size were told.
+    Totaled,
+    /// A small table was taken by its number.
+    Numbered,
+    RefusedSmall,
     Bad,
     Other,
 }
@@ -626,7 +644,8 @@ fn empty_bank() -> Bank {
 
 impl<S: Shelf> Console<S> {
     pub fn new(shelf: S) -> Console<S> {
-        let book = Book { functions: HashMap::new(), graphs: HashMap::new(), lists: HashMap::new(), yard: Yard::new() };
+        let book =
+            Book { functions: HashMap::new(), graphs: HashMap::new(), lists: HashMap::new(), sizes: HashMap::new(), yard: Yard::new() };
         Console {
             book,
             unit: None,
@@ -639,6 +658,7 @@ impl<S: Shelf> Console<S> {
             delay: delays::delayed,
             port: queue::PORT,
             shared: callers::SHARED,
+            small: small::SMALL,
             met: Vec::new(),
             before: Before::Other,
             found: empty_bank(),
@@ -652,7 +672,7 @@ impl<S: Shelf> Console<S> {
         }
     }
 
-    /// A console as a new process has it, which knows of the same functions and lists.
+    /// A console as a new process has it, which knows of the same functions, lists and sizes.
     pub fn again(self, shelf: S) -> Console<S> {
         Console { book: self.book, ..Console::new(shelf) }
     }
@@ -727,7 +747,8 @@ impl<S: Shelf> Console<S> {
                 }
                 Some(content) => self.view(name, content, self.shelf.length(file)),
             },
-            // "before the first fresh every call but `load` and `fresh` answers `no unit`": and but `report` and `ring`
+            "small" => self.small(numbers[0], numbers[1], numbers.get(2).copied()),
+            // "before the first fresh every call but `load` and `fresh` answers `no unit`": and but `report`, `ring` and `small`
             _ => match self.unit.take() {
                 None => {
                     self.met_if(name == "delays" && !file.is_empty(), "delays: no unit, with a file");
@@ -741,6 +762,20 @@ impl<S: Shelf> Console<S> {
             },
         };
         reply.unwrap_or_else(|number| said(format!("refused {number}")))
+    }
+
+    /// The totals of a size, which leave the session as it is; with a number its table, which becomes the unit as by `fresh`.
+    fn small(&mut self, segments: u32, columns: u32, number: Option<u32>) -> Reply<Vec<Part>> {
+        self.met.extend(small_met::special(segments, columns, number, self.unit.is_some()));
+        let size = (self.small.size)(segments, columns)?;
+        let Some(number) = number else {
+            let facts = self.book.facts(size);
+            return Ok(said((self.small.totals)(size, &facts).text()));
+        };
+        let unit = (self.small.table)(size, number)?;
+        self.met_if(self.unit.as_ref() == Some(&unit), "small: the table that is the unit");
+        self.met_if(self.plan.is_some(), "a plan dropped by a small table");
+        Ok(self.take_unit(unit))
     }
 
     /// "the bank is emptied by `fresh` and `load`", so are the queue and the callers' queues, and "there is no plan".
@@ -808,6 +843,7 @@ impl<S: Shelf> Console<S> {
                 self.met.extend(queue_met::pass(unit, &self.bank, &self.queue));
                 self.met_if(self.before == Before::Edited && self.took_tasks, "pass: none waits after an edit");
                 self.met_if(self.before == Before::Emptied && self.took_tasks, "pass: none waits after a new unit");
+                self.met_if(self.before == Before::Numbered && self.took_tasks, "pass: none waits after a small table");
                 let started = (self.port.pass)(unit, &mut self.bank, &mut self.queue);
                 Ok(said(started.map_or("none".to_string(), |Task { tag, ticket }| format!("started {tag} {ticket}"))))
             }
@@ -846,6 +882,7 @@ impl<S: Shelf> Console<S> {
 
     fn read(&mut self, unit: &Unit) -> Reply<Vec<Part>> {
         self.met_if(self.plan.is_none() && self.before == Before::Looped, "no plan after a loop");
+        self.met_if(self.plan.is_none() && self.before == Before::Numbered, "no plan after a small table");
         // "8 read without a plan"
         let Plan { tag, search } = self.plan.ok_or(8u32)?;
         let drawn = self.book.drawn(unit, tag).expect("a search that was accepted");
@@ -969,6 +1006,9 @@ impl<S: Shelf> Console<S> {
             "table" => {
                 self.met_if(unit.segments > 9 && unit.columns > 9, "a table of 10 or more rows and columns");
                 self.met_if(self.before == Before::Delayed, "a table kept by delays");
+                self.met_if(self.before == Before::Totaled, "a table kept by totals of a size");
+                self.met_if(self.before == Before::RefusedSmall, "a table kept by a refused small table");
+                self.met_if(self.before == Before::Numbered, "a table of a small table");
                 return Ok(vec![Part::Text(table(unit, tag))]);
             }
             _ => return self.ask_diagram(unit, tag, name),
@@ -1220,6 +1260,18 @@ impl<S: Shelf> Console<S> {
             }
             [b"call", _, _, _, _] => self.met_if(are_numbers, "call: a number too many"),
             [b"turn", _] => self.met_if(are_numbers, "turn: a number after it"),
+            [b"small"] => self.met.push("small: no number"),
+            [b"small", _] => self.met_if(are_numbers, "small: one number"),
+            [b"small", segments, columns, rest @ ..] => {
+                let [segments_are, columns_are] = [segments, columns].map(|word| number(word).is_some());
+                self.met_if(large(segments) && columns_are && rest.is_empty(), "small: segments above 4294967295");
+                self.met_if(segments_are && large(columns) && rest.is_empty(), "small: columns above 4294967295");
+                self.met_if(are_numbers && rest.len() > 1, "small: a number too many");
+                if let (true, [last]) = (segments_are && columns_are, rest) {
+                    self.met_if(large(last), "small: a number above 4294967295");
+                    self.met_if(number(last).is_none() && !large(last), "small: two numbers, and a word that is none");
+                }
+            }
             _ => {}
         }
         if let [b"delays", tag, latency, rest @ ..] = words {
@@ -1425,6 +1477,9 @@ impl<S: Shelf> Console<S> {
             ("call", "refused 2" | "refused 14" | "refused 18") => Before::RefusedCall,
             ("turn", "started" | "none") => Before::Turned,
             ("turn", "refused 18") => Before::RefusedTurn,
+            ("small", "tables") => Before::Totaled,
+            ("small", "ok") => Before::Numbered,
+            ("small", "refused 22") => Before::RefusedSmall,
             // what only looks leaves what was done before in place
             ("read" | "bank" | "queue" | "diagram" | "vector" | "bound" | "upper" | "constant" | "row" | "list" | "table", _) => before,
             (_, "expected") => Before::Bad,
@@ -1472,8 +1527,10 @@ impl<S: Shelf> Console<S> {
             Before::RefusedTurn => {
                 ["a plan kept by a refused turn", "a bank kept by a refused turn", "a queue kept by a refused turn", tasks]
             }
+            Before::Totaled => kept!("totals of a size"),
+            Before::RefusedSmall => kept!("a refused small table"),
             Before::Bad => kept!("a line that is no command"),
-            Before::Emptied | Before::Edited | Before::Other => ["a plan", in_use, queue, tasks],
+            Before::Emptied | Before::Edited | Before::Numbered | Before::Other => ["a plan", in_use, queue, tasks],
         }
     }
 
@@ -1489,6 +1546,7 @@ impl<S: Shelf> Console<S> {
         if self.bank == empty_bank() {
             self.met_if(self.before == Before::Emptied, "a bank emptied");
             self.met_if(self.before == Before::Edited && self.found != empty_bank(), "a bank emptied by an edit");
+            self.met_if(self.before == Before::Numbered && self.found != empty_bank(), "a bank emptied by a small table");
             return;
         }
         let [_, kept, ..] = self.kept();
@@ -1499,6 +1557,7 @@ impl<S: Shelf> Console<S> {
         self.met.extend(queue_met::list(&self.queue));
         if self.queue.is_empty() {
             self.met_if(self.before == Before::Emptied && self.took_tasks, "queue: none after a new unit");
+            self.met_if(self.before == Before::Numbered && self.took_tasks, "queue: none after a small table");
             self.met_if(self.before == Before::Edited && self.took_tasks, "queue: none after an edit");
             return;
         }
@@ -1513,6 +1572,7 @@ impl<S: Shelf> Console<S> {
             let took_tasks = self.found_callers.as_ref().is_some_and(|(found, _)| found.waiting() > 0);
             self.met_if(self.before == Before::Edited && took_tasks, "turn: nobody waits after an edit");
             self.met_if(self.before == Before::Emptied && took_tasks, "turn: nobody waits after a new unit");
+            self.met_if(self.before == Before::Numbered && took_tasks, "turn: nobody waits after a small table");
             self.met_if(self.before == Before::Counted && took_tasks, "turn: nobody waits after a number of callers");
             return;
         }
@@ -1600,6 +1660,8 @@ pub const WANTED: &[&str] = &[
     "a plan better than greedy",
     "a plan in place of another function's",
     "a plan dropped by a new unit",
+    "a plan dropped by a small table",
+    "no plan after a small table",
     "a plan kept by a refused fresh",
     "a plan kept by a refused load",
     "a plan kept by a load of no file",
@@ -1631,6 +1693,8 @@ pub const WANTED: &[&str] = &[
     "a plan kept by a refused call",
     "a plan kept by a turn",
     "a plan kept by a refused turn",
+    "a plan kept by totals of a size",
+    "a plan kept by a refused small table",
     "a plan kept by a line that is no command",
     "a plan with a sum above 255",
     "a plan of two or more latencies",
@@ -1875,6 +1939,9 @@ pub const WANTED: &[&str] = &[
     "delays: a column without a mark at the end",
     "a load of delays that were written",
     "a table kept by delays",
+    "a table kept by totals of a size",
+    "a table kept by a refused small table",
+    "a table of a small table",
     "delays over another file",
     "delays over a longer file",
     "delays to a link to a file",
@@ -1909,6 +1976,7 @@ pub const WANTED: &[&str] = &[
     "pass: none waits, and the bank is in use",
     "pass: none waits after an edit",
     "pass: none waits after a new unit",
+    "pass: none waits after a small table",
     "pass: none, though one behind the oldest would be granted",
     "pass: none of two or more would be granted",
     "pass: none of 32",
@@ -1941,6 +2009,7 @@ pub const WANTED: &[&str] = &[
     "queue: none",
     "queue: none after an edit",
     "queue: none after a new unit",
+    "queue: none after a small table",
     "queue: one",
     "queue: 10 or more",
     "queue: 32",
@@ -1992,7 +2061,94 @@ pub const WANTED: &[&str] = &[
     "a queue kept by a refused call",
     "a queue kept by a turn",
     "a queue kept by a refused turn",
+    "a queue kept by totals of a size",
+    "a queue kept by a refused small table",
     "a queue kept by a line that is no command",
+    "small: no number",
+    "small: one number",
+    "small: a number too many",
+    "small: segments above 4294967295",
+    "small: columns above 4294967295",
+    "small: a number above 4294967295",
+    "small: two numbers, and a word that is none",
+    "small: no segment",
+    "small: 3 segments",
+    "small: no column",
+    "small: 7 columns",
+    "small: a size of 4294967295",
+    "small: segments that would do without their higher bytes",
+    "small: columns that would do without their higher bytes",
+    "small: a size that would do with segments and columns exchanged",
+    "small: neither segments nor columns",
+    "small: a size outside before the first unit",
+    "small: a size outside, for totals",
+    "small: a size outside, though every size has the number",
+    "small: a size outside, and no size has the number",
+    "small: the number after the last one of 1 segment and 1 column",
+    "small: the number after the last one of 1 segment and 2 columns",
+    "small: the number after the last one of 1 segment and 3 columns",
+    "small: the number after the last one of 1 segment and 4 columns",
+    "small: the number after the last one of 1 segment and 5 columns",
+    "small: the number after the last one of 1 segment and 6 columns",
+    "small: the number after the last one of 2 segments and 1 column",
+    "small: the number after the last one of 2 segments and 2 columns",
+    "small: the number after the last one of 2 segments and 3 columns",
+    "small: the number after the last one of 2 segments and 4 columns",
+    "small: the number after the last one of 2 segments and 5 columns",
+    "small: the number after the last one of 2 segments and 6 columns",
+    "small: a number 4294967295",
+    "small: a number that would do as a byte",
+    "small: a number that would do in 16 bits",
+    "small: a number that a larger size has",
+    "small: a number that two segments have",
+    "small: a number outside before the first unit",
+    "small: totals before the first unit",
+    "small: totals of 1 segment and 1 column",
+    "small: totals of 1 segment and 2 columns",
+    "small: totals of 1 segment and 3 columns",
+    "small: totals of 1 segment and 4 columns",
+    "small: totals of 1 segment and 5 columns",
+    "small: totals of 1 segment and 6 columns",
+    "small: totals of 2 segments and 1 column",
+    "small: totals of 2 segments and 2 columns",
+    "small: totals of 2 segments and 3 columns",
+    "small: totals of 2 segments and 4 columns",
+    "small: totals of 2 segments and 5 columns",
+    "small: totals of 2 segments and 6 columns",
+    "small: a table before the first unit",
+    "small: table 0 of 1 segment and 1 column",
+    "small: table 0 of 1 segment and 2 columns",
+    "small: table 0 of 1 segment and 3 columns",
+    "small: table 0 of 1 segment and 4 columns",
+    "small: table 0 of 1 segment and 5 columns",
+    "small: table 0 of 1 segment and 6 columns",
+    "small: table 0 of 2 segments and 1 column",
+    "small: table 0 of 2 segments and 2 columns",
+    "small: table 0 of 2 segments and 3 columns",
+    "small: table 0 of 2 segments and 4 columns",
+    "small: table 0 of 2 segments and 5 columns",
+    "small: table 0 of 2 segments and 6 columns",
+    "small: the last table of 1 segment and 1 column",
+    "small: the last table of 1 segment and 2 columns",
+    "small: the last table of 1 segment and 3 columns",
+    "small: the last table of 1 segment and 4 columns",
+    "small: the last table of 1 segment and 5 columns",
+    "small: the last table of 1 segment and 6 columns",
+    "small: the last table of 2 segments and 1 column",
+    "small: the last table of 2 segments and 2 columns",
+    "small: the last table of 2 segments and 3 columns",
+    "small: the last table of 2 segments and 4 columns",
+    "small: the last table of 2 segments and 5 columns",
+    "small: the last table of 2 segments and 6 columns",
+    "small: a table with a number above 255",
+    "small: marks in the first of two segments alone",
+    "small: marks in the second segment alone",
+    "small: marks in both segments",
+    "small: a table that is another one from its other end",
+    "small: a table that is not at the bound",
+    "small: a table at a bound above 1",
+    "small: a table with a bound above the marks of a segment",
+    "small: the table that is the unit",
     "callers: no number",
     "callers: a number too many",
     "callers: a number above 4294967295",
@@ -2117,6 +2273,7 @@ pub const WANTED: &[&str] = &[
     "turn: a start of a ticket above 2147483647",
     "turn: nobody waits after an edit",
     "turn: nobody waits after a new unit",
+    "turn: nobody waits after a small table",
     "turn: nobody waits after a number of callers",
     "turn: caller 1's, where an edit set another's back",
     "turn: caller 1's, where a new unit set another's back",
@@ -2170,6 +2327,8 @@ pub const WANTED: &[&str] = &[
     "callers' tasks kept by a pass",
     "callers' tasks kept by a refused number of callers",
     "callers' tasks kept by a refused call",
+    "callers' tasks kept by totals of a size",
+    "callers' tasks kept by a refused small table",
     "callers' tasks kept by a line that is no command",
     "no plan after a loop",
     "a bank in use",
@@ -2183,6 +2342,7 @@ pub const WANTED: &[&str] = &[
     "a bank in use and a queue emptied by an edit while no caller waits",
     "a bank in use and a queue emptied by a new unit while no caller waits",
     "a bank emptied by an edit",
+    "a bank emptied by a small table",
     "a start granted that the bank before an edit held back",
     "a bank kept by a refused fresh",
     "a bank kept by a refused load",
@@ -2212,6 +2372,8 @@ pub const WANTED: &[&str] = &[
     "a bank kept by a call",
     "a bank kept by a refused call",
     "a bank kept by a refused turn",
+    "a bank kept by totals of a size",
+    "a bank kept by a refused small table",
     "a bank kept by a line that is no command",
     "an input of no bytes",
     "an input that comes byte by byte",

@@ -14,6 +14,7 @@ use crate::queue_check::TICKETS;
 use crate::random::{seed_of, Random};
 use crate::record_files::*;
 use crate::records::laid_out;
+use crate::small::{sizes, Size};
 use crate::{delays, loops_check, routes, units};
 
 pub struct Line {
@@ -415,7 +416,7 @@ const NO_NUMBERS: [&[u8]; 23] = [
     b"Q",
     b"1/1",
 ];
-const NO_COMMANDS: [&[u8]; 55] = [
+const NO_COMMANDS: [&[u8]; 58] = [
     b"help",
     b"quit",
     b"exit",
@@ -469,6 +470,9 @@ const NO_COMMANDS: [&[u8]; 55] = [
     b"turns",
     b"tur",
     b"turn1",
+    b"smalls 1 1",
+    b"smal 1 1",
+    b"small1 1",
     b"\xef\xbb\xbftick",
     b"line 1: expected a command",
 ];
@@ -503,7 +507,7 @@ const ODD_NAMES: [&[u8]; 25] = [
 ];
 /// Every sort of command, and lines that are none, for a unit of two functions, 3 segments and 5 columns with a plan for the first one and
 /// its record.
-const BETWEEN: [&str; 87] = [
+const BETWEEN: [&str; 94] = [
     "fresh 1 1 1",
     "fresh 2 3 5",
     "fresh 0 3 5",
@@ -587,6 +591,13 @@ const BETWEEN: [&str; 87] = [
     "call 1 1",
     "turn",
     "turn 1",
+    "small 1 3",
+    "small 2 2 6",
+    "small 1 1 0",
+    "small 3 1",
+    "small 7 1 0",
+    "small 1 2 4",
+    "small 1",
     "turns",
     "tack",
     "# a comment",
@@ -618,7 +629,7 @@ const BARE_LINES: [&[u8]; 22] = [
     b"\0",
 ];
 /// In how many forms long lines come.
-const LONG_FORMS: u64 = 52;
+const LONG_FORMS: u64 = 55;
 /// Lengths of lines: around the limit, around multiples of it, and far above it.
 const LENGTHS: [usize; 21] = [
     4_095, 4_095, 4_096, 4_096, 4_096, 4_097, 4_097, 4_098, 5_000, 8_190, 8_191, 8_192, 8_193, 8_194, 12_288, 12_289, 16_384, 65_535,
@@ -627,7 +638,8 @@ const LENGTHS: [usize; 21] = [
 
 /// What a command wants: a file that is not there, two numbers for any number of them, and this number for each other.
 fn words_for(wants: &str, number: &str) -> String {
-    let words = wants.replace("[FILE]", "missing").replace("FILE", "missing").replace("UNITS", "9").replace("TICKET", "9");
+    let words = wants.replace("[FILE]", "missing").replace("FILE", "missing").replace("[NUMBER]", "9");
+    let words = words.replace("UNITS", "9").replace("TICKET", "9");
     words.replace(" L L ..", " 1 1").replace(" Q Q ..", " 1 1").replace(['P', 'S', 'Q', 'R', 'C', 'M', 'I'], number)
 }
 
@@ -1265,6 +1277,92 @@ impl Writer {
         .into_bytes()
     }
 
+    /// A size of at most so many tables.
+    fn good_size(&mut self, most: u32) -> Size {
+        let sizes: Vec<Size> = sizes().filter(|size| size.tables() <= most).collect();
+        self.random.pick(&sizes)
+    }
+
+    /// Segments and columns as they are written, mostly of this size.
+    fn size(&mut self, size: Size) -> String {
+        let Size { segments, columns } = size;
+        let wide = self.random.pick(&[256, 65_536, 1 << 24, u32::MAX - 255]);
+        match self.random.below(36) {
+            0 => format!("0 {columns}"),
+            1 => format!("3 {columns}"),
+            2 => format!("{segments} 0"),
+            3 => format!("{segments} 7"),
+            4 => format!("{} {columns}", wide + segments),
+            5 => format!("{segments} {}", wide + columns),
+            6 => format!("{columns} {segments}"),
+            7 => format!("{} {}", self.random.between(0, 9), self.random.between(0, 9)),
+            8 => format!("{} {columns}", self.random.pick(&MANY)),
+            9 => format!("{segments} {}", self.random.pick(&MANY)),
+            10 => format!("{} {columns}", self.random.pick(&TOO_MANY)),
+            11 => format!("{segments} {}", self.random.pick(&TOO_MANY)),
+            12 => format!("{} {columns}", (1u64 << 32) + segments as u64),
+            _ => format!("{} {}", self.digits(segments), self.digits(columns)),
+        }
+    }
+
+    /// The number of a table of this size, mostly: also the last one, the one after it, and numbers that would do without their higher
+    /// bytes.
+    fn table_number(&mut self, size: Size) -> String {
+        let tables = size.tables();
+        let good = self.random.between(0, tables - 1);
+        let number = match self.random.below(24) {
+            0 => 0,
+            1 | 2 => tables - 1,
+            3 | 4 => tables,
+            5 => tables + good,
+            6 | 7 => self.random.pick(&[256, 65_536, 1 << 24, 1 << 31, u32::MAX - 4_095]) + good,
+            8 => self.random.word(),
+            9 => return self.random.pick(&MANY).to_string(),
+            10 => return self.random.pick(&TOO_MANY).to_string(),
+            11 => return ((1u64 << 32) + good as u64).to_string(),
+            _ => good,
+        };
+        self.digits(number)
+    }
+
+    /// The totals of a size: of few tables, because the program works them out each time.
+    fn small_totals(&mut self) -> Vec<u8> {
+        let size = self.good_size(256);
+        format!("small {}", self.size(size)).into_bytes()
+    }
+
+    /// A small table that is taken.
+    fn good_small(&mut self) -> Vec<u8> {
+        let size @ Size { segments, columns } = self.good_size(4_096);
+        let number = self.random.between(0, size.tables() - 1);
+        format!("small {segments} {columns} {}", self.digits(number)).into_bytes()
+    }
+
+    /// A small table by its number, or totals, good or bad.
+    fn small(&mut self) -> Vec<u8> {
+        let size = self.good_size(4_096);
+        let (words, number) = (self.size(size), self.table_number(size));
+        match self.random.below(48) {
+            // too few words, too many, and one that is no number
+            0 => b"small".to_vec(),
+            1 => format!("small {}", self.random.between(0, 3)).into_bytes(),
+            2 => format!("small {words} {number} {}", self.random.between(0, 9)).into_bytes(),
+            3 | 4 => [format!("small {words} ").as_bytes(), self.random.pick(&NO_NUMBERS)].concat(),
+            5..=24 => self.small_totals(),
+            _ => format!("small {words} {number}").into_bytes(),
+        }
+    }
+
+    /// Totals, or a table that is refused: nothing that makes a unit.
+    fn no_small_unit(&mut self) -> Vec<u8> {
+        let size @ Size { segments, columns } = self.good_size(256);
+        match self.random.below(4) {
+            0 | 1 => self.small_totals(),
+            2 => format!("small {segments} {columns} {}", size.tables() + self.random.between(0, 1)).into_bytes(),
+            _ => format!("small {} {columns} 1", self.random.pick(&[0, 3, 256 + segments])).into_bytes(),
+        }
+    }
+
     fn view(&mut self) -> Vec<u8> {
         let reader: &[u8] = self.random.pick(&[b"report ", b"ring "]);
         [reader, &self.view_name()].concat()
@@ -1299,7 +1397,7 @@ impl Writer {
     }
 
     fn command(&mut self) -> Vec<u8> {
-        match self.random.below(157) {
+        match self.random.below(160) {
             0..=22 => self.mark(),
             23..=29 => self.unmark(),
             30..=38 => self.about("search"),
@@ -1337,6 +1435,7 @@ impl Writer {
             145..=148 => self.call(),
             149..=153 => b"turn".to_vec(),
             154 => self.count(),
+            155..=157 => self.small(),
             _ => format!("{} {}", self.random.pick(&["pass", "queue", "turn"]), self.random.between(0, 9)).into_bytes(),
         }
     }
@@ -1518,6 +1617,8 @@ impl Writer {
             47 => filled("callers ".to_string(), "2".to_string()),
             48 => filled("call ".to_string(), format!("2 {tag} 7")),
             49 => filled(format!("call 1 {tag} "), "4294967295".to_string()),
+            52 => filled("small 1 3 ".to_string(), "5".to_string()),
+            53 => filled("small ".to_string(), "1 3".to_string()),
             // blanks in place of what is missing: in front, between, at the end
             _ => {
                 let mut blank = || self.random.pick(&[b' ', b' ', b'\t']);
@@ -1541,6 +1642,7 @@ impl Writer {
                     46 => long(String::new(), "queue\r".to_string()),
                     50 => long(format!("call 1 {tag}"), "7".to_string()),
                     51 => long("turn".to_string(), String::new()),
+                    54 => long("small 2 2".to_string(), "6".to_string()),
                     _ => long(format!("\tvector {tag}"), "x".to_string()),
                 }
             }
@@ -1670,6 +1772,10 @@ impl Writer {
             32 => self.put("turn"),
             33 => {
                 let line = self.count();
+                self.put(line);
+            }
+            34 | 35 => {
+                let line = if self.random.chance(3, 4) { self.no_small_unit() } else { self.small() };
                 self.put(line);
             }
             _ => {}
@@ -1910,6 +2016,92 @@ impl Writer {
         }
     }
 
+    /// Small tables, with what is seen of them and what comes between.
+    fn some_small(&mut self) {
+        for _ in 0..self.random.between(1, 3) {
+            let line = self.good_small();
+            self.put(line);
+            for _ in 0..self.random.between(1, 5) {
+                let line = match self.random.below(20) {
+                    0..=3 => b"table 1".to_vec(),
+                    4 | 5 => self.random.pick(&["vector 1", "constant 1", "upper 1", "greedy 1"]).as_bytes().to_vec(),
+                    6 => self.random.pick(&["list", "diagram 1", "states 1", "table 2"]).as_bytes().to_vec(),
+                    7 | 8 => b"bound 1".to_vec(),
+                    9 => b"search 1".to_vec(),
+                    10 | 11 => b"read".to_vec(),
+                    12 => self.random.pick(&["bank", "queue", "turn", "pass"]).as_bytes().to_vec(),
+                    13 => self.random.pick(&["start 1", "arrive 1 7", "call 1 1 7", "callers 2"]).as_bytes().to_vec(),
+                    14 => self.mark(),
+                    15 | 16 => self.no_small_unit(),
+                    17 => self.good_small(),
+                    _ => self.small(),
+                };
+                self.put(line);
+            }
+        }
+    }
+
+    /// A small table, and what is seen of it.
+    fn small_table(&mut self, size: Size, number: u32) {
+        self.put(format!("small {} {} {number}", size.segments, size.columns));
+        self.put("table 1");
+        match self.random.below(6) {
+            0 => self.put("vector 1"),
+            1 | 2 => self.put("bound 1"),
+            3 => self.put_all(&["search 1", "read"]),
+            _ => {}
+        }
+    }
+
+    /// The totals of each size; of each the first table, the last one, the number after it, and the tables of one mark; sizes outside; and
+    /// numbers that would do without their higher bytes.
+    fn hard_small(&mut self) {
+        for size @ Size { segments, columns } in sizes() {
+            self.put(format!("small {segments} {columns}"));
+            for number in [0, size.tables() - 1] {
+                self.put_all(&["search 1", "start 1", "arrive 1 7"]);
+                self.put(format!("small {segments} {columns} {number}"));
+                self.put_all(&["table 1", "bank", "queue", "read"]);
+            }
+            for number in [size.tables(), size.tables() + 256, size.tables() + 65_536, u32::MAX] {
+                self.put(format!("small {segments} {columns} {number}"));
+            }
+            self.put("table 1");
+            for place in 0..segments * columns {
+                self.small_table(size, 2u32.pow(place));
+            }
+        }
+        // the table that is the unit
+        self.put_all(&["small 2 4 89", "search 1", "small 2 4 89", "read", "start 1", "small 2 4 89", "bank"]);
+        self.put_all(&["search 1", "read", "start 1"]);
+        for words in ["0 1", "3 1", "1 0", "1 7", "0 0", "6 2", "6 1", "257 1", "1 258", "65537 1", "4294967295 1", "1 4294967295"] {
+            self.put(format!("small {words}"));
+            for number in ["0", "1", "4095", "4096", "4294967295"] {
+                self.put(format!("small {words} {number}"));
+            }
+            self.put_all(&["read", "bank"]);
+        }
+        self.put_all(&["small", "small 1", "small 4294967296 1", "small 1 4294967297", "small 1 1 4294967296", "small 1 1 x"]);
+        self.put_all(&["small 1 x", "small x 1", "small 1 1 1 1", "table 1", "read", "bank"]);
+    }
+
+    /// Every table of the sizes of few tables, and some of the others, in any order.
+    fn every_small(&mut self) {
+        let mut tables: Vec<(Size, u32)> = Vec::new();
+        for size in sizes() {
+            let all = size.tables();
+            let some = (0..150).map(|_| self.random.between(0, all - 1)).collect();
+            let numbers: Vec<u32> = if all <= 256 { (0..all).collect() } else { some };
+            tables.extend(numbers.into_iter().map(|number| (size, number)));
+        }
+        for last in (1..tables.len()).rev() {
+            tables.swap(last, self.random.below(last as u64 + 1) as usize);
+        }
+        for (size, number) in tables {
+            self.small_table(size, number);
+        }
+    }
+
     /// Files that are too long. And each command that writes a file: along a link to a file of another sort, over a file with a `.part`
     /// beside it, to a name without room for `.part`, and to names that are numbers; with what shows what became of it.
     fn hard_names(&mut self) {
@@ -2007,7 +2199,7 @@ impl Writer {
         let (functions, segments, columns) = self.counts();
         let tag = self.good_tag();
         let edit = self.random.pick(&["mark", "unmark"]);
-        match self.random.below(56) {
+        match self.random.below(59) {
             0 => self.refused_fresh(),
             1 => format!("load {}", damaged_name(self.random.below(DAMAGED_FILES as u64) as usize)).into_bytes(),
             2 => self.fresh(),
@@ -2045,6 +2237,9 @@ impl Writer {
             50 | 51 => self.call(),
             52 => b"turn".to_vec(),
             53 => self.count(),
+            54 => self.small(),
+            55 => self.good_small(),
+            56 => self.no_small_unit(),
             _ => b"tick".to_vec(),
         }
     }
@@ -2162,7 +2357,7 @@ impl Writer {
         self.put([b'x'; LONGEST_LINE + 1]);
         self.put_all(&["queue", "pass"]);
         // new units and edits beside an empty bank, and beside an empty queue
-        let empties = |line: &&str| ["fresh ", "load ", "mark ", "unmark "].iter().any(|name| line.starts_with(name));
+        let empties = |line: &&str| ["fresh ", "load ", "mark ", "unmark ", "small "].iter().any(|name| line.starts_with(name));
         for line in BETWEEN.into_iter().filter(empties) {
             self.put_all(&[&load, "arrive 1 7", line, "queue", "pass", "bank"]);
             self.put_all(&[&load, "start 1", line, "bank", "queue"]);
@@ -2402,11 +2597,24 @@ impl Writer {
         self.put([b'x'; LONGEST_LINE + 1]);
         self.put_list("turn; turn");
         // new units and edits beside an empty bank and queue, while nobody waits, and in another's turn
-        let empties = |line: &&str| ["fresh ", "load ", "mark ", "unmark "].iter().any(|name| line.starts_with(name));
+        let empties = |line: &&str| ["fresh ", "load ", "mark ", "unmark ", "small "].iter().any(|name| line.starts_with(name));
         for line in BETWEEN.into_iter().filter(empties) {
             self.put_list(&format!("{load}; callers 2; call 2 1 7; {line}; turn; call 2 1 8; call 1 1 9; turn; turn"));
             self.put_list(&format!("{load}; call 1 1 7; call 2 1 7; turn; {line}; call 2 1 8; call 1 1 9; turn; turn; bank"));
             self.put_list(&format!("{load}; callers 3; call 3 1 7; turn; arrive 2 7; {line}; bank; queue; call 3 1 8; call 1 1 9; turn"));
+        }
+    }
+
+    /// Small tables and totals where there are a plan, a bank in use, tasks that wait and callers' tasks that do, and another's turn than
+    /// caller 1's: with what becomes of each of them.
+    fn between_small(&mut self) {
+        let load = format!("load {}", queue_name(FIGURE_2));
+        let is_small = |line: &&str| line.starts_with("small ");
+        for line in BETWEEN.into_iter().filter(is_small).chain(["small 2 6 4095", "small 1 6 37", "small 2 1 4", "small 1 7"]) {
+            for seen in ["read", "bank", "queue", "turn", "pass", "table 1", "table 2"] {
+                self.put_list(&format!("{load}; callers 3; call 3 1 5; call 2 1 6; turn; search 1; start 2; arrive 1 7; arrive 2 8"));
+                self.put_list(&format!("{line}; {seen}; call 3 1 9; call 1 1 8; turn; turn; bank; queue; call 4 1 1; callers 2"));
+            }
         }
     }
 
@@ -2569,7 +2777,7 @@ impl Writer {
             if self.console.unit.as_ref().is_some_and(|unit| unit.marks.len() < 3) && self.random.chance(1, 3) {
                 self.marks();
             }
-            match self.random.below(71) {
+            match self.random.below(72) {
                 0..=5 => self.search_and_read(),
                 6 => self.questions(),
                 7 => self.events(),
@@ -2580,6 +2788,7 @@ impl Writer {
                 13 => self.some_delays(),
                 14 => self.some_queue(),
                 15 => self.some_calls(),
+                16 => self.some_small(),
                 _ => self.some_line(),
             }
         }
@@ -2603,6 +2812,8 @@ impl Writer {
             let first = words_of(&line).first().map(|word| word.to_vec()).unwrap_or_default();
             if first == b"fresh" {
                 line = self.refused_fresh();
+            } else if first == b"small" {
+                line = self.no_small_unit();
             } else if first == b"load" {
                 let damaged = damaged_name(self.random.below(REFUSED_FILES as u64) as usize);
                 line = format!("load {}", self.random.pick(&["missing", INNER, &damaged])).into_bytes();
@@ -2657,6 +2868,7 @@ fn sessions(lines: usize, before: &Folder, console: Console<Folder>) -> (Script,
     writer.hard_queues();
     writer.hard_callers();
     writer.between_turns();
+    writer.hard_small();
     writer.hard_names();
     while !writer.full() {
         writer.session();
@@ -2759,6 +2971,27 @@ fn callers(before: &Folder, console: Console<Folder>) -> (Script, Console<Folder
     writer.script(CALLERS, before.clone())
 }
 
+/// The name of the script about small tables, and how many lines it has.
+pub const SMALL_TABLES: &str = "the small tables";
+const SMALL_LINES: usize = 8_000;
+
+/// Small tables and totals: before the first unit, each of its kind, between commands of every sort, and at random.
+fn small_tables(before: &Folder, console: Console<Folder>) -> (Script, Console<Folder>) {
+    let mut writer = Writer::new(seed_of(207, 0), SMALL_LINES, console.again(before.clone()));
+    writer.put_all(&["small 1 0", "small 3 1 0", "small 2 2 16", "small 1 3", "read", "small 1 3 5", "table 1", "read", "bank", "queue"]);
+    writer.hard_small();
+    writer.every_small();
+    writer.between_small();
+    while !writer.full() {
+        match writer.random.below(4) {
+            0 => writer.begin(),
+            1 => writer.some_line(),
+            _ => writer.some_small(),
+        }
+    }
+    writer.script(SMALL_TABLES, before.clone())
+}
+
 /// Whether a file of this folder is no unit.
 fn decode_fails(folder: &Folder, place: usize) -> bool {
     match folder.files.get(format!("r{place}").as_bytes()) {
@@ -2790,7 +3023,7 @@ pub fn scripts(lines: usize) -> Vec<Script> {
     let command = format!("vector {}1", "0".repeat(LONGEST_LINE - 8));
     let returned = format!("vector {}1\r", "0".repeat(LONGEST_LINE - 9));
     let too_long = format!("{command}\r");
-    let lasts: [&[u8]; 48] = [
+    let lasts: [&[u8]; 51] = [
         b"",
         b"table 1",
         b"tick",
@@ -2832,6 +3065,9 @@ pub fn scripts(lines: usize) -> Vec<Script> {
         b"turn",
         b"turn\r",
         b"turn ",
+        b"small 1 3",
+        b"small 1 3 7",
+        b"small 1 3 8 \r",
         command.as_bytes(),
         returned.as_bytes(),
         too_long.as_bytes(),
@@ -2881,6 +3117,8 @@ pub fn scripts(lines: usize) -> Vec<Script> {
     let made = queues(&before, take(&mut console));
     keep(made, &mut console);
     let made = callers(&before, take(&mut console));
+    keep(made, &mut console);
+    let made = small_tables(&before, take(&mut console));
     keep(made, &mut console);
     scripts
 }

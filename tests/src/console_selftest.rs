@@ -41,6 +41,10 @@ mod records;
 mod records_check;
 mod routes;
 mod sheet;
+mod small;
+mod small_check;
+mod small_faults;
+mod small_met;
 mod tally;
 mod units;
 
@@ -52,7 +56,7 @@ use console_folder::{store, Content, File, Folder, OfWritten, Shelf, HEAD, PART}
 use console_model::*;
 use console_outside::{cases, Outcome, Program};
 use console_program::{Ending, Place};
-use console_script::{scripts, Feed, Line, Script, CALLERS, LINES, QUEUES, RECORDS};
+use console_script::{scripts, Feed, Line, Script, CALLERS, LINES, QUEUES, RECORDS, SMALL_TABLES};
 use console_words::{one_turn, plan_drawing, Draw, Filler, Finder};
 use delays_check::by_trial;
 use loops::Loops;
@@ -60,6 +64,9 @@ use model::*;
 use queue::{Port, PORT};
 use queue_faults::{port_faults, QUEUE_FAULTS};
 use random::{seed_of, Random};
+use small::Small;
+use small_check::OTHER_WAY;
+use small_faults::{rule_faults, SMALL_FAULTS};
 use std::cell::RefCell;
 use std::collections::{BTreeMap, HashSet};
 use std::ffi::{OsStr, OsString};
@@ -144,7 +151,7 @@ fn stand_in(store: Store, fetch: Fetch, unwritten: Unwritten) -> io::Result<()> 
     let mut output = fs::File::from(io::stdout().as_fd().try_clone_to_owned()?);
     let choice = Rc::new(RefCell::new(Choice { filler: Filler::new(sketched), random: Random::new(seed_of(208, 0)) }));
     let mut console = Console::new(Disk { store, fetch, choice: choice.clone() });
-    console.delay = by_trial;
+    (console.delay, console.small) = (by_trial, OTHER_WAY);
     let mut line = Vec::new();
     let mut held = Vec::new();
     for place in 1.. {
@@ -487,6 +494,13 @@ fn lines_exchanged(text: &str) -> String {
     lines.concat()
 }
 
+/// A line with another number in place of one of its words.
+fn with_number(text: &str, place: usize, change: impl Fn(u32) -> u32) -> String {
+    let mut words: Vec<String> = text.trim_end().split(' ').map(|word| word.to_string()).collect();
+    words[place] = change(words[place].parse().expect("a number")).to_string();
+    words.join(" ") + "\n"
+}
+
 fn worse(drawn: &Drawn, latencies: &[u8]) -> bool {
     let (least, of) = drawn.graph.least();
     sum_of(latencies) as i64 * of > least * latencies.len() as i64
@@ -494,7 +508,7 @@ fn worse(drawn: &Drawn, latencies: &[u8]) -> bool {
 
 type Wrong = (&'static str, fn(&mut Spoiler) -> Placed);
 
-const WRONG: [Wrong; 317] = [
+const WRONG: [Wrong; 336] = [
     ("mark: ok in place of refused 2", |it| it.change_of("mark", "refused 2", |_| "ok\n".to_string())),
     ("mark: refused 3 in place of refused 4", |it| it.change_of("mark", "refused 4", |_| "refused 3\n".to_string())),
     ("unmark: refused 2 in place of ok", |it| it.change_of("unmark", "ok", |_| "refused 2\n".to_string())),
@@ -1003,6 +1017,29 @@ const WRONG: [Wrong; 317] = [
         it.fake.folder.files.remove(&name);
         it.end()
     }),
+    ("small: ok in place of refused 22", |it| it.change_of("small", "refused 22", |_| "ok\n".to_string())),
+    ("small: refused 22 in place of ok", |it| it.change_of("small", "ok", |_| "refused 22\n".to_string())),
+    ("small: refused 1 in place of refused 22", |it| it.change_of("small", "refused 22", |_| "refused 1\n".to_string())),
+    ("small: refused 22 in place of totals", |it| it.change_of("small", "tables", |_| "refused 22\n".to_string())),
+    ("small: ok in place of totals", |it| it.change_of("small", "tables", |_| "ok\n".to_string())),
+    ("small: no unit in place of totals", |it| it.change_of("small", "tables", |_| "no unit\n".to_string())),
+    ("small: no unit in place of refused 22", |it| it.change_of("small", "refused 22", |_| "no unit\n".to_string())),
+    ("small: totals in place of ok", |it| it.change_of("small", "ok", |_| "tables 2 at bound 2 largest 1/1 first 0\n".to_string())),
+    ("small: totals in place of refused 22", |it| {
+        it.change_of("small", "refused 22", |_| "tables 2 at bound 2 largest 1/1 first 0\n".to_string())
+    }),
+    ("small: refused 22 in place of what was expected", |it| it.change_of("small", "line", |_| "refused 22\n".to_string())),
+    ("small: two numbers alone were expected", |it| it.change_of("small", "line", |text| text.replace(" [NUMBER]", ""))),
+    ("small: a number too was expected", |it| it.change_of("small", "line", |text| text.replace("[NUMBER]", "NUMBER"))),
+    ("small: one table less", |it| it.change_of("small", "tables", |text| with_number(text, 1, |number| number - 1))),
+    ("small: one table less at the bound", |it| it.change_of("small", "tables", |text| with_number(text, 4, |number| number - 1))),
+    ("small: one more as the first", |it| it.change_of("small", "tables", |text| with_number(text, 8, |number| number + 1))),
+    ("small: a whole number in place of the fraction", |it| it.change_of("small", "tables", |text| text.replace("/1 ", " "))),
+    ("small: a denominator of 2", |it| it.change_of("small", "tables", |text| text.replace("/1 ", "/2 "))),
+    ("small: blanks around the stroke", |it| it.change_of("small", "tables", |text| text.replace("/1 ", " / 1 "))),
+    ("small: the first number left out", |it| {
+        it.change_of("small", "tables", |text| text.split_once(" first").expect("totals").0.to_string() + "\n")
+    }),
     ("arrive: ok in place of refused 14", |it| it.change_of("arrive", "refused 14", |_| "ok\n".to_string())),
     ("arrive: refused 14 in place of ok", |it| it.change_of("arrive", "ok", |_| "refused 14\n".to_string())),
     ("arrive: refused 2 in place of refused 14", |it| it.change_of("arrive", "refused 14", |_| "refused 2\n".to_string())),
@@ -1291,7 +1328,7 @@ fn try_programs(script: &Script, right: &Run) -> Result<(), String> {
     Ok(())
 }
 
-/// How a console answers lines, draws charts, gives delays, lets tasks wait and lets callers take turns.
+/// How a console answers lines, draws charts, gives delays, lets tasks wait, lets callers take turns and makes small tables.
 #[derive(Clone, Copy)]
 struct Manner {
     answer: Fault,
@@ -1299,9 +1336,10 @@ struct Manner {
     delay: Delay,
     port: Port,
     shared: Shared,
+    small: Small,
 }
 
-const RIGHT: Manner = Manner { answer: Faulty::answer, draw: sketched, delay: by_trial, port: PORT, shared: SHARED };
+const RIGHT: Manner = Manner { answer: Faulty::answer, draw: sketched, delay: by_trial, port: PORT, shared: SHARED, small: OTHER_WAY };
 
 /// A console with a fault in one of these: on the first lines of the script, and on all of it where these don't show the fault.
 fn try_fault(script: &Script, what: &str, manner: Manner, console: Console<Folder>) -> Result<(String, Console<Folder>), String> {
@@ -1310,6 +1348,7 @@ fn try_fault(script: &Script, what: &str, manner: Manner, console: Console<Folde
         let count = count.min(script.lines.len());
         let mut faulty = Faulty::new(console.again(script.before.clone()));
         (faulty.console.delay, faulty.console.port, faulty.console.shared) = (manner.delay, manner.port, manner.shared);
+        faulty.console.small = manner.small;
         let (mut filler, mut random) = (Filler::new(manner.draw), Random::new(what.len() as u64));
         let mut output = Vec::new();
         for (place, line) in (1..).zip(&script.lines[..count]) {
@@ -1546,6 +1585,14 @@ fn run(lines: usize) -> Result<(), String> {
     }
     println!("selftest: {} shared ports with a fault, and callers' tasks laid out in time report every one", shared_faults().len());
 
+    let known = small_check::all_facts();
+    let unseen: Vec<&str> =
+        rule_faults().iter().filter(|(_, small)| small_check::judged(small, &known).is_ok()).map(|(what, _)| *what).collect();
+    if !unseen.is_empty() {
+        return Err(format!("selftest: NOT REPORTED by tables and totals worked out by other means: {}", unseen.join("; ")));
+    }
+    println!("selftest: {} rules for small tables with a fault, and other means report every one", rule_faults().len());
+
     let outside = try_outside()?;
 
     // the model's own output, three times with other best cycles
@@ -1597,6 +1644,8 @@ fn run(lines: usize) -> Result<(), String> {
     let of_shared = shared_faults().into_iter().map(|(what, shared)| (named(CALLERS), what, Manner { shared, ..RIGHT }));
     let faults =
         faults.chain(of_answers(named(CALLERS), CALLER_FAULTS)).chain(of_answers(named(CALLERS), UNTOUCHED_FAULTS)).chain(of_shared);
+    let of_small = rule_faults().into_iter().map(|(what, small)| (named(SMALL_TABLES), what, Manner { small, ..RIGHT }));
+    let faults = faults.chain(of_answers(named(SMALL_TABLES), SMALL_FAULTS)).chain(of_small);
     let mut faulty = 0;
     for (script, what, manner) in faults {
         let (told, after) = try_fault(script, what, manner, console)?;

@@ -38,8 +38,8 @@ impl Watch {
     pub fn see(&mut self, line: &[u8], answer: &Answer, unit: Option<&Unit>) -> Result<Vec<&'static str>, String> {
         let (Sort::Of(name, told), [Part::Text(text)]) = (&answer.sort, &answer.parts[..]) else { return Ok(Vec::new()) };
         let text = text.trim_end_matches('\n');
-        // "An accepted `fresh`, `load`, `mark` or `unmark` empties queue and bank": and the callers' queues
-        if ["fresh", "load", "mark", "unmark"].contains(name) && told == "ok" {
+        // "An accepted `fresh`, `load`, `mark` or `unmark` empties queue and bank": and the callers' queues; so does a small table
+        if ["fresh", "load", "mark", "unmark", "small"].contains(name) && told == "ok" {
             self.layout = unit.map(Layout::new);
             self.sharing.empty();
         }

@@ -652,7 +652,7 @@ impl Faulty {
 
     /// Whether the line was an accepted one that empties bank and queue.
     fn has_emptied(&self, answer: &Answer) -> bool {
-        ["fresh", "load", "mark", "unmark"].iter().any(|name| is(answer, name, "ok"))
+        ["fresh", "load", "mark", "unmark", "small"].iter().any(|name| is(answer, name, "ok"))
     }
 }
 
@@ -702,6 +702,7 @@ pub const QUEUE_FAULTS: &[(&str, Fault)] = &[
     ("load keeps the queue", |it, line, place| it.keeping_tasks(line, place, &["load"], |_, _, _| true)),
     ("mark keeps the queue", |it, line, place| it.keeping_tasks(line, place, &["mark"], |_, _, _| true)),
     ("unmark keeps the queue", |it, line, place| it.keeping_tasks(line, place, &["unmark"], |_, _, _| true)),
+    ("a small table keeps the queue", |it, line, place| it.keeping_tasks(line, place, &["small"], |_, _, _| true)),
     ("a mark that stood keeps the queue", |it, line, place| it.keeping_tasks_at(line, place, &["mark"], "a mark that stood")),
     ("an unmark of no mark keeps the queue", |it, line, place| it.keeping_tasks_at(line, place, &["unmark"], "an unmark of no mark")),
     ("an edit beside an empty bank keeps the queue", |it, line, place| {
@@ -710,6 +711,10 @@ pub const QUEUE_FAULTS: &[(&str, Fault)] = &[
     ("a new unit beside an empty bank keeps the queue", |it, line, place| {
         it.keeping_tasks_at(line, place, &["fresh", "load"], "a queue emptied by a new unit beside an empty bank")
     }),
+    ("a small table beside an empty bank keeps the queue", |it, line, place| {
+        it.keeping_tasks_at(line, place, &["small"], "a queue emptied by a new unit beside an empty bank")
+    }),
+    ("a small table keeps tasks of function 1", |it, line, place| it.keeping_tasks(line, place, &["small"], |_, _, task| task.tag == 1)),
     ("an edit beside an empty queue keeps the bank", |it, line, place| {
         it.keeping(line, place, &["mark", "unmark"], false, |_, answer| {
             answer.met.contains(&"a bank in use emptied by an edit beside an empty queue")
@@ -779,6 +784,9 @@ pub const QUEUE_FAULTS: &[(&str, Fault)] = &[
     ("delays empty the queue", emptied!(ok, "delays")),
     ("refused delays empty the queue", emptied!(refused, "delays")),
     ("delays that are not written empty the queue", emptied!(not_written, "delays")),
+    ("totals empty the queue", emptied!(|told| told == "tables", "small")),
+    ("a refused small table empties the queue", emptied!(refused, "small")),
+    ("a small table that is not as expected empties the queue", emptied!(expected, "small")),
     ("an arrival that is not as expected empties the queue", emptied!(expected, "arrive")),
     ("an arrival that is not as expected waits as function 1", |it, line, place| {
         it.after(line, place, &["arrive"], expected, |console| {

@@ -36,6 +36,10 @@ pub usage-of-call : usageAt 31 ≡ ascii "call I Q TICKET"
 unfolding usageAt rowAt
 usage-of-call = refl
 
+pub usage-of-small : usageAt 33 ≡ ascii "small S C [NUMBER]"
+unfolding usageAt rowAt
+usage-of-small = refl
+
 pub mark-is-found : commandOf (ascii "mark") ≡ Named.Known (entryAt 1)
 unfolding commandOf among same nameAt rowAt
 mark-is-found = refl
@@ -51,6 +55,10 @@ queue-is-found = refl
 pub turn-is-found : commandOf (ascii "turn") ≡ Named.Known (entryAt 32)
 unfolding commandOf among same nameAt rowAt
 turn-is-found = refl
+
+pub small-is-found : commandOf (ascii "small") ≡ Named.Known (entryAt 33)
+unfolding commandOf among same nameAt rowAt
+small-is-found = refl
 
 pub part-of-a-name : commandOf (ascii "mar") ≡ Named.Unknown
 unfolding commandOf among same nameAt rowAt

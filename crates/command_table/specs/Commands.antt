@@ -65,6 +65,7 @@ rows =
     ∷ row "callers" " C" (Form.Numbers 1) (Verb.Share Share.Callers)
     ∷ row "call" " I Q TICKET" (Form.Numbers 3) (Verb.Share Share.Call)
     ∷ row "turn" "" (Form.Numbers 0) (Verb.Share Share.Turn)
+    ∷ row "small" " S C [NUMBER]" (Form.Optional 2) Verb.Small
     ∷ []
 
 -- beyond the last row: no name, and nothing to write

@@ -63,10 +63,11 @@ pub enum Share {
     Turn,
 }
 
-// What a command does. Fresh and load make a unit.
+// What a command does. Fresh and load make a unit; small makes one, or tells the totals of a size.
 pub enum Verb {
     Fresh,
     Load,
+    Small,
     Act(Act),
     Ask(Ask),
     Show(Show),
@@ -100,7 +101,7 @@ pub enum Named {
 }
 
 // How many commands there are, and how many bytes a row has.
-const COUNT: usize = 33;
+const COUNT: usize = 34;
 
 const WIDTH: usize = 48;
 
@@ -140,6 +141,7 @@ const TABLE: [u8; COUNT * WIDTH] = *b"\
 \x07\x09\x01callers C                                    \
 \x04\x0f\x03call I Q TICKET                              \
 \x04\x04\x00turn                                         \
+\x05\x12\x12small S C [NUMBER]                           \
 ";
 
 // What each command does, in the order of the rows.
@@ -177,6 +179,7 @@ const VERBS: [Verb; COUNT] = [
     Verb::Share(Share::Callers),
     Verb::Share(Share::Call),
     Verb::Share(Share::Turn),
+    Verb::Small,
 ];
 
 // The table as bytes.

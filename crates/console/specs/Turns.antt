@@ -90,8 +90,8 @@ actReply Act.Tick s r = answerLine (eventAsked s Event.Tick)
 actReply Act.Start s r = answerLine (eventAsked s (Event.Start (tag (one r))))
 actReply Act.Bank s r = bankLine (s .bank)
 
--- What a session with a unit answers to a command. The commands that make a unit, and those that write or show a file, list or draw, are answered
--- elsewhere, and here by nothing.
+-- What a session with a unit answers to a command. The commands that make a unit or tell the totals of small tables, and those that write or show a file,
+-- list or draw, are answered elsewhere, and here by nothing.
 unfoldable pub unitReply : Verb → Session → Request → List ℕ → List ℕ
 unitReply Verb.Fresh s r line = []
 unitReply Verb.Load s r line = []
@@ -101,8 +101,9 @@ unitReply (Verb.Issue a) s r line = issueReply a s r
 unitReply (Verb.Share a) s r line = shareReply a s r
 unitReply (Verb.Show a) s r line = []
 unitReply (Verb.View a) s r line = []
+unitReply Verb.Small s r line = []
 
--- before the first fresh or load whatever is asked here is answered `no unit`
+-- as long as there is no unit whatever is asked here is answered `no unit`
 unfoldable pub turnReply : Session → Request → List ℕ → List ℕ
 turnReply s r line = cond (s .present) (unitReply (r .verb) s r line) noUnit
 
@@ -137,6 +138,7 @@ UnitNext (Verb.Issue a) s r after = after ≡ issueNext a s r
 UnitNext (Verb.Share a) s r after = after ≡ shareNext a s r
 UnitNext (Verb.Show a) s r after = after ≡ s
 UnitNext (Verb.View a) s r after = after ≡ s
+UnitNext Verb.Small s r after = after ≡ s
 
 -- without a unit nothing changes
 abbrev pub Next : Bool → Verb → Session → Request → Session → Type 0

@@ -170,5 +170,6 @@ pub fn turn(session: Session, request: Request, line: &[u8], out: &mut [u8]) -> 
         Verb::Load => Reply { session, end: 0 },
         Verb::Show(_) => Reply { session, end: 0 },
         Verb::View(_) => Reply { session, end: 0 },
+        Verb::Small => Reply { session, end: 0 },
     }
 }

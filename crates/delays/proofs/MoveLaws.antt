@@ -1,6 +1,6 @@
 -- Marks moved into a unit column by column. Assumes nothing.
 use Prim.Native.Nat.{ℕ, _+_, _-_, _≤_, _<_}
-use mathlib.Core.Path.{_≡_, refl, sym, ap, ap₂, _∙_}
+use mathlib.Core.Path.{_≡_, refl, sym, ap, _∙_}
 use mathlib.Core.Bool.{Bool, true, false, cond, _&&_}
 use mathlib.Core.Logic.{⊎-elim}
 use mathlib.Core.List.{List}
@@ -15,11 +15,10 @@ use Rattle.words.proofs.Tests.{nowhere, and-left, and-right, and-true, same-tes
 use Rattle.words.proofs.BitLaws.{set-below}
 use Rattle.unit.specs.declared.FunctionUnit.{FunctionUnit}
 use Rattle.unit.specs.Table.{Table, empty}
-use Rattle.unit.specs.Unit.{inside, somewhere, goodCounts, marked}
+use Rattle.unit.specs.Unit.{inside, goodCounts}
 use Rattle.unit.specs.Calls.{blank, unitOf, freshOf, columnOf}
 use Rattle.unit.proofs.Laws.{inside-of}
-use Rattle.unit.proofs.EditLaws.{blank-words, blank-table}
-use Rattle.unit.proofs.TableLaws.{unit-of-words, unit-of-table, unit-of-sound, unit-of-same, column-done, columnChanged, column-given}
+use Rattle.unit.proofs.TableLaws.{columnChanged, InCounts, unit-of-none, unit-of-column}
 use Rattle.delays.specs.Delays.{Marks, places, movedTable}
 use Rattle.delays.specs.Inner.{columnMarks, Movable}
 use Rattle.delays.proofs.PlaceLaws.{placeAt, place-at, place-first, place-one}
@@ -91,7 +90,7 @@ module _ (columns spots : List ℕ) (m n segments width : ℕ) (a : Movable colu
   unitAt i = unitOf 1 segments width (movedTo M m i)
 
   pub unit-none : blank 1 segments width ≡ unitAt 0
-  unit-none = unit-of-same (blank 1 segments width) (movedTo M m 0) (blank-words 1 segments width) refl (blank-table 1 segments width ∙ table-none M m)
+  unit-none = unit-of-none 1 segments width (movedTo M m 0) (table-none M m)
 
   spot-is : (i : ℕ) → i < n → getD spots i 0 ≡ spot M m i
   spot-is i h = a .placed .each i h ∙ place-at M m n i h
@@ -106,7 +105,7 @@ module _ (columns spots : List ℕ) (m n segments width : ℕ) (a : Movable colu
       let l : s - 1 < segments = set-below (getD columns (i + 1 - 1) 0) segments (s - 1) (a .small (i + 1 - 1) b) (w .bit) in
       (w .segment .least, omega (arith, w .segment .least))
 
-  inside-counts : (i : ℕ) → i ≤ n → (x s z : ℕ) → movedTo M m i x s z ≡ true → (somewhere x s z ≡ true) × (x ≤ 1) × (s ≤ segments) × (z ≤ width)
+  inside-counts : (i : ℕ) → i ≤ n → InCounts 1 segments width (movedTo M m i)
   inside-counts i h =
       moved-inside M m i segments width (a .segment16) (a .width32) (λ s k l. segment-most s k)
       (λ k l. omega (arith, spot-is k (omega arith), a .within k (omega arith)))
@@ -119,21 +118,12 @@ module _ (columns spots : List ℕ) (m n segments width : ℕ) (a : Movable colu
       ∙ ap (λ t. inside s 16 && (t && isSet (getD columns (i + 1 - 1) 0) (s - 1))) (sym (inside-of (i + 1) 32 (omega arith) (omega arith)))
 
   pub unit-more : (i : ℕ) → i < n → columnOf (unitAt i) 1 (getD spots i 0) (getD columns i 0) .unit ≡ unitAt (i + 1)
-  unfolding unitOf
   unit-more i h =
-      let u = unitAt i in
       let w = getD columns i 0 in
       let c = getD spots i 0 in
-      let T = movedTo M m i in
-      let e = column-done u 1 c w (unit-of-sound 1 segments width T counts (inside-counts i (omega arith))) (inside-of 1 1 (omega arith) (omega arith))
-      (inside-of c width (omega (arith, spot-is i h, place-first M m i)) (a .within i h)) (a .small i (omega (arith, a .few))) in
-      let g = column-given u 1 c w (unit-of-words 1 segments width T) e in
-      let v = columnOf u 1 c w .unit in
-      let same : marked u ≡ T = unit-of-table 1 segments width T (λ x y z k. inside-counts i (omega arith) x y z k .0) in
-      let table : marked v ≡ movedTo M m (i + 1) =
-      (λ j x y z. g .table x y z j) ∙ ap₂ (λ (U : Table) (k : ℕ). columnChanged U 1 k w) same (spot-is i h) ∙ table-more M m i w (word-says i (omega (arith, a .few))) in
-      unit-of-same v (movedTo M m (i + 1)) (g .words) (g .plan) table
-      ∙ rw (g .functions, g .segments, g .columns)
+      unit-of-column 1 segments width (movedTo M m i) (movedTo M m (i + 1)) 1 c w counts (inside-counts i (omega arith)) (inside-of 1 1 (omega arith) (omega arith))
+      (inside-of c width (omega (arith, spot-is i h, place-first M m i)) (a .within i h)) (a .small i (omega (arith, a .few)))
+      (ap (λ (k : ℕ). columnChanged (movedTo M m i) 1 k w) (spot-is i h) ∙ table-more M m i w (word-says i (omega (arith, a .few))))
 
 pub fresh-is : (s w : ℕ) → freshOf 1 s w .unit ≡ blank 1 s w
 unfolding freshOf

@@ -150,6 +150,12 @@ fn fresh(session: Session, request: Request) -> Answered {
     conclude(reply, &area)
 }
 
+fn small(session: Session, request: Request) -> Answered {
+    let mut area = io::buffer();
+    let reply = small_text::answer(session, request, &mut area);
+    conclude(reply, &area)
+}
+
 fn turn(session: Session, request: Request, line: &[u8]) -> Answered {
     let mut area = io::buffer();
     let reply = console::turn(session, request, line, &mut area);
@@ -228,6 +234,7 @@ fn obey(session: Session, request: Request, line: &[u8]) -> Answered {
     match verb {
         Verb::Fresh => fresh(session, request),
         Verb::Load => load(session, command::word(line, request.count)),
+        Verb::Small => small(session, request),
         Verb::Show(what) => show(session, what, request, line),
         Verb::View(what) => view(session, what, command::word(line, request.count)),
         _ => turn(session, request, line),

@@ -1,6 +1,6 @@
 pub mod TestLaws
 pub mod TableLaws
-mod PotentialLaws
-mod CycleLaws
-mod DiagramLaws
+pub mod PotentialLaws
+pub mod CycleLaws
+pub mod DiagramLaws
 pub mod EveryRow

@@ -1,8 +1,8 @@
--- What the search of the diagram finds is the best cycle, in the rotation that comes first. Assumes nothing.
+-- What the search of the diagram finds is the best cycle, in the rotation that comes first; any two best cycles have the same average. Assumes nothing.
 use Prim.Native.Nat.{ℕ, _+_, _*_, _≤_, _<_}
 use mathlib.Core.Path.{_≡_, sym, ap, subst}
 use mathlib.Core.List.{List}
-use native.Mathlib.Nat.{mul-comm, le-of-lt, le-refl}
+use native.Mathlib.Nat.{mul-comm, le-of-lt, le-refl, le-antisymm}
 use native.Mathlib.Omega.{arith}
 use lib.ListN.{length, getD}
 use Rattle.unit.specs.Table.{Table}
@@ -20,7 +20,7 @@ use Rattle.graphs.proofs.Rotations.{rotate-length, rotate-total}
 use Rattle.cycles.proofs.RotationLaws.{rotate-cycle}
 use Rattle.cycles.proofs.OrderLaws.{rotate-least, first-inside}
 use Rattle.mean_cycle.specs.Mean.{Floor}
-use Rattle.planner.specs.Plans.{Best}
+use Rattle.planner.specs.Plans.{Best, SameAverage}
 use Rattle.planner.specs.Inner.{inFirstRotation}
 
 -- a cycle of the diagram below which no walk goes, but for a bounded part, is best, in its first rotation
@@ -46,3 +46,7 @@ best-of T b q l some c floor =
           rival T q 1 (width (vectorWord T q)) (vectorWord T q) v (le-refl 1) (total l) (length l) (floor .bound) (floor .every) other o never in
           rw (n, s) (omega (arith, h, mul-comm (length l) (total other)));
     }
+
+-- each is a rival of the other
+pub same-average : SameAverage
+same-average g T q a b h k = le-antisymm (h .least b (k .latencies) (k .never)) (k .least a (h .latencies) (h .never))

@@ -34,6 +34,10 @@ pub record Best (g : ℕ) (T : Table) (q : ℕ) (cycle : List ℕ) : Type 0 wher
   pub never : NeverCollides T q cycle
   pub least : (rival : List ℕ) → Cycle g rival → NeverCollides T q rival → total cycle * length rival ≤ total rival * length cycle
 
+-- any two best cycles have the same average, S × K′ = S′ × K: free is which of them is found, and not its average (`same-average`, proofs/BestLaws.antt)
+abbrev pub SameAverage : Type 0
+SameAverage = (g : ℕ) (T : Table) (q : ℕ) (a b : List ℕ) → Best g T q a → Best g T q b → total a * length b ≡ total b * length a
+
 -- The plan
 
 -- tag, K, S, and the cycle in 256 bytes of which the rest are 0

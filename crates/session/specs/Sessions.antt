@@ -30,7 +30,7 @@ opening = record { present = false; unit = blank 0 0 0; bank = empty; queue = em
 abbrev pub withPort : Session → Bank → Queue → Shared → Session
 withPort s b q p = record { present = s .present; unit = s .unit; bank = b; queue = q; shared = p }
 
--- a unit that a fresh, a load, a mark or an unmark made, with an empty bank and empty queues, for as many callers as before; a refused one keeps the session
+-- a unit that was made, loaded or edited, with an empty bank and empty queues, for as many callers as before; a refused one keeps the session
 -- as it was
 abbrev pub taken : Session → Answer → FunctionUnit → Session
 taken s Done u = record { present = true; unit = u; bank = empty; queue = emptyQueue; shared = emptyShared (s .shared .callers) }
@@ -67,7 +67,7 @@ pub record Line (text before after : List ℕ) (end : ℕ) : Type 0 where
 abbrev pub freshAsked : Request → Outcome
 freshAsked r = freshOf (one r) (two r) (three r)
 
--- a unit was made: by a fresh, from a file, or by an edit
+-- a unit was made: by a fresh, from a file, by the number of a small table, or by an edit
 pub record Made (s : Session) (made : Outcome) (before after : List ℕ) (t : Reply) : Type 0 where
   pub out : after ≡ putIn before 0 (answerLine (made .answer))
   pub end : t .end ≡ putEnd before 0 (answerLine (made .answer))

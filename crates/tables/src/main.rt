@@ -15,6 +15,7 @@ use queue::Passed;
 use queue::Queue;
 use queue::Waiting;
 use simulator::UnitPlayed;
+use table_totals::Totalled;
 use unit::Answer;
 use unit::FunctionUnit;
 use unit::Outcome;
@@ -727,6 +728,85 @@ fn try_callers() {
     show_turn(b"no unit", made.unit, shared_of(0, 0, 9, 2), 0);
 }
 
+// Small tables: how many a size has, the marks of a table's first three columns, and the totals of a size.
+
+fn begin_size(segments: u8, columns: u8) {
+    io::write_all(1, b"small");
+    print_byte(segments);
+    print_byte(columns);
+}
+
+fn show_count(segments: u8, columns: u8) {
+    begin_size(segments, columns);
+    io::write_all(1, b" count");
+    print_number(table_numbers::count(segments, columns));
+    end_line();
+}
+
+fn print_three(marks: [u16; 32]) {
+    io::write_all(1, b" columns");
+    print_number(marks[0] as u32);
+    print_number(marks[1] as u32);
+    print_number(marks[2] as u32);
+}
+
+fn show_small(segments: u8, columns: u8, number: u32) {
+    begin_size(segments, columns);
+    print_number(number);
+    let made = table_numbers::table(segments, columns, number);
+    let answer = made.answer;
+    let table = made.unit;
+    match answer {
+        Answer::Refused(why) => print_refusal(why),
+        Answer::Done => print_three(columns::columns_of(table, Tag(1))),
+    }
+    end_line();
+}
+
+fn print_totalled(totalled: Totalled) {
+    match totalled {
+        Totalled::Refused(why) => print_refusal(why),
+        Totalled::Value(totals) => {
+            print_number(totals.tables);
+            print_number(totals.reaching);
+            print_number(totals.numerator);
+            print_number(totals.denominator);
+            print_number(totals.first);
+        }
+    }
+    end_line();
+}
+
+fn show_totals(segments: u8, columns: u8) {
+    begin_size(segments, columns);
+    io::write_all(1, b" totals");
+    let mut work = room();
+    print_totalled(table_totals::totals(segments, columns, &mut work));
+}
+
+fn show_short_totals(segments: u8, columns: u8) {
+    begin_size(segments, columns);
+    io::write_all(1, b" totals with 15999 words");
+    let mut work = short_room();
+    print_totalled(table_totals::totals(segments, columns, &mut work));
+}
+
+fn try_small() {
+    show_count(2, 6);
+    show_count(3, 1);
+    show_count(1, 7);
+    show_small(2, 3, 19);
+    show_small(2, 3, 63);
+    show_small(2, 3, 64);
+    show_small(0, 1, 0);
+    show_small(1, 7, 0);
+    show_totals(1, 1);
+    show_totals(1, 2);
+    show_totals(2, 0);
+    show_short_totals(2, 6);
+    show_short_totals(3, 1);
+}
+
 fn try_limit() {
     let full = one_segment(b"\x01\x0a");
     show_states(b"marks 1 10", full);
@@ -832,6 +912,7 @@ fn main() {
     try_delays();
     try_queue();
     try_callers();
+    try_small();
     try_limit();
     try_stale_plan();
     try_refusals();

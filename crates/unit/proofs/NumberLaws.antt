@@ -7,11 +7,11 @@ use native.Mathlib.Omega.{arith}
 use borrow.Author.Tests.{ne-eqb}
 use lib.Dec.{eqb}
 use Rattle.unit.specs.declared.Refusal.{Refusal}
-use Rattle.unit.specs.declared.Refusal.the-variants.{NotSound, NoSuchTag, NoSuchSegment, NoSuchColumn, ShortWork, ShortOutput, TooManyStates, NoPlan, BadCycle, NotGranted, BadLength, BadHeader, MarkBeyondColumns, TooManyWait, BadRecord, BadLoop, NoSuchCaller, TwoMarks, BadInterval, PlaceBeyond}
+use Rattle.unit.specs.declared.Refusal.the-variants.{NotSound, NoSuchTag, NoSuchSegment, NoSuchColumn, ShortWork, ShortOutput, TooManyStates, NoPlan, BadCycle, NotGranted, BadLength, BadHeader, MarkBeyondColumns, TooManyWait, BadRecord, BadLoop, NoSuchCaller, TwoMarks, BadInterval, PlaceBeyond, NoSmallTable}
 use Rattle.unit.specs.Numbers.{numberOf, refusals}
 
 -- the papers' list of numbers
-pub numbers : map numberOf refusals ≡ 1 ∷ 2 ∷ 3 ∷ 4 ∷ 5 ∷ 6 ∷ 7 ∷ 8 ∷ 9 ∷ 10 ∷ 11 ∷ 12 ∷ 13 ∷ 14 ∷ 15 ∷ 17 ∷ 18 ∷ 19 ∷ 20 ∷ 21 ∷ []
+pub numbers : map numberOf refusals ≡ 1 ∷ 2 ∷ 3 ∷ 4 ∷ 5 ∷ 6 ∷ 7 ∷ 8 ∷ 9 ∷ 10 ∷ 11 ∷ 12 ∷ 13 ∷ 14 ∷ 15 ∷ 17 ∷ 18 ∷ 19 ∷ 20 ∷ 21 ∷ 22 ∷ []
 numbers = refl
 
 -- the first of some refusals that is told by a number
@@ -22,7 +22,7 @@ toldBy n (why ∷ more) = cond (eqb (numberOf why) n) why (toldBy n more)
 -- what a number can be, and that it tells the refusal
 pub record Numbered (why : Refusal) : Type 0 where
   pub from : 1 ≤ numberOf why
-  pub to : numberOf why ≤ 21
+  pub to : numberOf why ≤ 22
   pub tells : toldBy (numberOf why) refusals ≡ why
 
 pub numbered : (why : Refusal) → Numbered why
@@ -46,6 +46,7 @@ numbered NoSuchCaller = record { from = omega arith; to = omega arith; tells = r
 numbered TwoMarks = record { from = omega arith; to = omega arith; tells = refl }
 numbered BadInterval = record { from = omega arith; to = omega arith; tells = refl }
 numbered PlaceBeyond = record { from = omega arith; to = omega arith; tells = refl }
+numbered NoSmallTable = record { from = omega arith; to = omega arith; tells = refl }
 
 -- no refusal is told by 0
 pub number-some : (why : Refusal) → eqb (numberOf why) 0 ≡ false

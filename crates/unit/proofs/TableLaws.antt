@@ -1,5 +1,5 @@
--- Units and tables: the unit of a table has that table and no other unit of its counts has; what an accepted column's word changes; mark and unmark as
--- the giving of a column's word. Assumes nothing.
+-- Units and tables: the unit of a table has that table and no other unit of its counts has; what an accepted column's word changes; a unit filled column by
+-- column; mark and unmark as the giving of a column's word. Assumes nothing.
 use Prim.Native.Nat.{ℕ, _+_, _-_, _/_, _%_, _^_, _<_, _≤_}
 use mathlib.Core.Path.{_≡_, refl, ap, ap₂, _∙_, sym, subst}
 use mathlib.Core.Bool.{Bool, true, false, cond, _&&_}
@@ -23,14 +23,14 @@ use Rattle.unit.specs.declared.Plan.{Plan}
 use Rattle.unit.specs.declared.Outcome.{Outcome}
 use Rattle.unit.specs.declared.Answer.{Answer}
 use Rattle.unit.specs.declared.Answer.the-variants.{Done, Refused}
-use Rattle.unit.specs.Table.{Table}
+use Rattle.unit.specs.Table.{Table, empty}
 use Rattle.unit.specs.Unit.{inside, somewhere, place, wordAt, marked, columnsOf, goodCounts, soundOf}
 use Rattle.unit.specs.Inner.{Somewhere}
-use Rattle.unit.specs.Calls.{tagAnswer, spotAnswer, columnAnswer, noPlan, unitOf, withWord, outcome, markOf, unmarkOf, columnOf}
+use Rattle.unit.specs.Calls.{tagAnswer, spotAnswer, columnAnswer, noPlan, blank, unitOf, withWord, outcome, markOf, unmarkOf, columnOf}
 use Rattle.unit.proofs.Laws.{within, inside-of, somewhere-of, placed, sound-has, sound-of, accepted, edit-ranges, column-accepted, column-range}
 use Rattle.unit.proofs.SoundLaws.{Words, Inside, inside-means, inside-test, marked-place, sound-word}
 use Rattle.unit.proofs.ColumnLaws.{columns-word}
-use Rattle.unit.proofs.EditLaws.{same-words}
+use Rattle.unit.proofs.EditLaws.{same-words, blank-words, blank-table}
 
 -- The unit of a table
 
@@ -204,6 +204,28 @@ column-given u q c w n e = subst (λ (a : Answer). ColumnGiven u (outcome a u (w
           });
           words = column-words u q c w n r (lt-of-lt-of-le (a .word) (pow-mono (s .most)));
         }
+
+-- A unit filled column by column
+
+-- every mark of a table lies within the counts
+abbrev pub InCounts : ℕ → ℕ → ℕ → Table → Type 0
+InCounts f s c T = (x y z : ℕ) → T x y z ≡ true → (somewhere x y z ≡ true) × (x ≤ f) × (y ≤ s) × (z ≤ c)
+
+-- it begins without marks
+pub unit-of-none : (f s c : ℕ) (T : Table) → empty ≡ T → blank f s c ≡ unitOf f s c T
+unit-of-none f s c T e = unit-of-same (blank f s c) T (blank-words f s c) refl (blank-table f s c ∙ e)
+
+-- given a column's word, the unit of a table is that of the table with the column changed
+pub unit-of-column : (f s c : ℕ) (T U : Table) (q k w : ℕ) → goodCounts f s c ≡ true → InCounts f s c T → inside q f ≡ true → inside k c ≡ true → w < 2 ^ s
+    → columnChanged T q k w ≡ U → columnOf (unitOf f s c T) q k w .unit ≡ unitOf f s c U
+unfolding unitOf
+unit-of-column f s c T U q k w counts marks tag column small e =
+    let u = unitOf f s c T in
+    let v = columnOf u q k w .unit in
+    let g = column-given u q k w (unit-of-words f s c T) (column-done u q k w (unit-of-sound f s c T counts marks) tag column small) in
+    let same : marked u ≡ T = unit-of-table f s c T (λ x y z h. marks x y z h .0) in
+    let table : marked v ≡ U = (λ i x y z. g .table x y z i) ∙ ap (λ X. columnChanged X q k w) same ∙ e in
+    unit-of-same v U (g .words) (g .plan) table ∙ rw (g .functions, g .segments, g .columns)
 
 -- An edit by the word of its column
 

@@ -2,7 +2,7 @@
 use mathlib.Core.List.{List, [], _∷_}
 use Prim.Native.Nat.{ℕ}
 use Rattle.unit.specs.declared.Refusal.{Refusal}
-use Rattle.unit.specs.declared.Refusal.the-variants.{NotSound, NoSuchTag, NoSuchSegment, NoSuchColumn, ShortWork, ShortOutput, TooManyStates, NoPlan, BadCycle, NotGranted, BadLength, BadHeader, MarkBeyondColumns, TooManyWait, BadRecord, BadLoop, NoSuchCaller, TwoMarks, BadInterval, PlaceBeyond}
+use Rattle.unit.specs.declared.Refusal.the-variants.{NotSound, NoSuchTag, NoSuchSegment, NoSuchColumn, ShortWork, ShortOutput, TooManyStates, NoPlan, BadCycle, NotGranted, BadLength, BadHeader, MarkBeyondColumns, TooManyWait, BadRecord, BadLoop, NoSuchCaller, TwoMarks, BadInterval, PlaceBeyond, NoSmallTable}
 use Rattle.unit.specs.declared.Answer.{Answer}
 use Rattle.unit.specs.declared.Answer.the-variants.{Done, Refused}
 
@@ -45,12 +45,14 @@ numberOf TwoMarks = 19
 numberOf BadInterval = 20
 -- a place beyond 32
 numberOf PlaceBeyond = 21
+-- a size of which there are no small tables, or a number that none has
+numberOf NoSmallTable = 22
 
 -- the refusals, by rising number
 abbrev pub refusals : List Refusal
 refusals =
     NotSound ∷ NoSuchTag ∷ NoSuchSegment ∷ NoSuchColumn ∷ ShortWork ∷ ShortOutput ∷ TooManyStates ∷ NoPlan ∷ BadCycle ∷ NotGranted ∷ BadLength
-    ∷ BadHeader ∷ MarkBeyondColumns ∷ TooManyWait ∷ BadRecord ∷ BadLoop ∷ NoSuchCaller ∷ TwoMarks ∷ BadInterval ∷ PlaceBeyond ∷ []
+    ∷ BadHeader ∷ MarkBeyondColumns ∷ TooManyWait ∷ BadRecord ∷ BadLoop ∷ NoSuchCaller ∷ TwoMarks ∷ BadInterval ∷ PlaceBeyond ∷ NoSmallTable ∷ []
 
 -- the number that an answer tells: 0 where the call was accepted
 abbrev pub numberIn : Answer → ℕ

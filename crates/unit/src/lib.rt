@@ -54,6 +54,7 @@ pub enum Refusal {
     TwoMarks,
     BadInterval,
     PlaceBeyond,
+    NoSmallTable,
 }
 
 pub enum Answer {
@@ -92,6 +93,7 @@ fn number(why: Refusal) -> u8
         Refusal::TwoMarks => 19,
         Refusal::BadInterval => 20,
         Refusal::PlaceBeyond => 21,
+        Refusal::NoSmallTable => 22,
     }
 }
 

@@ -10,11 +10,10 @@ use lib.Dec.{ltb, eqb}
 use Rattle.words.specs.Bits.{isSet}
 use Rattle.words.proofs.Tests.{nowhere, and-left, and-right, and-true, or-cases, or-true-left, or-true-right, same-test, not-passed}
 use Rattle.unit.specs.Table.{empty}
-use Rattle.unit.specs.Unit.{inside, somewhere, goodCounts, marked}
+use Rattle.unit.specs.Unit.{inside, goodCounts}
 use Rattle.unit.specs.Calls.{blank, unitOf, columnOf}
 use Rattle.unit.proofs.Laws.{inside-of, somewhere-of}
-use Rattle.unit.proofs.EditLaws.{blank-words, blank-table}
-use Rattle.unit.proofs.TableLaws.{unit-of-words, unit-of-table, unit-of-sound, unit-of-same, columnChanged, column-given, column-done}
+use Rattle.unit.proofs.TableLaws.{columnChanged, InCounts, unit-of-none, unit-of-column}
 use Rattle.unit_file.specs.Read.{functionsIn, segmentsIn, columnsIn, fileTable}
 use Rattle.unit_file.specs.InnerRead.{Counted, Clean, TagIn, ColumnIn, columnWord, tableBefore, unitBefore}
 use Rattle.unit_file.proofs.ColumnLaws.{column-word-lt, column-word-bit}
@@ -114,14 +113,10 @@ before-end file = λ i x y z. at x y z i
 
 pub unit-start : (file : List ℕ) → blank (functionsIn file) (segmentsIn file) (columnsIn file) ≡ unitBefore file 1 1
 unit-start file =
-    let f = functionsIn file in
-    let s = segmentsIn file in
-    let c = columnsIn file in
-    unit-of-same (blank f s c) (tableBefore file 1 1) (blank-words f s c) refl (blank-table f s c ∙ before-start file)
+    unit-of-none (functionsIn file) (segmentsIn file) (columnsIn file) (tableBefore file 1 1) (before-start file)
 
 module _ (file : List ℕ) (d : Clean file) where
-  before-inside : (k c x y z : ℕ) → tableBefore file k c x y z ≡ true
-      → (somewhere x y z ≡ true) × (x ≤ functionsIn file) × (y ≤ segmentsIn file) × (z ≤ columnsIn file)
+  before-inside : (k c : ℕ) → InCounts (functionsIn file) (segmentsIn file) (columnsIn file) (tableBefore file k c)
   before-inside k c x y z e =
       let m = before-mark file k c x y z e in
       let a = m .tag in
@@ -139,21 +134,10 @@ module _ (file : List ℕ) (d : Clean file) where
   -- one column more
   pub unit-more : (k c : ℕ) → TagIn file k → ColumnIn file c
       → columnOf (unitBefore file k c) k c (columnWord file k c) .unit ≡ unitBefore file k (c + 1)
-  unfolding unitOf
   unit-more k c t l =
-      let u = unitBefore file k c in
-      let w = columnWord file k c in
-      let f = functionsIn file in
-      let s = segmentsIn file in
-      let m = columnsIn file in
-      let T = tableBefore file k c in
-      let e = column-done u k c w (unit-of-sound f s m T counts-good (before-inside k c)) (inside-of k f (t .least) (t .most)) (inside-of c m (l .least) (l .most)) (column-word-lt file k c) in
-      let g = column-given u k c w (unit-of-words f s m T) e in
-      let v = columnOf u k c w .unit in
-      let same : marked u ≡ T = unit-of-table f s m T (λ x y z h. before-inside k c x y z h .0) in
-      let table : marked v ≡ tableBefore file k (c + 1) = (λ i x y z. g .table x y z i) ∙ ap (λ U. columnChanged U k c w) same ∙ before-more file (d .whole .counts) k c t l in
-      unit-of-same v (tableBefore file k (c + 1)) (g .words) (g .plan) table
-      ∙ rw (g .functions, g .segments, g .columns)
+      unit-of-column (functionsIn file) (segmentsIn file) (columnsIn file) (tableBefore file k c) (tableBefore file k (c + 1)) k c (columnWord file k c) counts-good
+      (before-inside k c) (inside-of k (functionsIn file) (t .least) (t .most)) (inside-of c (columnsIn file) (l .least) (l .most)) (column-word-lt file k c)
+      (before-more file (d .whole .counts) k c t l)
 
   -- one function more
   pub unit-next : (k : ℕ) → unitBefore file k (columnsIn file + 1) ≡ unitBefore file (k + 1) 1

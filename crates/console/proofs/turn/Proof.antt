@@ -54,6 +54,9 @@ enum-told-3 c = search needs
 enum-told-4 : tie.Need-enum-told-4
 enum-told-4 c = search needs
 
+enum-told-5 : tie.Need-enum-told-5
+enum-told-5 c = search needs
+
 same-length-2 : tie.Need-same-length-2
 same-length-2 c = search needs
 
@@ -98,6 +101,10 @@ returns-9 : tie.Need-returns-9
 unfolding unitReply UnitNext
 returns-9 c = turned-by (not-false _ (c .before .before .if1 .left)) (c .enum-told4 .given .1) gives-nothing
 
+returns-10 : tie.Need-returns-10
+unfolding unitReply UnitNext
+returns-10 c = turned-by (not-false _ (c .before .before .if1 .left)) (c .enum-told5 .given .1) gives-nothing
+
 pub turn-spec : {M : Type 1} → statement M
 turn-spec =
     tie.close
@@ -118,6 +125,7 @@ turn-spec =
     enum-told-2
     enum-told-3
     enum-told-4
+    enum-told-5
     same-length-2
     returns-2
     same-length-3
@@ -129,4 +137,5 @@ turn-spec =
     returns-6
     returns-7
     returns-8
-    returns-9)
+    returns-9
+    returns-10)

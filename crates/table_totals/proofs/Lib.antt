@@ -1,0 +1,4 @@
+pub mod FractionLaws
+mod TallyLaws
+pub mod MeasureLaws
+mod AnswerLaws

@@ -1,0 +1,4 @@
+pub mod UniqueLaws
+pub mod AnswerLaws
+pub mod SizeLaws
+mod Examples
