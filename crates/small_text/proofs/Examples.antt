@@ -7,7 +7,6 @@ use native.Mathlib.Omega.{arith}
 use Rattle.words.proofs.Tests.{nowhere}
 use Rattle.text.specs.Text.{ascii, digits, decimal}
 use Rattle.unit.specs.declared.Answer.the-variants.{Done}
-use Rattle.unit.specs.declared.Outcome.{Outcome}
 use Rattle.unit.specs.Calls.{unitOf}
 use Rattle.command_table.specs.declared.Verb.the-variants as Verb
 use Rattle.command.specs.declared.Request.{Request}

@@ -2,11 +2,10 @@
 use Prim.Native.Nat.{ℕ, _≤_, _<_}
 use mathlib.Core.Path.{_≡_, refl, sym, ap, _∙_, subst}
 use native.Mathlib.Omega.{arith}
-use lib.ListN.{length}
 use Rattle.unit.specs.declared.Outcome.{Outcome}
 use Rattle.unit.specs.Table.{Table}
 use Rattle.unit.specs.Calls.{unitOf}
-use Rattle.table_numbers.specs.Tables.{tableCount, smallTable, numberOfTable, allTables, smallTableOf}
+use Rattle.table_numbers.specs.Tables.{tableCount, smallTable, numberOfTable}
 use Rattle.table_numbers.specs.Claims.{HasSize, StandsAt, AllTables, EachOnce, Makes, EachMade}
 use Rattle.table_numbers.proofs.NumberLaws.{small-mark, number-of-small, number-below, number-bit, small-of-number}
 use Rattle.table_numbers.proofs.ListLaws.{tables-length, tables-at}

@@ -1,12 +1,12 @@
 -- The list of all tables of a size: its length, and the table at each place. Assumes nothing.
-use Prim.Native.Nat.{ℕ, zero, suc, _≤_, _<_}
-use mathlib.Core.Path.{_≡_, refl, sym, ap, _∙_}
+use Prim.Native.Nat.{ℕ, zero, suc, _<_}
+use mathlib.Core.Path.{_≡_, refl, ap, _∙_}
 use mathlib.Core.List.{List, [], _∷_, map}
 use native.Mathlib.Omega.{arith}
 use lib.ListN.{length, getD, length-map}
 use Rattle.words.specs.Below.{listBelow}
 use Rattle.words.proofs.ListLaws.{list-length, list-at}
-use Rattle.unit.specs.Table.{Table, empty}
+use Rattle.unit.specs.Table.{Table}
 use Rattle.table_numbers.specs.Tables.{tableCount, smallTable, allTables, nthTable}
 
 pub tables-length : (s c : ℕ) → length (allTables s c) ≡ tableCount s c

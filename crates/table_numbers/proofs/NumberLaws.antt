@@ -1,13 +1,12 @@
 -- Numbers and small tables correspond one to one. Assumes nothing.
-use Prim.Native.Nat.{ℕ, _+_, _-_, _*_, _/_, _%_, _^_, _≤_, _<_}
+use Prim.Native.Nat.{ℕ, _+_, _-_, _*_, _/_, _%_, _≤_, _<_}
 use mathlib.Core.Path.{_≡_, refl, sym, ap, _∙_}
-use mathlib.Core.Bool.{Bool, true, false, _&&_}
-use native.Mathlib.Nat.{mul-le-mul-right, suc-mul, add-mul, mul-add-div-right, mul-add-mod-self-right, div-eq-of-lt, mod-eq-of-lt, mod-lt, div-lt-iff-lt-mul, div-add-mod'}
+use mathlib.Core.Bool.{Bool, true}
+use native.Mathlib.Nat.{mul-le-mul-right, add-mul, mul-add-div-right, mul-add-mod-self-right, div-eq-of-lt, mod-eq-of-lt, mod-lt, div-lt-iff-lt-mul, div-add-mod'}
 use native.Mathlib.Omega.{arith}
 use lib.Dec.{eqb}
 use borrow.Author.Tests.{eq-eqb, eqb-true}
 use Rattle.words.specs.Bits.{isSet}
-use Rattle.words.specs.Below.{wordBelow}
 use Rattle.words.proofs.Tests.{and-left, and-right, and-true, same-test}
 use Rattle.words.proofs.BitLaws.{same-bits}
 use Rattle.words.proofs.BelowLaws.{word-lt, word-set}

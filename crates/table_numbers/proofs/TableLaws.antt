@@ -5,10 +5,10 @@ use mathlib.Core.Bool.{Bool, true, false, cond, _&&_}
 use native.Mathlib.Omega.{arith}
 use lib.Dec.{ltb}
 use borrow.Author.Tests.{ltb-true, lt-ltb, le-ltb}
-use Rattle.words.proofs.Tests.{and-left, and-right, and-true}
+use Rattle.words.proofs.Tests.{and-left, and-right}
 use Rattle.unit.specs.declared.Refusal.the-variants.{NoSmallTable}
 use Rattle.unit.specs.declared.Answer.the-variants.{Done, Refused}
-use Rattle.unit.specs.Unit.{inside, soundOf, marked}
+use Rattle.unit.specs.Unit.{soundOf, marked}
 use Rattle.unit.specs.Calls.{check, tagAnswer, outcome, blank, unitOf}
 use Rattle.unit.proofs.Laws.{check-ok}
 use Rattle.unit.proofs.TableLaws.{InCounts, unit-of-table, unit-of-sound}

@@ -1,6 +1,6 @@
 -- What the call answers. Assumes nothing.
-use Prim.Native.Nat.{ℕ, _*_, _^_, _≤_, _<_}
-use mathlib.Core.Path.{_≡_, refl, sym, ap, _∙_}
+use Prim.Native.Nat.{ℕ, _*_, _≤_, _<_}
+use mathlib.Core.Path.{_≡_, refl, sym, _∙_}
 use mathlib.Core.Bool.{Bool, true, false, cond}
 use mathlib.Core.List.{List}
 use native.Mathlib.Omega.{arith}
@@ -11,7 +11,6 @@ use Rattle.unit.specs.declared.Refusal.{Refusal}
 use Rattle.unit.specs.declared.Refusal.the-variants.{NoSmallTable, ShortWork}
 use Rattle.unit.specs.declared.Answer.the-variants.{Done, Refused}
 use Rattle.unit.proofs.Laws.{never-done}
-use Rattle.cycles.specs.Greedy.{WorkAfter}
 use Rattle.table_numbers.specs.Tables.{smallSize, tableCount, countAnswer}
 use Rattle.table_totals.specs.declared.SizeTotals.{SizeTotals}
 use Rattle.table_totals.specs.declared.Totalled.{Totalled}

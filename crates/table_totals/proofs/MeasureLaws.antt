@@ -1,16 +1,14 @@
 -- The search of a small table is never refused, and finds its best cycle. Assumes nothing.
 use Prim.Native.Nat.{ℕ, _+_, _-_, _*_, _^_, _≤_, _<_}
-use mathlib.Core.Path.{_≡_, refl, sym, ap, _∙_, subst}
+use mathlib.Core.Path.{_≡_, sym, ap, _∙_, subst}
 use mathlib.Core.Bool.{true, cond}
 use mathlib.Core.List.{List}
-use native.Mathlib.Nat.{lt-of-lt-of-le}
 use native.Mathlib.Decide.{decLt}
 use native.Mathlib.Omega.{arith}
 use lib.Dec.{leb, eqb}
 use lib.ListN.{length, getD}
 use lib.Pow.{pow-mono}
 use borrow.Author.Tests.{le-leb}
-use Rattle.words.specs.Bits.{bit}
 use Rattle.unit.specs.declared.FunctionUnit.{FunctionUnit}
 use Rattle.unit.specs.declared.Outcome.{Outcome}
 use Rattle.unit.specs.declared.Refusal.{Refusal}
@@ -26,7 +24,7 @@ use Rattle.collision.specs.Meaning.{Bounded}
 use Rattle.collision.specs.Vector.{vectorWord, boundOf}
 use Rattle.collision.proofs.VectorLaws.{marked-bounded, row-lt}
 use Rattle.diagram.specs.Diagram.{width}
-use Rattle.diagram.specs.Answers.{statesOf, fewStates}
+use Rattle.diagram.specs.Answers.{statesOf}
 use Rattle.diagram.proofs.Vectors.{vector-is}
 use Rattle.diagram.proofs.WidthLaws.{width-top}
 use Rattle.diagram.proofs.Listing.{states-distinct}
@@ -36,7 +34,6 @@ use Rattle.planner.specs.Plans.{Best, searchAnswer, SearchPromise}
 use Rattle.table_numbers.specs.Tables.{smallSize, tableCount, smallTable, allTables, nthTable, smallTableOf}
 use Rattle.table_numbers.specs.Inner.{Sized}
 use Rattle.table_numbers.proofs.NumberLaws.{small-mark}
-use Rattle.table_numbers.proofs.FillLaws.{sized}
 use Rattle.table_numbers.proofs.ListLaws.{tables-at}
 use Rattle.table_numbers.proofs.TableLaws.{table-made, table-marked, table-tag}
 use Rattle.table_totals.specs.Totals.{totalsAnswer}

@@ -8,7 +8,7 @@ use native.Mathlib.Nat.{le-refl, le-of-eq, eq-or-lt-of-le, mul-le-mul}
 use native.Mathlib.Decide.{decLt}
 use native.Mathlib.Omega.{arith}
 use lib.Dec.{eqb}
-use lib.ListN.{length, getD}
+use lib.ListN.{length}
 use lib.Pow.{pow-mono}
 use borrow.Author.Tests.{eq-eqb, ne-eqb}
 use Rattle.words.specs.Below.{countBelow}
@@ -16,13 +16,12 @@ use Rattle.words.proofs.BelowLaws.{count-same, count-more, count-most}
 use Rattle.collision.specs.Pipeline.{total}
 use Rattle.unit.specs.Table.{Table}
 use Rattle.planner.specs.Plans.{Best}
-use Rattle.table_numbers.specs.Tables.{tableCount, nthTable}
+use Rattle.table_numbers.specs.Tables.{nthTable}
 use Rattle.table_numbers.proofs.FillLaws.{sized, few-places}
-use Rattle.table_totals.specs.declared.SizeTotals.{SizeTotals}
 use Rattle.table_totals.specs.declared.Average.{Average}
 use Rattle.table_totals.specs.declared.Tally.{Tally}
 use Rattle.table_totals.specs.Totals.{atBound, TotalsOver}
-use Rattle.table_totals.specs.Inner.{Prepared, Used, Fitting, Measured, TalliedBy, Tallied, Added, Reduced}
+use Rattle.table_totals.specs.Inner.{Prepared, Used, Measured, TalliedBy, Tallied, Added, Reduced}
 use Rattle.table_totals.proofs.FractionLaws.{at-most, below, below-most}
 
 abbrev first-tally : Average → Tally

@@ -1,10 +1,8 @@
 -- The call answers one thing, and is refused as a search of each of its tables is. Assumes nothing.
-use Prim.Native.Nat.{ℕ, zero, suc, _+_, _*_, _≤_, _<_}
+use Prim.Native.Nat.{ℕ, zero, suc, _*_, _≤_}
 use mathlib.Core.Path.{_≡_, refl, sym, ap, _∙_}
-use mathlib.Core.Bool.{true, false}
 use native.Mathlib.Nat.{mul-zero, zero-mul, suc-mul, mul-assoc, mul-left-comm}
 use native.Mathlib.Omega.{arith}
-use Rattle.unit.specs.declared.FunctionUnit.{FunctionUnit}
 use Rattle.unit.specs.declared.Outcome.{Outcome}
 use Rattle.unit.specs.declared.Answer.{Answer}
 use Rattle.unit.specs.declared.Answer.the-variants.{Done, Refused}
@@ -13,7 +11,7 @@ use Rattle.table_numbers.proofs.FillLaws.{sized}
 use Rattle.table_numbers.proofs.TableLaws.{table-made}
 use Rattle.table_totals.specs.declared.Totalled.{Totalled}
 use Rattle.table_totals.specs.declared.Totalled.the-variants as Totalled
-use Rattle.table_totals.specs.Totals.{Lowest, totalsAnswer}
+use Rattle.table_totals.specs.Totals.{totalsAnswer}
 use Rattle.table_totals.proofs.MeasureLaws.{search-answer}
 use Rattle.total_claims.specs.Claims.{OneAnswer, AsSearch, Coprime}
 use Rattle.total_claims.proofs.UniqueLaws.{one-totals}

@@ -1,28 +1,27 @@
 -- What is not so: wrong totals, wrong answers, tables that are none of a size, and the claims beyond their conditions. Assumes nothing.
-use Prim.Native.Nat.{ℕ, zero, suc, _*_, _%_, _≤_, _<_}
+use Prim.Native.Nat.{ℕ, zero, suc, _*_, _%_, _≤_}
 use mathlib.Core.Path.{_≡_, refl, sym, ap, _∙_}
-use mathlib.Core.Bool.{Bool, true, false, _&&_}
+use mathlib.Core.Bool.{_&&_}
 use mathlib.Core.List.{List, [], _∷_}
 use native.Mathlib.Nat.{mul-mod-left}
 use native.Mathlib.Omega.{arith}
 use lib.Dec.{eqb}
-use lib.ListN.{length}
 use Rattle.unit.specs.declared.Refusal.the-variants.{NoSmallTable, ShortWork}
-use Rattle.unit.specs.declared.Answer.{Answer}
-use Rattle.unit.specs.declared.Answer.the-variants.{Done, Refused}
+use Rattle.unit.specs.declared.Answer.the-variants.{Refused}
 use Rattle.unit.specs.Table.{Table}
 use Rattle.unit.specs.Numbers.{numberIn}
 use Rattle.unit.specs.Unit.{soundOf}
 use Rattle.unit.specs.Calls.{tagAnswer}
+use Rattle.unit.proofs.Laws.{never-done}
 use Rattle.planner.specs.Plans.{Best, searchAnswer}
 use Rattle.planner.proofs.BestLaws.{same-average}
-use Rattle.table_numbers.specs.Tables.{smallTable, allTables, nthTable, smallTableAnswer, smallTableOf}
-use Rattle.table_numbers.specs.Claims.{HasSize, StandsAt, Makes}
+use Rattle.table_numbers.specs.Tables.{smallTable, allTables, smallTableAnswer, smallTableOf}
+use Rattle.table_numbers.specs.Claims.{StandsAt, Makes}
 use Rattle.table_numbers.proofs.Claims.{number-place, each-once}
 use Rattle.table_totals.specs.declared.SizeTotals.{SizeTotals}
 use Rattle.table_totals.specs.declared.Totalled.{Totalled}
 use Rattle.table_totals.specs.declared.Totalled.the-variants as Totalled
-use Rattle.table_totals.specs.Totals.{Lowest, TotalsBy, TotalsOf, totalsAnswer, TotalsPromise}
+use Rattle.table_totals.specs.Totals.{Lowest, TotalsBy, TotalsOf, totalsAnswer, AnswersTotals, TotalsPromise}
 use Rattle.total_claims.specs.Examples.{totalling}
 use Rattle.total_claims.proofs.SizeLaws.{sized11, vector11, best-one, one-column, two-columns}
 
@@ -102,7 +101,23 @@ pub not-made : (T : Table) → Makes 1 1 T (smallTableOf 1 1 2) → ⊥
 unfolding smallTableOf smallTableAnswer
 not-made T m = omega (arith, ap numberIn (m .answer))
 
--- AnswersTotals
+-- Answers
+
+-- what one column is answered, with words enough and with none
+pub answers-one-column : AnswersTotals 1 1 16000 (Totalled.Value (totalling 2 2 1 1 0))
+unfolding totalsAnswer
+answers-one-column = record { refused = λ why e. never-done (sym e); found = λ e. record { totals = totalling 2 2 1 1 0; of-size = one-column .are; told = refl } }
+
+pub answers-short : AnswersTotals 1 1 0 (Totalled.Refused ShortWork)
+unfolding totalsAnswer
+answers-short = record { refused = λ why e. cc; found = λ e. never-done e }
+
+-- these are two answers
+pub not-one-answer : ((a b : Totalled) → AnswersTotals 1 1 0 a → AnswersTotals 1 1 16000 b → a ≡ b) → ⊥
+not-one-answer same =
+    let e : Totalled.Refused ShortWork ≡ Totalled.Value (totalling 2 2 1 1 0) = same _ _ answers-short answers-one-column in
+    let z : _≡_ {A = ℕ} 0 1 = cc in
+    omega arith
 
 -- three segments are 22, and not 5, whatever the words
 pub not-5 : TotalsPromise 3 1 [] [] (Totalled.Refused ShortWork) → ⊥

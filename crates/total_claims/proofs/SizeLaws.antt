@@ -1,5 +1,5 @@
 -- The totals of the two smallest sizes. Assumes nothing.
-use Prim.Native.Nat.{ℕ, zero, suc, _+_, _*_, _≤_, _<_}
+use Prim.Native.Nat.{ℕ, zero, suc, _*_, _≤_, _<_}
 use mathlib.Core.Path.{_≡_, refl, sym, ap, _∙_, subst}
 use mathlib.Core.List.{List, [], _∷_}
 use native.Mathlib.Omega.{arith}
@@ -20,7 +20,7 @@ use Rattle.table_numbers.specs.Inner.{Sized}
 use Rattle.table_numbers.proofs.ListLaws.{tables-length, tables-at}
 use Rattle.table_totals.specs.Totals.{Lowest, BestCycles, atBound, TotalsOf}
 use Rattle.table_totals.proofs.MeasureLaws.{bounded}
-use Rattle.total_claims.specs.Examples.{TotalsAre, totalling, OneColumn, TwoColumns}
+use Rattle.total_claims.specs.Examples.{totalling, OneColumn, TwoColumns}
 use Rattle.total_claims.proofs.UniqueLaws.{one-totals}
 
 -- The list of a size, by its numbers

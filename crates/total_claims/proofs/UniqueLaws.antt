@@ -1,12 +1,11 @@
 -- A list of tables has one set of totals, whichever best cycles are taken. Assumes nothing.
 use Prim.Native.Nat.{ℕ, _*_, _≤_, _<_}
-use mathlib.Core.Path.{_≡_, refl, sym, ap, _∙_}
-use mathlib.Core.Bool.{Bool, true}
+use mathlib.Core.Path.{_≡_, sym, ap, _∙_}
+use mathlib.Core.Bool.{true}
 use mathlib.Core.List.{List}
 use native.Mathlib.Nat.{le-antisymm, le-of-eq}
 use native.Mathlib.Decide.{decLt}
 use native.Mathlib.Omega.{arith}
-use lib.Dec.{eqb}
 use lib.ListN.{length}
 use borrow.Author.Tests.{eq-eqb, eqb-true}
 use Rattle.words.proofs.Tests.{same-test}
@@ -14,7 +13,6 @@ use Rattle.words.proofs.BelowLaws.{count-same}
 use Rattle.unit.specs.Table.{Table}
 use Rattle.collision.specs.Pipeline.{total}
 use Rattle.collision.specs.Vector.{boundOf}
-use Rattle.planner.specs.Plans.{Best}
 use Rattle.planner.proofs.BestLaws.{same-average}
 use Rattle.table_numbers.specs.Tables.{nthTable}
 use Rattle.table_totals.specs.declared.SizeTotals.{SizeTotals}

@@ -1,5 +1,5 @@
 -- `table_totals::add_table` meets its contract: the larger average is kept, and the earlier of two equal ones. Assumes nothing.
-use Prim.Native.Nat.{ℕ, _*_, _≤_, _<_}
+use Prim.Native.Nat.{_*_, _≤_, _<_}
 use mathlib.Core.Path.{refl}
 use mir.Syntax.{w32}
 use mir.Val.{Fits}

@@ -1,5 +1,4 @@
 -- `table_totals::measure` meets its contract: the table is accepted and so is its search. Assumes nothing.
-use mathlib.Core.Path.{_≡_, sym, ap, _∙_, subst}
 use Prim.Native.Nat.{_^_, _<_}
 use native.Mathlib.Omega.{arith}
 use borrow.Author.Needs.{needs}

@@ -1,8 +1,6 @@
 -- `table_totals::reduce` meets its contract. The loop's invariant: no denominator passed makes S × q a multiple of K; K itself does. Assumes nothing.
-use Prim.Native.Nat.{ℕ, _+_, _-_, _*_, _%_, _≤_, _<_}
-use mathlib.Core.Path.{_≡_}
+use Prim.Native.Nat.{_-_, _*_, _≤_}
 use native.Mathlib.Omega.{arith}
-use borrow.Author.Needs.{needs}
 use Rattle.table_totals.proofs.FractionLaws.{Passed, passed-start, passed-more, parts-fit, reduced}
 use Rattle.table_totals.proofs.reduce.Statement.{statement}
 use Rattle.table_totals.proofs.reduce.Tie as tie

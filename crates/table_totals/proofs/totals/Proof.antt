@@ -1,5 +1,4 @@
 -- `table_totals::totals` meets its contract: the size, the working words, then the totals. Assumes nothing.
-use mathlib.Core.Path.{sym, _∙_}
 use borrow.Author.Needs.{needs}
 use Rattle.table_totals.proofs.AnswerLaws.{promise-size, promise-short, promise-done, ready}
 use Rattle.table_totals.proofs.totals.Statement.{statement}
