@@ -61,7 +61,8 @@ use std::process::{exit, Command, Stdio};
 use std::thread;
 use std::time::Duration;
 
-const LIMIT: Duration = Duration::from_secs(20);
+/// A program that has not ended by then never does, also where it runs beside the proofs.
+const LIMIT: Duration = Duration::from_secs(240);
 /// How many units are made at random, and how many damaged files.
 const UNITS: u64 = 200;
 const DAMAGED: u64 = 80;
