@@ -39,6 +39,8 @@ mod record_files;
 mod records;
 mod routes;
 mod sheet;
+mod small;
+mod small_met;
 mod tally;
 mod units;
 
