@@ -8,31 +8,31 @@ use Rattle.player.specs.Play.{Played}
 use Rattle.listing.specs.declared.Listed.{Listed}
 use Rattle.listing.specs.declared.Listed.TheVariants as Listed
 use Rattle.listing.specs.Listing.{FileListed}
-use Rattle.c_interface.specs.Listing.{listedNumber, listedLength, ListingHanded}
+use Rattle.c_interface.specs.Listing.{listed_number, listed_length, ListingHanded}
 
-pub played-as : {f s c f₁ s₁ c₁ : ℕ} {calls before after work words : List ℕ} {n : ℕ} → f ≡ f₁ → s ≡ s₁ → c ≡ c₁
+pub played_as : {f s c f₁ s₁ c₁ : ℕ} {calls before after work words : List ℕ} {n : ℕ} → f ≡ f₁ → s ≡ s₁ → c ≡ c₁
     → Played f s c calls before after work words n → Played f₁ s₁ c₁ calls before after work words n
-played-as {f} {s} {c} {f₁} {s₁} {c₁} {calls} {before} {after} {work} {words} {n} e₁ e₂ e₃ p =
+played_as {f} {s} {c} {f₁} {s₁} {c₁} {calls} {before} {after} {work} {words} {n} e₁ e₂ e₃ p =
     subst (λ (x : ℕ). Played x s₁ c₁ calls before after work words n) e₁
     (subst (λ (x : ℕ). Played f x c₁ calls before after work words n) e₂
     (subst (λ (x : ℕ). Played f s x calls before after work words n) e₃ p))
 
 -- A listing's answer as numbers
 
-pub listing-handed : {file out after : List ℕ} {size n : ℕ} {listed : Listed} → FileListed file out after listed → listed ≡ Listed.Length n
+pub listing_handed : {file out after : List ℕ} {size n : ℕ} {listed : Listed} → FileListed file out after listed → listed ≡ Listed.Length n
     → ListingHanded file out after size n 0
-listing-handed {size = size} {listed = listed} p e = record {
+listing_handed {size = size} {listed = listed} p e = record {
   listed = listed;
   promise = p;
-  says = sym (ap listedNumber e);
-  length = sym (ap (λ a. listedLength a size) e);
+  says = sym (ap listed_number e);
+  length = sym (ap (λ a. listed_length a size) e);
 }
 
-pub listing-refused : {file out after : List ℕ} {size r : ℕ} {why : Refusal} {listed : Listed} → FileListed file out after listed
+pub listing_refused : {file out after : List ℕ} {size r : ℕ} {why : Refusal} {listed : Listed} → FileListed file out after listed
     → listed ≡ Listed.Refused why → r ≡ number_of why → ListingHanded file out after size size r
-listing-refused {size = size} {listed = listed} p e c = record {
+listing_refused {size = size} {listed = listed} p e c = record {
   listed = listed;
   promise = p;
-  says = c ∙ sym (ap listedNumber e);
-  length = sym (ap (λ a. listedLength a size) e);
+  says = c ∙ sym (ap listed_number e);
+  length = sym (ap (λ a. listed_length a size) e);
 }

@@ -8,8 +8,8 @@ use borrow.Author.Tests.{leb-true, leb-false}
 use Rattle.words.proofs.Tests.{nowhere}
 use Rattle.unit.specs.Unit.{inside}
 use Rattle.unit.proofs.Laws.{within}
-use Rattle.callers.specs.Turn.{round, firstAfter, nextTurn}
-use Rattle.callers.proofs.RoundLaws.{Round, is-round, round-inside}
+use Rattle.callers.specs.Turn.{round, first_after, next_turn}
+use Rattle.callers.proofs.RoundLaws.{Round, is_round, round-inside}
 use Rattle.callers.proofs.RoundLaws.Round.{over, on}
 
 -- how many places caller j is after t, going round: 0 to C - 1
@@ -20,9 +20,9 @@ data Ahead (C t j a : ℕ) : Type 0 where
   here : t ≤ j → t + a ≡ j → Ahead C t j a
   past : j < t → t + a ≡ j + C → Ahead C t j a
 
-is-ahead : (C t j : ℕ) → t ≤ C → Ahead C t j (ahead C t j)
+is_ahead : (C t j : ℕ) → t ≤ C → Ahead C t j (ahead C t j)
 unfolding ahead
-is-ahead C t j h = go (leb t j) refl
+is_ahead C t j h = go (leb t j) refl
   where
     go : (b : Bool) → leb t j ≡ b → Ahead C t j (cond b (j - t) (j + C - t))
     go true e = here (leb-true t j e) (omega (arith, leb-true t j e))
@@ -30,14 +30,14 @@ is-ahead C t j h = go (leb t j) refl
 
 module _ (C : ℕ) where
   pub ahead-lt : (t j : ℕ) → inside t C ≡ true → inside j C ≡ true → ahead C t j < C
-  ahead-lt t j i k = let w = within t C i in let v = within j C k in go (is-ahead C t j w.most) w.least w.most v.least v.most
+  ahead-lt t j i k = let w = within t C i in let v = within j C k in go (is_ahead C t j w.most) w.least w.most v.least v.most
     where
       go : {a : ℕ} → Ahead C t j a → 1 ≤ t → t ≤ C → 1 ≤ j → j ≤ C → a < C
       go (here e f) a b c d = omega arith
       go (past e f) a b c d = omega arith
 
   pub ahead-self : (t : ℕ) → inside t C ≡ true → ahead C t t ≡ 0
-  ahead-self t i = let w = within t C i in go (is-ahead C t t w.most)
+  ahead-self t i = let w = within t C i in go (is_ahead C t t w.most)
     where
       go : {a : ℕ} → Ahead C t t a → a ≡ 0
       go (here e f) = omega arith
@@ -47,7 +47,7 @@ module _ (C : ℕ) where
   pub ahead-same : (t j k : ℕ) → inside t C ≡ true → inside j C ≡ true → inside k C ≡ true → ahead C t j ≡ ahead C t k → j ≡ k
   ahead-same t j k i x y e =
       let w = within t C i in let v = within j C x in let z = within k C y in
-      go (is-ahead C t j w.most) (is-ahead C t k w.most) e v.least v.most z.least z.most
+      go (is_ahead C t j w.most) (is_ahead C t k w.most) e v.least v.most z.least z.most
     where
       go : {a b : ℕ} → Ahead C t j a → Ahead C t k b → a ≡ b → 1 ≤ j → j ≤ C → 1 ≤ k → k ≤ C → j ≡ k
       go (here e f) (here g h) s p q r o = omega arith
@@ -59,7 +59,7 @@ module _ (C : ℕ) where
   pub ahead_step : (t j : ℕ) → inside t C ≡ true → inside j C ≡ true → (t ≡ j → ⊥) → ahead C (round C t) j + 1 ≡ ahead C t j
   ahead_step t j i k n =
       let w = within t C i in let v = within j C k in let r = within (round C t) C (round-inside C t i) in
-      go (is-round C t w.most) (is-ahead C t j w.most) (is-ahead C (round C t) j r.most) w.least w.most v.least v.most n
+      go (is_round C t w.most) (is_ahead C t j w.most) (is_ahead C (round C t) j r.most) w.least w.most v.least v.most n
     where
       go : {r a b : ℕ} → Round C t r → Ahead C t j a → Ahead C r j b → 1 ≤ t → t ≤ C → 1 ≤ j → j ≤ C → (t ≡ j → ⊥) → b + 1 ≡ a
       go (over x y) (here e f) (here g h) p q r o n = absurd (n (omega arith))
@@ -75,7 +75,7 @@ module _ (C : ℕ) where
   pub ahead-around : (t : ℕ) → inside t C ≡ true → ahead C (round C t) t + 1 ≡ C
   ahead-around t i =
       let w = within t C i in let r = within (round C t) C (round-inside C t i) in
-      go (is-round C t w.most) (is-ahead C (round C t) t r.most) w.least w.most
+      go (is_round C t w.most) (is_ahead C (round C t) t r.most) w.least w.most
     where
       go : {r b : ℕ} → Round C t r → Ahead C r t b → 1 ≤ t → t ≤ C → b + 1 ≡ C
       go (over x y) (here g h) p q = omega arith
@@ -92,8 +92,8 @@ module _ (C : ℕ) where
     pub others : (k : ℕ) → inside k C ≡ true → ahead C from j ≤ ahead C from k → ahead C r k + steps ≡ ahead C from k
 
   module _ (work : ℕ → Bool) (j : ℕ) (there : inside j C ≡ true) (works : work j ≡ true) where
-    goes_first : (k t stay : ℕ) → inside t C ≡ true → ahead C (round C t) j < k → Goes work (round C t) j (firstAfter k C work t stay)
-    unfolding firstAfter
+    goes_first : (k t stay : ℕ) → inside t C ≡ true → ahead C (round C t) j < k → Goes work (round C t) j (first_after k C work t stay)
+    unfolding first_after
     goes_first zero t stay i h = absurd (omega arith)
     goes_first (suc k) t stay i h =
         go (work (round C t)) refl
@@ -101,7 +101,7 @@ module _ (C : ℕ) where
         let s = ahead_step (round C t) j (round-inside C t i) there n in
         goes_first k (round C t) stay (round-inside C t i) (omega arith))
       where
-        nearer : Goes work (round C (round C t)) j (firstAfter k C work (round C t) stay) → (round C t ≡ j → ⊥) → Goes work (round C t) j (firstAfter k C work (round C t) stay)
+        nearer : Goes work (round C (round C t)) j (first_after k C work (round C t) stay) → (round C t ≡ j → ⊥) → Goes work (round C t) j (first_after k C work (round C t) stay)
         nearer g n =
             let s = ahead_step (round C t) j (round-inside C t i) there n in
             record {
@@ -117,12 +117,12 @@ module _ (C : ℕ) where
                 let z : ahead C (round C t) m ≡ 0 = subst (λ (y : ℕ). ahead C (round C t) y ≡ 0) e (ahead-self (round C t) (round-inside C t i)) in
                 omega arith
 
-        go : (b : Bool) → work (round C t) ≡ b → ((round C t ≡ j → ⊥) → Goes work (round C (round C t)) j (firstAfter k C work (round C t) stay))
-            → Goes work (round C t) j (cond b (round C t) (firstAfter k C work (round C t) stay))
+        go : (b : Bool) → work (round C t) ≡ b → ((round C t ≡ j → ⊥) → Goes work (round C (round C t)) j (first_after k C work (round C t) stay))
+            → Goes work (round C t) j (cond b (round C t) (first_after k C work (round C t) stay))
         go true e r = record { there = round-inside C t i; works = e; steps = 0; near = omega arith; others = λ m x l. omega arith }
         go false e r =
             let n : round C t ≡ j → ⊥ = λ (q : round C t ≡ j). nowhere (sym e ∙ ap work q ∙ works) in
             nearer (r n) n
 
-    pub goes-next : (t : ℕ) → inside t C ≡ true → Goes work (round C t) j (nextTurn C work t)
-    goes-next t i = goes_first C t t i (ahead-lt (round C t) j (round-inside C t i) there)
+    pub goes_next : (t : ℕ) → inside t C ≡ true → Goes work (round C t) j (next_turn C work t)
+    goes_next t i = goes_first C t t i (ahead-lt (round C t) j (round-inside C t i) there)

@@ -9,42 +9,42 @@ use native.Mathlib.Decide.{dec_lt}
 use lib.Dec.{eqb}
 use lib.ListN.{length, take, set, replicate, length-set, length-take, get_or-replicate, get_or-eq_default}
 use borrow.Author.Tests.{eqb-true, eqb-false}
-use Rattle.words.proofs.Tests.{by-test, and_left, and_right, and-true}
+use Rattle.words.proofs.Tests.{by_test, and_left, and_right, and_true}
 use Rattle.unit.specs.declared.FunctionUnit.{FunctionUnit}
 use Rattle.unit.specs.declared.Answer.{Answer}
 use Rattle.unit.specs.declared.Answer.TheVariants.{Done, Refused}
-use Rattle.unit.specs.Unit.{inside, soundOf}
+use Rattle.unit.specs.Unit.{inside, sound_of}
 use Rattle.unit.proofs.Laws.{within}
 use Rattle.queue.specs.declared.Waiting.{Waiting}
 use Rattle.queue.specs.declared.Passed.{Passed}
 use Rattle.queue.specs.declared.Passed.TheVariants as Passed
-use Rattle.queue.specs.Line.{tagsInside, forward}
-use Rattle.queue.proofs.LineLaws.{tags-rest, tags-joined, set_line, forward-length, forward-line}
-use Rattle.queue_claims.proofs.PassLaws.{Started, was-started}
-use Rattle.callers.specs.Queues.{room, queueOf, withQueue, count_of, withCount, waitingOf}
-use Rattle.callers.specs.Calls.{one_of, arrivalOf, unit_at, passed_at}
-use Rattle.caller_claims.specs.Runs.{Port, Call, Action, line_of, after, arrivedAt, done, doneAll, emptyPort, brought}
+use Rattle.queue.specs.Line.{tags_inside, forward}
+use Rattle.queue.proofs.LineLaws.{tags_rest, tags_joined, set_line, forward_length, forward_line}
+use Rattle.queue_claims.proofs.PassLaws.{Started, was_started}
+use Rattle.callers.specs.Queues.{room, queue_of, with_queue, count_of, with_count, waiting_of}
+use Rattle.callers.specs.Calls.{one_of, arrival_of, unit_at, passed_at}
+use Rattle.caller_claims.specs.Runs.{Port, Call, Action, line_of, after, arrived_at, done, done_all, empty_port, brought}
 use Rattle.caller_claims.specs.Runs.Call.{arrival, unit}
 use Rattle.caller_claims.specs.Runs.Action.{event, call}
 use Rattle.caller_claims.proofs.PartLaws.{count_same, count-other, list_length, line_same, line_other}
-use Rattle.caller_claims.specs.Tasks.{callerIn, passedIn}
-use Rattle.caller_claims.proofs.PortLaws.{caller-inside, arrivedBy, arrival-port, arrival-refused, leftBy, unit-port, unit-refused, unit-idle}
+use Rattle.caller_claims.specs.Tasks.{caller_in, passed_in}
+use Rattle.caller_claims.proofs.PortLaws.{caller_inside, arrived_by, arrival_port, arrival-refused, left_by, unit_port, unit-refused, unit-idle}
 use Rattle.caller_claims.proofs.AcceptedLaws.{Arrives, arrives, Passes, passes}
 
 -- the queues and counts of C callers
 pub record Held (u : FunctionUnit) (C : ℕ) (list : List Waiting) (counts : List ℕ) : Type 0 where
   pub four : length counts ≡ 4
   pub few : (i : ℕ) → inside i C ≡ true → count_of counts i ≤ room
-  pub tags : (i : ℕ) → inside i C ≡ true → tagsInside u.functions (waitingOf list counts i) ≡ true
-  pub sound : (i : ℕ) → 1 ≤ count_of counts i → soundOf u ≡ true
+  pub tags : (i : ℕ) → inside i C ≡ true → tags_inside u.functions (waiting_of list counts i) ≡ true
+  pub sound : (i : ℕ) → 1 ≤ count_of counts i → sound_of u ≡ true
 
 -- A caller of 1 to 4, whose queue is all in the list
 pub record Whole (C i : ℕ) (list : List Waiting) (counts : List ℕ) : Type 0 where
   pub here : inside i C ≡ true
   pub counted : i - 1 < length counts
-  pub all : room ≤ length (queueOf list i)
+  pub all : room ≤ length (queue_of list i)
 
-whole : {C i : ℕ} {list : List Waiting} {counts : List ℕ} → one_of C i ≡ true → length counts ≡ 4 → room ≤ length (queueOf list i) → Whole C i list counts
+whole : {C i : ℕ} {list : List Waiting} {counts : List ℕ} → one_of C i ≡ true → length counts ≡ 4 → room ≤ length (queue_of list i) → Whole C i list counts
 whole {C} {i} {list} {counts} o four all =
     let here = and_right (inside C 4) (inside i C) o in
     record {
@@ -55,14 +55,14 @@ whole {C} {i} {list} {counts} o four all =
 
 module _ (u : FunctionUnit) (C : ℕ) (list : List Waiting) (counts : List ℕ) where
   -- it may have another queue and count, and all else is as before
-  held-changed : Held u C list counts → (c : ℕ) → Whole C c list counts → (q : List Waiting) → length q ≡ length (queueOf list c) → (n : ℕ) → n ≤ room
-      → tagsInside u.functions (take n q) ≡ true → soundOf u ≡ true → Held u C (withQueue list c q) (withCount counts c n)
+  held-changed : Held u C list counts → (c : ℕ) → Whole C c list counts → (q : List Waiting) → length q ≡ length (queue_of list c) → (n : ℕ) → n ≤ room
+      → tags_inside u.functions (take n q) ≡ true → sound_of u ≡ true → Held u C (with_queue list c q) (with_count counts c n)
   held-changed h c o q same n m t s = record {
     four = length-set counts (c - 1) n ∙ h.four;
-    few = λ i ii. by-test (eqb i c)
+    few = λ i ii. by_test (eqb i c)
         (λ e. rw (eqb-true i c e, count_same counts c n o.counted) m)
         (λ e. rw (count-other counts c i n (within c C o.here).least (within i C ii).least (eqb-false i c e)) (h.few i ii));
-    tags = λ i ii. by-test (eqb i c)
+    tags = λ i ii. by_test (eqb i c)
         (λ e. rw (eqb-true i c e, line_same list counts c q o.all same n o.counted) t)
         (λ e. rw (line_other list counts c q o.all same n i (within c C o.here).least (within i C ii).least (eqb-false i c e)) (h.tags i ii));
     sound = λ i l. s;
@@ -70,35 +70,35 @@ module _ (u : FunctionUnit) (C : ℕ) (list : List Waiting) (counts : List ℕ) 
 
 -- An accepted arrival
 
-module _ (u : FunctionUnit) (C : ℕ) (p : Port) (k : ℕ) (w : Waiting) (h : Held u C p.list p.counts) (e : arrivedAt u C p k w ≡ Done) where
-  arrival-has : Arrives u C k (queueOf p.list k) (count_of p.counts k) w
-  unfolding arrivalOf
-  arrival-has = arrives u C k (queueOf p.list k) (count_of p.counts k) w e
+module _ (u : FunctionUnit) (C : ℕ) (p : Port) (k : ℕ) (w : Waiting) (h : Held u C p.list p.counts) (e : arrived_at u C p k w ≡ Done) where
+  arrival-has : Arrives u C k (queue_of p.list k) (count_of p.counts k) w
+  unfolding arrival_of
+  arrival-has = arrives u C k (queue_of p.list k) (count_of p.counts k) w e
 
   pub arrival-whole : Whole C k p.list p.counts
   arrival-whole = whole arrival-has.caller h.four arrival-has.joins.long
 
-  pub joined_length : length (set (queueOf p.list k) (count_of p.counts k) w) ≡ length (queueOf p.list k)
-  joined_length = length-set (queueOf p.list k) (count_of p.counts k) w
+  pub joined_length : length (set (queue_of p.list k) (count_of p.counts k) w) ≡ length (queue_of p.list k)
+  joined_length = length-set (queue_of p.list k) (count_of p.counts k) w
 
-  pub joined_line : take (count_of p.counts k + 1) (set (queueOf p.list k) (count_of p.counts k) w) ≡ line_of p k ++ w ∷ []
-  joined_line = set_line (queueOf p.list k) (count_of p.counts k) w (omega (arith, arrival-has.joins.few, arrival-has.joins.long))
+  pub joined_line : take (count_of p.counts k + 1) (set (queue_of p.list k) (count_of p.counts k) w) ≡ line_of p k ++ w ∷ []
+  joined_line = set_line (queue_of p.list k) (count_of p.counts k) w (omega (arith, arrival-has.joins.few, arrival-has.joins.long))
 
-  held-joined : Held u C (arrivedBy p k w Done).list (arrivedBy p k w Done).counts
+  held-joined : Held u C (arrived_by p k w Done).list (arrived_by p k w Done).counts
   held-joined =
       held-changed u C p.list p.counts h k arrival-whole _ joined_length (count_of p.counts k + 1) (omega (arith, arrival-has.joins.few))
-      (ap (tagsInside u.functions) joined_line ∙ tags-joined u (line_of p k) w arrival-has.joins.tags arrival-has.joins.tag)
+      (ap (tags_inside u.functions) joined_line ∙ tags_joined u (line_of p k) w arrival-has.joins.tags arrival-has.joins.tag)
       arrival-has.joins.sound
 
 -- A start
 
-module _ (u : FunctionUnit) (C : ℕ) (p : Port) (w : Waiting) (h : Held u C p.list p.counts) (e : passedIn u C p ≡ Passed.Started w) where
+module _ (u : FunctionUnit) (C : ℕ) (p : Port) (w : Waiting) (h : Held u C p.list p.counts) (e : passed_in u C p ≡ Passed.Started w) where
   abbrev c : ℕ
-  c = callerIn C p
+  c = caller_in C p
 
   start_has : Started p.bank (unit_at u C p.turn p.list p.counts) (line_of p c) w
   unfolding passed_at
-  start_has = was-started p.bank (unit_at u C p.turn p.list p.counts) (line_of p c) w e
+  start_has = was_started p.bank (unit_at u C p.turn p.list p.counts) (line_of p c) w e
 
   start-passes : Passes u C p.turn p.list p.counts
   start-passes = passes u C p.turn p.list p.counts start_has.accepted
@@ -106,29 +106,29 @@ module _ (u : FunctionUnit) (C : ℕ) (p : Port) (w : Waiting) (h : Held u C p.l
   pub start-whole : Whole C c p.list p.counts
   start-whole =
       let o = start-passes.caller in
-      let i = caller-inside C p (and_right (inside C 4) (inside p.turn C) o) in
-      whole (and-true (and_left (inside C 4) (inside p.turn C) o) i) h.four (start-passes.long c i)
+      let i = caller_inside C p (and_right (inside C 4) (inside p.turn C) o) in
+      whole (and_true (and_left (inside C 4) (inside p.turn C) o) i) h.four (start-passes.long c i)
 
   -- the records that wait are all in the queue
-  waits_in : count_of p.counts c ≤ length (queueOf p.list c)
+  waits_in : count_of p.counts c ≤ length (queue_of p.list c)
   waits_in = omega (arith, h.few c start-whole.here, start-whole.all)
 
   some-waits : 1 ≤ count_of p.counts c
-  some-waits = omega (arith, length-take (count_of p.counts c) (queueOf p.list c), ap length start_has.first)
+  some-waits = omega (arith, length-take (count_of p.counts c) (queue_of p.list c), ap length start_has.first)
 
-  pub left-length : length (forward (queueOf p.list c) (count_of p.counts c)) ≡ length (queueOf p.list c)
-  left-length = forward-length (queueOf p.list c) (count_of p.counts c) waits_in some-waits
+  pub left_length : length (forward (queue_of p.list c) (count_of p.counts c)) ≡ length (queue_of p.list c)
+  left_length = forward_length (queue_of p.list c) (count_of p.counts c) waits_in some-waits
 
-  left-line : take (count_of p.counts c - 1) (forward (queueOf p.list c) (count_of p.counts c)) ≡ start_has.rest
-  left-line = forward-line (queueOf p.list c) (count_of p.counts c) w start_has.rest waits_in start_has.first
+  left-line : take (count_of p.counts c - 1) (forward (queue_of p.list c) (count_of p.counts c)) ≡ start_has.rest
+  left-line = forward_line (queue_of p.list c) (count_of p.counts c) w start_has.rest waits_in start_has.first
 
-  start-tags : tagsInside u.functions (w ∷ start_has.rest) ≡ true
-  start-tags = ap (tagsInside u.functions) (sym start_has.first) ∙ h.tags c start-whole.here
+  start-tags : tags_inside u.functions (w ∷ start_has.rest) ≡ true
+  start-tags = ap (tags_inside u.functions) (sym start_has.first) ∙ h.tags c start-whole.here
 
-  held-left : Held u C (leftBy u C p (callerIn C p) (Passed.Started w)).list (leftBy u C p (callerIn C p) (Passed.Started w)).counts
+  held-left : Held u C (left_by u C p (caller_in C p) (Passed.Started w)).list (left_by u C p (caller_in C p) (Passed.Started w)).counts
   held-left =
-      held-changed u C p.list p.counts h c start-whole _ left-length (count_of p.counts c - 1) (omega (arith, h.few c start-whole.here))
-      (ap (tagsInside u.functions) left-line ∙ tags-rest u w start_has.rest start-tags) start-passes.sound
+      held-changed u C p.list p.counts h c start-whole _ left_length (count_of p.counts c - 1) (omega (arith, h.few c start-whole.here))
+      (ap (tags_inside u.functions) left-line ∙ tags_rest u w start_has.rest start-tags) start-passes.sound
 
 -- No call alters the length of the list
 
@@ -137,18 +137,18 @@ module _ (u : FunctionUnit) (C : ℕ) (p : Port) (h : Held u C p.list p.counts) 
   Long q = length q.list ≡ length p.list
 
   length-arrival : (k : ℕ) (w : Waiting) → Long (after u C p (arrival k w))
-  length-arrival k w = go (arrivedAt u C p k w) refl
+  length-arrival k w = go (arrived_at u C p k w) refl
     where
-      go : (a : Answer) → arrivedAt u C p k w ≡ a → Long (after u C p (arrival k w))
-      go Done e = rw (arrival-port u C p k w Done e) (list_length p.list k _ (arrival-whole u C p k w h e).all (joined_length u C p k w h e))
+      go : (a : Answer) → arrived_at u C p k w ≡ a → Long (after u C p (arrival k w))
+      go Done e = rw (arrival_port u C p k w Done e) (list_length p.list k _ (arrival-whole u C p k w h e).all (joined_length u C p k w h e))
       go (Refused why) e = rw (arrival-refused u C p k w why e)
 
   length-unit : Long (after u C p unit)
-  length-unit = go (passedIn u C p) refl
+  length-unit = go (passed_in u C p) refl
     where
-      go : (a : Passed) → passedIn u C p ≡ a → Long (after u C p unit)
+      go : (a : Passed) → passed_in u C p ≡ a → Long (after u C p unit)
       go (Passed.Started w) e =
-          rw (unit-port u C p (Passed.Started w) e) (list_length p.list (callerIn C p) _ (start-whole u C p w h e).all (left-length u C p w h e))
+          rw (unit_port u C p (Passed.Started w) e) (list_length p.list (caller_in C p) _ (start-whole u C p w h e).all (left_length u C p w h e))
       go Passed.Idle e = rw (unit-idle u C p e)
       go (Passed.Refused why) e = rw (unit-refused u C p why e)
 
@@ -163,17 +163,17 @@ module _ (u : FunctionUnit) (C : ℕ) where
   Keeps p = Held u C p.list p.counts
 
   held-arrival : (p : Port) (k : ℕ) (w : Waiting) → Keeps p → Keeps (after u C p (arrival k w))
-  held-arrival p k w h = go (arrivedAt u C p k w) refl
+  held-arrival p k w h = go (arrived_at u C p k w) refl
     where
-      go : (a : Answer) → arrivedAt u C p k w ≡ a → Keeps (after u C p (arrival k w))
-      go Done e = rw (arrival-port u C p k w Done e) (held-joined u C p k w h e)
+      go : (a : Answer) → arrived_at u C p k w ≡ a → Keeps (after u C p (arrival k w))
+      go Done e = rw (arrival_port u C p k w Done e) (held-joined u C p k w h e)
       go (Refused why) e = rw (arrival-refused u C p k w why e) h
 
   held-unit : (p : Port) → Keeps p → Keeps (after u C p unit)
-  held-unit p h = go (passedIn u C p) refl
+  held-unit p h = go (passed_in u C p) refl
     where
-      go : (a : Passed) → passedIn u C p ≡ a → Keeps (after u C p unit)
-      go (Passed.Started w) e = rw (unit-port u C p (Passed.Started w) e) (held-left u C p w h e)
+      go : (a : Passed) → passed_in u C p ≡ a → Keeps (after u C p unit)
+      go (Passed.Started w) e = rw (unit_port u C p (Passed.Started w) e) (held-left u C p w h e)
       go Passed.Idle e = rw (unit-idle u C p e) h
       go (Passed.Refused why) e = rw (unit-refused u C p why e) h
 
@@ -186,13 +186,13 @@ module _ (u : FunctionUnit) (C : ℕ) where
   held-done p (event e) h = h
   held-done p (call k) h = held_after p k h
 
-  held_all : (actions : List Action) (p : Port) → Keeps p → Keeps (doneAll u C p actions)
-  unfolding doneAll
+  held_all : (actions : List Action) (p : Port) → Keeps p → Keeps (done_all u C p actions)
+  unfolding done_all
   held_all [] p h = h
   held_all (d ∷ actions) p h = held_all actions (done u C p d) (held-done p d h)
 
-  none-waits : (i : ℕ) → count_of (replicate 4 0) i ≡ 0
-  none-waits i = go (dec_lt (i - 1) 4)
+  none_waits : (i : ℕ) → count_of (replicate 4 0) i ≡ 0
+  none_waits i = go (dec_lt (i - 1) 4)
     where
       go : Dec (i - 1 < 4) → count_of (replicate 4 0) i ≡ 0
       go (yes h) = get_or-replicate 4 (i - 1) 0 0 h
@@ -202,13 +202,13 @@ module _ (u : FunctionUnit) (C : ℕ) where
           beyond h = omega arith
 
   pub held-empty : (list : List Waiting) → Held u C list (replicate 4 0)
-  unfolding tagsInside
+  unfolding tags_inside
   held-empty list = record {
     four = refl;
-    few = λ i h. omega (arith, none-waits i);
-    tags = λ i h. rw (none-waits i);
-    sound = λ i l. absurd (omega (arith, none-waits i));
+    few = λ i h. omega (arith, none_waits i);
+    tags = λ i h. rw (none_waits i);
+    sound = λ i l. absurd (omega (arith, none_waits i));
   }
 
   pub held : (turn : ℕ) (list : List Waiting) (actions : List Action) → Keeps (brought u C turn list actions)
-  held turn list actions = held_all actions (emptyPort turn list) (held-empty list)
+  held turn list actions = held_all actions (empty_port turn list) (held-empty list)

@@ -8,25 +8,25 @@ use Rattle.words.proofs.Tests.{and_right}
 use Rattle.unit.specs.declared.FunctionUnit.{FunctionUnit}
 use Rattle.unit.specs.declared.Answer.{Answer}
 use Rattle.unit.specs.declared.Answer.TheVariants.{Done}
-use Rattle.unit.specs.Unit.{inside, marked, soundOf}
+use Rattle.unit.specs.Unit.{inside, marked, sound_of}
 use Rattle.controller.specs.declared.Event.TheVariants.{Start}
-use Rattle.controller.specs.Bank.{eventAnswer}
+use Rattle.controller.specs.Bank.{event_answer}
 use Rattle.controller.specs.History.{History, Course, outset, played, Apart}
 use Rattle.queue.specs.declared.Waiting.{Waiting}
 use Rattle.queue.specs.declared.Passed.{Passed}
 use Rattle.queue.specs.declared.Passed.TheVariants as Passed
 use Rattle.queue.specs.Line.{tag_of}
-use Rattle.queue_claims.proofs.PassLaws.{was-started, was-idle}
-use Rattle.queue_claims.proofs.PlayLaws.{played-joined, started-answered, unit-plays, all_apart, grants-exactly}
+use Rattle.queue_claims.proofs.PassLaws.{was_started, was_idle}
+use Rattle.queue_claims.proofs.PlayLaws.{played_joined, started_answered, unit_plays, all_apart, grants_exactly}
 use Rattle.callers.specs.declared.Served.TheVariants as Served
-use Rattle.callers.specs.Calls.{unit_at, passed_at, servedBy, unit_of}
-use Rattle.caller_claims.specs.Runs.{Port, Action, line_of, after, done, doneAll, emptyPort, brought}
+use Rattle.callers.specs.Calls.{unit_at, passed_at, served_by, unit_of}
+use Rattle.caller_claims.specs.Runs.{Port, Action, line_of, after, done, done_all, empty_port, brought}
 use Rattle.caller_claims.specs.Runs.Call.{arrival, unit}
 use Rattle.caller_claims.specs.Runs.Action.{event, call}
-use Rattle.caller_claims.specs.Tasks.{passedIn, callerIn, historyNext, historyFrom, actionEvents, eventsFrom, eventsOf, CallersPlay, CallersApart, CallersExactly}
-use Rattle.caller_claims.proofs.PortLaws.{caller-inside}
+use Rattle.caller_claims.specs.Tasks.{passed_in, caller_in, history_next, history_from, action_events, events_from, events_of, CallersPlay, CallersApart, CallersExactly}
+use Rattle.caller_claims.proofs.PortLaws.{caller_inside}
 use Rattle.caller_claims.proofs.AcceptedLaws.{passes}
-use Rattle.caller_claims.proofs.ReadyLaws.{ready, waits-sound, head-tag, granted-starts}
+use Rattle.caller_claims.proofs.ReadyLaws.{ready, waits_sound, head_tag, granted_starts}
 
 -- One action
 
@@ -40,58 +40,58 @@ module _ (u : FunctionUnit) (C : ℕ) where
     abbrev answer : Answer
     answer = unit_at u C p.turn p.list p.counts
 
-    begun : (w : Waiting) → passedIn u C p ≡ Passed.Started w → eventAnswer u p.bank (Start (tag_of w)) ≡ Done
+    begun : (w : Waiting) → passed_in u C p ≡ Passed.Started w → event_answer u p.bank (Start (tag_of w)) ≡ Done
     unfolding passed_at
     begun w e =
-        let s = was-started p.bank answer (line_of p (callerIn C p)) w e in
+        let s = was_started p.bank answer (line_of p (caller_in C p)) w e in
         let a = passes u C p.turn p.list p.counts s.accepted in
-        started-answered u s a.sound (a.tags (callerIn C p) (caller-inside C p (and_right (inside C 4) (inside p.turn C) a.caller)))
+        started_answered u s a.sound (a.tags (caller_in C p) (caller_inside C p (and_right (inside C 4) (inside p.turn C) a.caller)))
 
-    idled : passedIn u C p ≡ Passed.Idle → soundOf u ≡ true
+    idled : passed_in u C p ≡ Passed.Idle → sound_of u ≡ true
     unfolding passed_at
-    idled e = (passes u C p.turn p.list p.counts (was-idle p.bank answer (line_of p (callerIn C p)) e)).sound
+    idled e = (passes u C p.turn p.list p.counts (was_idle p.bank answer (line_of p (caller_in C p)) e)).sound
 
-  action-plays : (p : Port) (h : History) (d : Action) → played u (at p h) (actionEvents u C p d) ≡ at (done u C p d) (historyNext u C p h d)
-  unfolding done after unit_of historyNext played
+  action-plays : (p : Port) (h : History) (d : Action) → played u (at p h) (action_events u C p d) ≡ at (done u C p d) (history_next u C p h d)
+  unfolding done after unit_of history_next played
   action-plays p h (event e) = refl
   action-plays p h (call (arrival i w)) = refl
-  action-plays p h (call unit) = unit-plays u (at p h) (passedIn u C p) (begun p) (idled p)
+  action-plays p h (call unit) = unit_plays u (at p h) (passed_in u C p) (begun p) (idled p)
 
   actions-play : (actions : List Action) (p : Port) (h : History)
-      → played u (at p h) (eventsFrom u C p actions) ≡ at (doneAll u C p actions) (historyFrom u C p h actions)
-  unfolding doneAll historyFrom eventsFrom played
+      → played u (at p h) (events_from u C p actions) ≡ at (done_all u C p actions) (history_from u C p h actions)
+  unfolding done_all history_from events_from played
   actions-play [] p h = refl
   actions-play (d ∷ actions) p h =
-      played-joined u (at p h) (actionEvents u C p d) (eventsFrom u C (done u C p d) actions)
-      ∙ ap (λ (c : Course). played u c (eventsFrom u C (done u C p d) actions)) (action-plays p h d)
-      ∙ actions-play actions (done u C p d) (historyNext u C p h d)
+      played_joined u (at p h) (action_events u C p d) (events_from u C (done u C p d) actions)
+      ∙ ap (λ (c : Course). played u c (events_from u C (done u C p d) actions)) (action-plays p h d)
+      ∙ actions-play actions (done u C p d) (history_next u C p h d)
 
 -- The claims
 
-pub callers-play : CallersPlay
-callers-play u C turn list actions =
-    let e = sym (actions-play u C actions (emptyPort turn list) outset.history) in
+pub callers_play : CallersPlay
+callers_play u C turn list actions =
+    let e = sym (actions-play u C actions (empty_port turn list) outset.history) in
     (ap (λ (c : Course). c.bank) e, ap (λ (c : Course). c.history) e)
 
-pub callers-apart : CallersApart
-callers-apart u C turn list actions =
-    subst (λ (h : History). Apart (marked u) h.tasks) (sym (callers-play u C turn list actions).1) (all_apart u (eventsOf u C turn list actions))
+pub callers_apart : CallersApart
+callers_apart u C turn list actions =
+    subst (λ (h : History). Apart (marked u) h.tasks) (sym (callers_play u C turn list actions).1) (all_apart u (events_of u C turn list actions))
 
 -- the answer names the record that was started
-served-started : (c : ℕ) (a : Passed) (w : Waiting) → servedBy c a ≡ Served.Started c w → a ≡ Passed.Started w
-served-started c (Passed.Started v) w e = cc
-served-started c Passed.Idle w e = let z : ◌≡◌ {A = ℕ} 0 1 = cc in absurd (omega arith)
-served-started c (Passed.Refused why) w e = let z : ◌≡◌ {A = ℕ} 0 1 = cc in absurd (omega arith)
+served_started : (c : ℕ) (a : Passed) (w : Waiting) → served_by c a ≡ Served.Started c w → a ≡ Passed.Started w
+served_started c (Passed.Started v) w e = cc
+served_started c Passed.Idle w e = let z : ◌≡◌ {A = ℕ} 0 1 = cc in absurd (omega arith)
+served_started c (Passed.Refused why) w e = let z : ◌≡◌ {A = ℕ} 0 1 = cc in absurd (omega arith)
 
-pub callers-exactly : CallersExactly
+pub callers_exactly : CallersExactly
 unfolding unit_of passed_at
-callers-exactly u C turn o list long actions w line e =
+callers_exactly u C turn o list long actions w line e =
     let p = brought u C turn list actions in
-    let c = callerIn C p in
-    let sound = waits-sound u C turn list actions c w line e in
+    let c = caller_in C p in
+    let sound = waits_sound u C turn list actions c w line e in
     let r = ready u sound C turn o list long actions in
-    let plays = callers-play u C turn list actions in
-    let x = grants-exactly u sound (eventsOf u C turn list actions) p.bank _ plays.0 plays.1 w (head-tag u sound C p r w line e) in (
-      λ s. x.0 (was-started p.bank (unit_at u C p.turn p.list p.counts) (line_of p c) w (served-started c (passedIn u C p) w s)).granted,
-      λ f. ap (servedBy c) (granted-starts u sound C p r w line e (x.1 f)).passed,
+    let plays = callers_play u C turn list actions in
+    let x = grants_exactly u sound (events_of u C turn list actions) p.bank _ plays.0 plays.1 w (head_tag u sound C p r w line e) in (
+      λ s. x.0 (was_started p.bank (unit_at u C p.turn p.list p.counts) (line_of p c) w (served_started c (passed_in u C p) w s)).granted,
+      λ f. ap (served_by c) (granted_starts u sound C p r w line e (x.1 f)).passed,
     )

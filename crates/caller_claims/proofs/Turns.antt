@@ -10,24 +10,24 @@ use native.Mathlib.Omega.{arith}
 use native.Mathlib.Decide.{dec_lt}
 use lib.Dec.{eqb}
 use borrow.Author.Tests.{eqb-true, eqb-false, eq-eqb, ne_eqb}
-use Rattle.words.proofs.Tests.{nowhere, by-test, or-true-left, or_true_right}
+use Rattle.words.proofs.Tests.{nowhere, by_test, or_true_left, or_true_right}
 use Rattle.unit.specs.declared.FunctionUnit.{FunctionUnit}
 use Rattle.unit.specs.declared.Refusal.{Refusal}
 use Rattle.unit.specs.declared.Refusal.TheVariants.{NotSound, NoSuchCaller}
-use Rattle.unit.specs.Unit.{inside, soundOf}
+use Rattle.unit.specs.Unit.{inside, sound_of}
 use Rattle.queue.specs.declared.Waiting.{Waiting}
 use Rattle.queue.specs.declared.Passed.{Passed}
 use Rattle.queue.specs.declared.Passed.TheVariants as Passed
-use Rattle.callers.specs.Turn.{nextTurn, turnNow}
-use Rattle.callers.specs.Queues.{hasWork}
-use Rattle.callers.specs.Calls.{one_of, unit_at, passed_at, servedBy, countsThen, unit_of}
-use Rattle.callers.proofs.RoundLaws.{turn-now}
-use Rattle.caller_claims.specs.Runs.{Port, Call, Start, after, start_in, starts, startsOf}
+use Rattle.callers.specs.Turn.{next_turn, turn_now}
+use Rattle.callers.specs.Queues.{has_work}
+use Rattle.callers.specs.Calls.{one_of, unit_at, passed_at, served_by, counts_then, unit_of}
+use Rattle.callers.proofs.RoundLaws.{turn_now_lem}
+use Rattle.caller_claims.specs.Runs.{Port, Call, Start, after, start_in, starts, starts_of}
 use Rattle.caller_claims.specs.Runs.Call.{arrival, unit}
 use Rattle.caller_claims.specs.Claims.{BothWait, Alternate, TakeTurns}
-use Rattle.caller_claims.proofs.AheadLaws.{ahead, ahead-self, ahead-same, ahead-lt, ahead_step, ahead-around, goes-next}
-use Rattle.caller_claims.specs.Tasks.{callerIn, passedIn}
-use Rattle.caller_claims.proofs.PortLaws.{unit-port, unit-refused, work-other}
+use Rattle.caller_claims.proofs.AheadLaws.{ahead, ahead-self, ahead-same, ahead-lt, ahead_step, ahead-around, goes_next}
+use Rattle.caller_claims.specs.Tasks.{caller_in, passed_in}
+use Rattle.caller_claims.proofs.PortLaws.{unit_port, unit-refused, work_other}
 
 -- t is a caller, and going round from it a comes before b
 record First (C t a b : ℕ) : Type 0 where
@@ -36,9 +36,9 @@ record First (C t a b : ℕ) : Type 0 where
 
 module _ (C a b : ℕ) (ia : inside a C ≡ true) (ib : inside b C ≡ true) (n : a ≡ b → ⊥) where
   -- after b, the other comes first
-  first-after : (work : ℕ → Bool) → work a ≡ true → First C (nextTurn C work b) a b
+  first-after : (work : ℕ → Bool) → work a ≡ true → First C (next_turn C work b) a b
   first-after work w =
-      let g = goes-next C work a ia w b ib in
+      let g = goes_next C work a ia w b ib in
       let s = ahead_step C b a ib ia (λ e. n (sym e)) in
       let o = ahead-around C b ib in
       let l = ahead-lt C b a ib ia in
@@ -51,22 +51,22 @@ module _ (C a b : ℕ) (ia : inside a C ≡ true) (ib : inside b C ≡ true) (n 
       omega (arith, h.before)
 
   -- and stays first until it starts
-  first-kept : (work : ℕ → Bool) (t : ℕ) → First C t a b → (t ≡ a → ⊥) → work a ≡ true → First C (nextTurn C work t) a b
+  first-kept : (work : ℕ → Bool) (t : ℕ) → First C t a b → (t ≡ a → ⊥) → work a ≡ true → First C (next_turn C work t) a b
   first-kept work t h m w =
-      let g = goes-next C work a ia w t h.there in
+      let g = goes_next C work a ia w t h.there in
       let s = ahead_step C t a h.there ia m in
       let o = ahead_step C t b h.there ib (not_last t h) in
       record { there = g.there; before = omega (arith, h.before, g.others a ia (omega arith), g.others b ib (omega (arith, h.before))) }
 
-  first-now : (work : ℕ → Bool) (t : ℕ) → First C t a b → work a ≡ true → First C (turnNow C work t) a b
+  first-now : (work : ℕ → Bool) (t : ℕ) → First C t a b → work a ≡ true → First C (turn_now C work t) a b
   first-now work t h w =
-      turn-now C work t (λ r. First C r a b) (λ e. h) (λ e. first-kept work t h (λ x. nowhere (sym e ∙ ap work x ∙ w)) w)
+      turn_now_lem C work t (λ r. First C r a b) (λ e. h) (λ e. first-kept work t h (λ x. nowhere (sym e ∙ ap work x ∙ w)) w)
 
-both-swap : (u : FunctionUnit) (C : ℕ) (p : Port) (i j : ℕ) (calls : List Call) → BothWait u C p i j calls → BothWait u C p j i calls
+both_swap : (u : FunctionUnit) (C : ℕ) (p : Port) (i j : ℕ) (calls : List Call) → BothWait u C p i j calls → BothWait u C p j i calls
 unfolding BothWait
-both-swap u C p i j [] w = tt
-both-swap u C p i j (arrival k x ∷ calls) w = both-swap u C (after u C p (arrival k x)) i j calls w
-both-swap u C p i j (unit ∷ calls) w = (w.1, w.0, both-swap u C (after u C p unit) i j calls w.2)
+both_swap u C p i j [] w = tt
+both_swap u C p i j (arrival k x ∷ calls) w = both_swap u C (after u C p (arrival k x)) i j calls w
+both_swap u C p i j (unit ∷ calls) w = (w.1, w.0, both_swap u C (after u C p unit) i j calls w.2)
 
 -- a test that only a and b pass
 record Only (f : ℕ → Bool) (a b : ℕ) : Type 0 where
@@ -74,49 +74,49 @@ record Only (f : ℕ → Bool) (a b : ℕ) : Type 0 where
   two : f b ≡ true
   none : (k : ℕ) → (k ≡ a → ⊥) → (k ≡ b → ⊥) → f k ≡ false
 
-only-swap : {f : ℕ → Bool} {a b : ℕ} → Only f a b → Only f b a
-only-swap o = record { one = o.two; two = o.one; none = λ k x y. o.none k y x }
+only_swap : {f : ℕ → Bool} {a b : ℕ} → Only f a b → Only f b a
+only_swap o = record { one = o.two; two = o.one; none = λ k x y. o.none k y x }
 
 -- where a comes first, the starts are a's, then b's, and so on
 abbrev Next : FunctionUnit → ℕ → (ℕ → Bool) → List Call → Type 0
 Next u C f calls =
     (a b : ℕ) → inside a C ≡ true → inside b C ≡ true → (a ≡ b → ⊥) → Only f a b → (p : Port) (m : ℕ) → First C p.turn a b → BothWait u C p a b calls
-    → Alternate a b (startsOf f (starts u C p m calls))
+    → Alternate a b (starts_of f (starts u C p m calls))
 
 module _ (u : FunctionUnit) (C : ℕ) (f : ℕ → Bool) where
   -- a time unit, by what was done in it
   module _ (calls : List Call) (all : Next u C f calls) (a b : ℕ) (ia : inside a C ≡ true) (ib : inside b C ≡ true) (n : a ≡ b → ⊥) (o : Only f a b)
       (p : Port) (m : ℕ) where
     abbrev later : List Start
-    later = startsOf f (starts u C (after u C p unit) (m + 1) calls)
+    later = starts_of f (starts u C (after u C p unit) (m + 1) calls)
 
     abbrev begun : Waiting → Start
-    begun v = record { caller = callerIn C p; task = v; unit = m + 1 }
+    begun v = record { caller = caller_in C p; task = v; unit = m + 1 }
 
-    moved : (v : Waiting) → passedIn u C p ≡ Passed.Started v
-        → (after u C p unit).turn ≡ nextTurn C (hasWork (countsThen (Passed.Started v) p.counts (callerIn C p))) (callerIn C p)
-    moved v e = ap (λ (y : Port). y.turn) (unit-port u C p (Passed.Started v) e)
+    moved : (v : Waiting) → passed_in u C p ≡ Passed.Started v
+        → (after u C p unit).turn ≡ next_turn C (has_work (counts_then (Passed.Started v) p.counts (caller_in C p))) (caller_in C p)
+    moved v e = ap (λ (y : Port). y.turn) (unit_port u C p (Passed.Started v) e)
 
-    module _ (h : First C (callerIn C p) a b) (w : BothWait u C (after u C p unit) a b calls) (v : Waiting) (e : passedIn u C p ≡ Passed.Started v) where
-      own-start : callerIn C p ≡ a → hasWork p.counts b ≡ true → Alternate a b (cond (f (callerIn C p)) (begun v ∷ later) later)
-      own-start s wb =
-          let t : f (callerIn C p) ≡ true = ap f s ∙ o.one in
+    module _ (h : First C (caller_in C p) a b) (w : BothWait u C (after u C p unit) a b calls) (v : Waiting) (e : passed_in u C p ≡ Passed.Started v) where
+      own_start : caller_in C p ≡ a → has_work p.counts b ≡ true → Alternate a b (cond (f (caller_in C p)) (begun v ∷ later) later)
+      own_start s wb =
+          let t : f (caller_in C p) ≡ true = ap f s ∙ o.one in
           let nb : b ≡ a → ⊥ = λ z. n (sym z) in
-          let work : ℕ → Bool = hasWork (countsThen (Passed.Started v) p.counts (callerIn C p)) in
-          let k = first-after C b a ib ia nb work (work-other C p.counts (callerIn C p) (Passed.Started v) b h.there ib (λ z. n (sym s ∙ sym z)) wb) in
-          let r : (after u C p unit).turn ≡ nextTurn C work a = moved v e ∙ ap (nextTurn C work) s in
+          let work : ℕ → Bool = has_work (counts_then (Passed.Started v) p.counts (caller_in C p)) in
+          let k = first-after C b a ib ia nb work (work_other C p.counts (caller_in C p) (Passed.Started v) b h.there ib (λ z. n (sym s ∙ sym z)) wb) in
+          let r : (after u C p unit).turn ≡ next_turn C work a = moved v e ∙ ap (next_turn C work) s in
           rw t (
             s,
-            all b a ib ia nb (only-swap o) (after u C p unit) (m + 1) (subst (λ (z : ℕ). First C z b a) (sym r) k)
-                (both-swap u C (after u C p unit) a b calls w),
+            all b a ib ia nb (only_swap o) (after u C p unit) (m + 1) (subst (λ (z : ℕ). First C z b a) (sym r) k)
+                (both_swap u C (after u C p unit) a b calls w),
           )
 
-      other-start : (callerIn C p ≡ a → ⊥) → hasWork p.counts a ≡ true → Alternate a b (cond (f (callerIn C p)) (begun v ∷ later) later)
-      other-start na wa =
-          let t : f (callerIn C p) ≡ false = o.none (callerIn C p) na (not_last C a b ia ib n (callerIn C p) h) in
-          let work : ℕ → Bool = hasWork (countsThen (Passed.Started v) p.counts (callerIn C p)) in
-          let k = first-kept C a b ia ib n work (callerIn C p) h na
-          (work-other C p.counts (callerIn C p) (Passed.Started v) a h.there ia (λ z. na (sym z)) wa) in
+      other_start : (caller_in C p ≡ a → ⊥) → has_work p.counts a ≡ true → Alternate a b (cond (f (caller_in C p)) (begun v ∷ later) later)
+      other_start na wa =
+          let t : f (caller_in C p) ≡ false = o.none (caller_in C p) na (not_last C a b ia ib n (caller_in C p) h) in
+          let work : ℕ → Bool = has_work (counts_then (Passed.Started v) p.counts (caller_in C p)) in
+          let k = first-kept C a b ia ib n work (caller_in C p) h na
+          (work_other C p.counts (caller_in C p) (Passed.Started v) a h.there ia (λ z. na (sym z)) wa) in
           rw t (all a b ia ib n o (after u C p unit) (m + 1) (subst (λ (z : ℕ). First C z a b) (sym (moved v e)) k) w)
 
     -- a unit without a start leaves the turn with a caller from which a comes first
@@ -124,27 +124,27 @@ module _ (u : FunctionUnit) (C : ℕ) (f : ℕ → Bool) where
     no_start t e h w = all a b ia ib n o (after u C p unit) (m + 1) (subst (λ (z : ℕ). First C z a b) (sym e) h) w
 
   next-unit : (calls : List Call) → Next u C f calls → Next u C f (unit ∷ calls)
-  unfolding starts startsOf unit_of BothWait
-  next-unit calls all a b ia ib n o p m h w = go (passedIn u C p) refl (first-now C a b ia ib n (hasWork p.counts) p.turn h w.0)
+  unfolding starts starts_of unit_of BothWait
+  next-unit calls all a b ia ib n o p m h w = go (passed_in u C p) refl (first-now C a b ia ib n (has_work p.counts) p.turn h w.0)
     where
-      go : (x : Passed) → passedIn u C p ≡ x → First C (callerIn C p) a b
-          → Alternate a b (startsOf f (start_in (servedBy (callerIn C p) (passedIn u C p)) (m + 1) ++ starts u C (after u C p unit) (m + 1) calls))
+      go : (x : Passed) → passed_in u C p ≡ x → First C (caller_in C p) a b
+          → Alternate a b (starts_of f (start_in (served_by (caller_in C p) (passed_in u C p)) (m + 1) ++ starts u C (after u C p unit) (m + 1) calls))
       go (Passed.Refused why) e c =
-          rw e (no_start calls all a b ia ib n o p m p.turn (ap (λ (y : Port). y.turn) (unit-port u C p (Passed.Refused why) e)) h w.2)
+          rw e (no_start calls all a b ia ib n o p m p.turn (ap (λ (y : Port). y.turn) (unit_port u C p (Passed.Refused why) e)) h w.2)
       go Passed.Idle e c =
-          rw e (no_start calls all a b ia ib n o p m (callerIn C p) (ap (λ (y : Port). y.turn) (unit-port u C p Passed.Idle e)) c w.2)
+          rw e (no_start calls all a b ia ib n o p m (caller_in C p) (ap (λ (y : Port). y.turn) (unit_port u C p Passed.Idle e)) c w.2)
       go (Passed.Started v) e c =
           rw e
-          (by-test (eqb (callerIn C p) a)
-          (λ y. own-start calls all a b ia ib n o p m c w.2 v e (eqb-true (callerIn C p) a y) w.1)
-          (λ y. other-start calls all a b ia ib n o p m c w.2 v e (eqb-false (callerIn C p) a y) w.0))
+          (by_test (eqb (caller_in C p) a)
+          (λ y. own_start calls all a b ia ib n o p m c w.2 v e (eqb-true (caller_in C p) a y) w.1)
+          (λ y. other_start calls all a b ia ib n o p m c w.2 v e (eqb-false (caller_in C p) a y) w.0))
 
   next-arrival : (k : ℕ) (x : Waiting) (calls : List Call) → Next u C f calls → Next u C f (arrival k x ∷ calls)
   unfolding starts BothWait after
   next-arrival k x calls all a b ia ib n o p m h w = all a b ia ib n o (after u C p (arrival k x)) m h w
 
   next-none : Next u C f []
-  unfolding starts startsOf
+  unfolding starts starts_of
   next-none a b ia ib n o p m h w = tt
 
   next-all : (calls : List Call) → Next u C f calls
@@ -155,25 +155,25 @@ module _ (u : FunctionUnit) (C : ℕ) (f : ℕ → Bool) where
 -- From any port
 
 -- a turn that names no caller: every time unit is refused, and nothing starts
-no-turn : (u : FunctionUnit) (C : ℕ) (p : Port) → inside p.turn C ≡ false → (why : Refusal) × (passedIn u C p ≡ Passed.Refused why)
+no_turn : (u : FunctionUnit) (C : ℕ) (p : Port) → inside p.turn C ≡ false → (why : Refusal) × (passed_in u C p ≡ Passed.Refused why)
 unfolding passed_at unit_at
-no-turn u C p f =
+no_turn u C p f =
     let o : one_of C p.turn ≡ false = ap (λ t. inside C 4 && t) f ∙ none (inside C 4) in
-    by-test (soundOf u) (λ s. (NoSuchCaller, simp (s, o))) (λ s. (NotSound, simp s))
+    by_test (sound_of u) (λ s. (NoSuchCaller, simp (s, o))) (λ s. (NotSound, simp s))
   where
     none : (b : Bool) → b && false ≡ false
     none true = refl
     none false = refl
 
-nothing-starts : (u : FunctionUnit) (C : ℕ) (calls : List Call) (p : Port) (m : ℕ) → inside p.turn C ≡ false → starts u C p m calls ≡ []
+nothing_starts : (u : FunctionUnit) (C : ℕ) (calls : List Call) (p : Port) (m : ℕ) → inside p.turn C ≡ false → starts u C p m calls ≡ []
 unfolding starts after unit_of
-nothing-starts u C [] p m f = refl
-nothing-starts u C (arrival k x ∷ calls) p m f = nothing-starts u C calls (after u C p (arrival k x)) m f
-nothing-starts u C (unit ∷ calls) p m f =
-    let r = no-turn u C p f in
-    ap (λ (x : Passed). start_in (servedBy (callerIn C p) x) (m + 1) ++ starts u C (after u C p unit) (m + 1) calls) r.1
+nothing_starts u C [] p m f = refl
+nothing_starts u C (arrival k x ∷ calls) p m f = nothing_starts u C calls (after u C p (arrival k x)) m f
+nothing_starts u C (unit ∷ calls) p m f =
+    let r = no_turn u C p f in
+    ap (λ (x : Passed). start_in (served_by (caller_in C p) x) (m + 1) ++ starts u C (after u C p unit) (m + 1) calls) r.1
     ∙ ap (λ (q : Port). starts u C q (m + 1) calls) (unit-refused u C p r.0 r.1)
-    ∙ nothing-starts u C calls p (m + 1) f
+    ∙ nothing_starts u C calls p (m + 1) f
 
 module _ (u : FunctionUnit) (C : ℕ) (p : Port) (i j : ℕ) (ii : inside i C ≡ true) (ij : inside j C ≡ true) (n : i ≡ j → ⊥) (calls : List Call)
     (w : BothWait u C p i j calls) where
@@ -181,11 +181,11 @@ module _ (u : FunctionUnit) (C : ℕ) (p : Port) (i j : ℕ) (ii : inside i C �
   both k = eqb i k || eqb j k
 
   abbrev ByTurns : Type 0
-  ByTurns = Alternate i j (startsOf both (starts u C p 0 calls)) ⊎ Alternate j i (startsOf both (starts u C p 0 calls))
+  ByTurns = Alternate i j (starts_of both (starts u C p 0 calls)) ⊎ Alternate j i (starts_of both (starts u C p 0 calls))
 
   only : Only both i j
   only = record {
-    one = or-true-left (eqb i i) _ (eq-eqb i i refl);
+    one = or_true_left (eqb i i) _ (eq-eqb i i refl);
     two = or_true_right (eqb i j) _ (eq-eqb j j refl);
     none = λ k x y. simp (ne_eqb i k (λ e. x (sym e)), ne_eqb j k (λ e. y (sym e)));
   }
@@ -196,15 +196,15 @@ module _ (u : FunctionUnit) (C : ℕ) (p : Port) (i j : ℕ) (ii : inside i C �
       go : Dec (ahead C p.turn i < ahead C p.turn j) → ByTurns
       go (yes h) = inl (next-all u C both calls i j ii ij n only p 0 (record { there = t; before = h }) w)
       go (no h) =
-          inr (next-all u C both calls j i ij ii (λ e. n (sym e)) (only-swap only) p 0
-          (record { there = t; before = strict h (λ e. n (ahead-same C p.turn i j t ii ij e)) }) (both-swap u C p i j calls w))
+          inr (next-all u C both calls j i ij ii (λ e. n (sym e)) (only_swap only) p 0
+          (record { there = t; before = strict h (λ e. n (ahead-same C p.turn i j t ii ij e)) }) (both_swap u C p i j calls w))
         where
           strict : {x y : ℕ} → (x < y → ⊥) → (x ≡ y → ⊥) → y < x
           strict a b = omega arith
 
   without-turn : inside p.turn C ≡ false → ByTurns
-  unfolding startsOf
-  without-turn f = inl (subst (λ (l : List Start). Alternate i j (startsOf both l)) (sym (nothing-starts u C calls p 0 f)) tt)
+  unfolding starts_of
+  without-turn f = inl (subst (λ (l : List Start). Alternate i j (starts_of both l)) (sym (nothing_starts u C calls p 0 f)) tt)
 
-pub take-turns : TakeTurns
-take-turns u C p i j ii ij n calls w = by-test (inside p.turn C) (with-turn u C p i j ii ij n calls w) (without-turn u C p i j ii ij n calls w)
+pub take_turns : TakeTurns
+take_turns u C p i j ii ij n calls w = by_test (inside p.turn C) (with-turn u C p i j ii ij n calls w) (without-turn u C p i j ii ij n calls w)

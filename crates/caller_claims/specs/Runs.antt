@@ -6,11 +6,11 @@ use Rattle.controller.specs.declared.Bank.{Bank}
 use Rattle.controller.specs.declared.Event.{Event}
 use Rattle.controller.specs.Bank.{empty, step_of}
 use Rattle.queue.specs.declared.Waiting.{Waiting}
-use Rattle.queue.specs.Line.{noRecord}
+use Rattle.queue.specs.Line.{no_record}
 use Rattle.callers.specs.declared.Served.{Served}
 use Rattle.callers.specs.declared.Served.TheVariants as Served
-use Rattle.callers.specs.Queues.{count_of, withCount, waitingOf}
-use Rattle.callers.specs.Calls.{arrivalOf, arrivalList, unit_of, unitList}
+use Rattle.callers.specs.Queues.{count_of, with_count, waiting_of}
+use Rattle.callers.specs.Calls.{arrival_of, arrival_list, unit_of, unit_list}
 
 -- what is handed from call to call
 pub record Port : Type 0 where
@@ -21,7 +21,7 @@ pub record Port : Type 0 where
 
 -- the records that wait at caller i
 abbrev pub line_of : Port → ℕ → List Waiting
-line_of p i = waitingOf p.list p.counts i
+line_of p i = waiting_of p.list p.counts i
 
 -- an arrival of a record at a caller's queue, or the passing of a time unit
 pub data Call : Type 0 where
@@ -33,19 +33,19 @@ unfoldable pub after : FunctionUnit → ℕ → Port → Call → Port
 after u C p (arrival i w) = record {
   bank = p.bank;
   turn = p.turn;
-  list = arrivalList u C i p.list (count_of p.counts i) w;
-  counts = withCount p.counts i (arrivalOf u C i p.list (count_of p.counts i) w).count;
+  list = arrival_list u C i p.list (count_of p.counts i) w;
+  counts = with_count p.counts i (arrival_of u C i p.list (count_of p.counts i) w).count;
 }
 after u C p unit = record {
   bank = (unit_of u p.bank C p.turn p.list p.counts).bank;
   turn = (unit_of u p.bank C p.turn p.list p.counts).turn;
-  list = unitList u p.bank C p.turn p.list p.counts;
+  list = unit_list u p.bank C p.turn p.list p.counts;
   counts = (unit_of u p.bank C p.turn p.list p.counts).counts.each;
 }
 
 -- what an arrival answers at a port, and a time unit
-abbrev pub arrivedAt : FunctionUnit → ℕ → Port → ℕ → Waiting → Answer
-arrivedAt u C p i w = (arrivalOf u C i p.list (count_of p.counts i) w).answer
+abbrev pub arrived_at : FunctionUnit → ℕ → Port → ℕ → Waiting → Answer
+arrived_at u C p i w = (arrival_of u C i p.list (count_of p.counts i) w).answer
 
 abbrev pub served_at : FunctionUnit → ℕ → Port → Served
 served_at u C p = (unit_of u p.bank C p.turn p.list p.counts).answer
@@ -60,25 +60,25 @@ unfoldable pub done : FunctionUnit → ℕ → Port → Action → Port
 done u C p (event e) = record { bank = (step_of u p.bank e).bank; turn = p.turn; list = p.list; counts = p.counts }
 done u C p (call k) = after u C p k
 
-unfoldable pub doneAll : FunctionUnit → ℕ → Port → List Action → Port
-doneAll u C p [] = p
-doneAll u C p (d ∷ actions) = doneAll u C (done u C p d) actions
+unfoldable pub done_all : FunctionUnit → ℕ → Port → List Action → Port
+done_all u C p [] = p
+done_all u C p (d ∷ actions) = done_all u C (done u C p d) actions
 
 -- empty: an empty bank, any turn, and a lent list in which nothing waits
-abbrev pub emptyPort : ℕ → List Waiting → Port
-emptyPort turn list = record { bank = empty; turn = turn; list = list; counts = replicate 4 0 }
+abbrev pub empty_port : ℕ → List Waiting → Port
+empty_port turn list = record { bank = empty; turn = turn; list = list; counts = replicate 4 0 }
 
 -- bank, turn, list and counts brought from empty
 abbrev pub brought : FunctionUnit → ℕ → ℕ → List Waiting → List Action → Port
-brought u C turn list actions = doneAll u C (emptyPort turn list) actions
+brought u C turn list actions = done_all u C (empty_port turn list) actions
 
 -- From then on: calls alone
 
 -- how many time units pass
-unfoldable pub unitsIn : List Call → ℕ
-unitsIn [] = 0
-unitsIn (arrival i w ∷ calls) = unitsIn calls
-unitsIn (unit ∷ calls) = unitsIn calls + 1
+unfoldable pub units_in : List Call → ℕ
+units_in [] = 0
+units_in (arrival i w ∷ calls) = units_in calls
+units_in (unit ∷ calls) = units_in calls + 1
 
 -- a record of a caller that was started, and the number of the time unit, counted from 1
 pub record Start : Type 0 where
@@ -87,8 +87,8 @@ pub record Start : Type 0 where
   pub unit : ℕ
 
 -- what stands past the end of the starts
-abbrev pub noStart : Start
-noStart = record { caller = 0; task = noRecord; unit = 0 }
+abbrev pub no_start : Start
+no_start = record { caller = 0; task = no_record; unit = 0 }
 
 abbrev pub start_in : Served → ℕ → List Start
 start_in (Served.Started i w) n = record { caller = i; task = w; unit = n } ∷ []
@@ -102,6 +102,6 @@ starts u C p n (arrival i w ∷ calls) = starts u C (after u C p (arrival i w)) 
 starts u C p n (unit ∷ calls) = start_in (served_at u C p) (n + 1) ++ starts u C (after u C p unit) (n + 1) calls
 
 -- those of the callers that pass a test
-unfoldable pub startsOf : (ℕ → Bool) → List Start → List Start
-startsOf f [] = []
-startsOf f (s ∷ l) = cond (f s.caller) (s ∷ startsOf f l) (startsOf f l)
+unfoldable pub starts_of : (ℕ → Bool) → List Start → List Start
+starts_of f [] = []
+starts_of f (s ∷ l) = cond (f s.caller) (s ∷ starts_of f l) (starts_of f l)

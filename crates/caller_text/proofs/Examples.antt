@@ -9,31 +9,31 @@ use Rattle.unit.specs.declared.Refusal.TheVariants.{NoSuchCaller}
 use Rattle.unit.specs.declared.Answer.TheVariants.{Done, Refused}
 use Rattle.queue.specs.declared.Waiting.{Waiting}
 use Rattle.callers.specs.declared.Served.TheVariants as Served
-use Rattle.callers.specs.Calls.{emptyShared}
+use Rattle.callers.specs.Calls.{empty_shared}
 use Rattle.command_table.specs.declared.Share.TheVariants as Share
 use Rattle.command_table.specs.declared.Verb.TheVariants as Verb
 use Rattle.command.specs.declared.Request.{Request}
-use Rattle.caller_text.specs.Told.{opened, offered, servedLine, sharedThen}
+use Rattle.caller_text.specs.Told.{opened, offered, served_line, shared_then}
 
 abbrev b : Waiting
 b = record { tag = 2; ticket = 4294967295 }
 
 -- caller, tag and ticket
-pub one-starts : servedLine (Served.Started 3 b) ≡ ascii "started 3 2 4294967295\n"
+pub one_starts : served_line (Served.Started 3 b) ≡ ascii "started 3 2 4294967295\n"
 unfolding digits decimal
-one-starts = refl
+one_starts = refl
 
 -- the tag is not told first
-pub not-tag-first : servedLine (Served.Started 3 b) ≡ ascii "started 2 3 4294967295\n" → ⊥
+pub not_tag_first : served_line (Served.Started 3 b) ≡ ascii "started 2 3 4294967295\n" → ⊥
 unfolding digits decimal
-not-tag-first e = let z : ◌≡◌ {A = ℕ} 51 50 = ap (λ (l : List ℕ). get_or l 8 0) e in omega arith
+not_tag_first e = let z : ◌≡◌ {A = ℕ} 51 50 = ap (λ (l : List ℕ). get_or l 8 0) e in omega arith
 
-pub none-starts : servedLine Served.Idle ≡ ascii "none\n"
-none-starts = refl
+pub none_starts : served_line Served.Idle ≡ ascii "none\n"
+none_starts = refl
 
-pub no-caller : servedLine (Served.Refused NoSuchCaller) ≡ ascii "refused 18\n"
+pub no_caller : served_line (Served.Refused NoSuchCaller) ≡ ascii "refused 18\n"
 unfolding digits decimal
-no-caller = refl
+no_caller = refl
 
 -- the numbers of a command
 
@@ -51,7 +51,7 @@ pub many : opened (asked 257 0 0) ≡ Refused NoSuchCaller
 many = refl
 
 -- a refused number of callers leaves the port
-pub kept : sharedThen (opened (asked 5 0 0)) 5 (emptyShared 2) ≡ emptyShared 2
+pub kept : shared_then (opened (asked 5 0 0)) 5 (empty_shared 2) ≡ empty_shared 2
 kept = refl
 
 pub offers : offered (asked 3 2 4294967295) ≡ b

@@ -1,6 +1,6 @@
 -- What a designer is told at a port that callers share, and what the session is then.
 use Rattle.std.specs.Prelude.{◌≡◌, List, ◌++◌, ℕ}
-use Rattle.text.specs.Text.{ascii, decimal, put_in, putEnd}
+use Rattle.text.specs.Text.{ascii, decimal, put_in, put_end}
 use Rattle.unit.specs.declared.Answer.{Answer}
 use Rattle.unit.specs.declared.Answer.TheVariants.{Done, Refused}
 use Rattle.unit.specs.declared.Refusal.TheVariants.{NoSuchCaller}
@@ -13,13 +13,13 @@ use Rattle.callers.specs.declared.Called.{Called}
 use Rattle.callers.specs.declared.Taken.{Taken}
 use Rattle.callers.specs.declared.Served.{Served}
 use Rattle.callers.specs.declared.Served.TheVariants as Served
-use Rattle.callers.specs.Calls.{emptyShared, call_of, taken_of}
+use Rattle.callers.specs.Calls.{empty_shared, call_of, taken_of}
 use Rattle.command_table.specs.declared.Share.{Share}
 use Rattle.command_table.specs.declared.Share.TheVariants as Share
 use Rattle.command.specs.declared.Request.{Request}
 use Rattle.session.specs.declared.Session.{Session}
 use Rattle.session.specs.declared.Reply.{Reply}
-use Rattle.session.specs.Sessions.{withPort, one, two, answerLine}
+use Rattle.session.specs.Sessions.{with_port, one, two, answer_line}
 
 -- The calls
 
@@ -40,35 +40,35 @@ turned s = taken_of s.unit s.bank s.shared
 -- Lines
 
 -- the caller and the record that were started: its tag and its ticket
-abbrev pub startedLine : ℕ → Waiting → List ℕ
-startedLine i w = ascii "started " ++ decimal i ++ ascii " " ++ decimal w.tag ++ ascii " " ++ decimal w.ticket ++ newline
+abbrev pub started_line : ℕ → Waiting → List ℕ
+started_line i w = ascii "started " ++ decimal i ++ ascii " " ++ decimal w.tag ++ ascii " " ++ decimal w.ticket ++ newline
 
 -- or that none was
-abbrev pub servedLine : Served → List ℕ
-servedLine (Served.Started i w) = startedLine i w
-servedLine Served.Idle = ascii "none\n"
-servedLine (Served.Refused why) = answerLine (Refused why)
+abbrev pub served_line : Served → List ℕ
+served_line (Served.Started i w) = started_line i w
+served_line Served.Idle = ascii "none\n"
+served_line (Served.Refused why) = answer_line (Refused why)
 
 -- Commands
 
-abbrev pub shareReply : Share → Session → Request → List ℕ
-shareReply Share.Callers s r = answerLine (opened r)
-shareReply Share.Call s r = answerLine (called s r).answer
-shareReply Share.Turn s r = servedLine (turned s).answer
+abbrev pub share_reply : Share → Session → Request → List ℕ
+share_reply Share.Callers s r = answer_line (opened r)
+share_reply Share.Call s r = answer_line (called s r).answer
+share_reply Share.Turn s r = served_line (turned s).answer
 
 -- an accepted number of callers leaves empty queues for them, and the turn at the first; a refused one leaves what was there
-abbrev pub sharedThen : Answer → ℕ → Shared → Shared
-sharedThen Done n before = emptyShared n
-sharedThen (Refused why) n before = before
+abbrev pub shared_then : Answer → ℕ → Shared → Shared
+shared_then Done n before = empty_shared n
+shared_then (Refused why) n before = before
 
 -- a call leaves another queue, a turn another bank, another queue and another turn
-abbrev pub shareNext : Share → Session → Request → Session
-shareNext Share.Callers s r = withPort s s.bank s.queue (sharedThen (opened r) (one r) s.shared)
-shareNext Share.Call s r = withPort s s.bank s.queue (called s r).shared
-shareNext Share.Turn s r = withPort s (turned s).bank s.queue (turned s).shared
+abbrev pub share_next : Share → Session → Request → Session
+share_next Share.Callers s r = with_port s s.bank s.queue (shared_then (opened r) (one r) s.shared)
+share_next Share.Call s r = with_port s s.bank s.queue (called s r).shared
+share_next Share.Turn s r = with_port s (turned s).bank s.queue (turned s).shared
 
 -- one command: the line stands in front of the lent bytes, if there is room for it, and the session goes on
 pub record SharedOn (what : Share) (s : Session) (r : Request) (before after : List ℕ) (t : Reply) : Type 0 where
-  pub out : after ≡ put_in before 0 (shareReply what s r)
-  pub end : t.end ≡ putEnd before 0 (shareReply what s r)
-  pub next : t.session ≡ shareNext what s r
+  pub out : after ≡ put_in before 0 (share_reply what s r)
+  pub end : t.end ≡ put_end before 0 (share_reply what s r)
+  pub next : t.session ≡ share_next what s r

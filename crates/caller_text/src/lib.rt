@@ -2,9 +2,9 @@
 // Every public function here is proved, total and without a `requires`.
 ghost use Rattle.std.specs.Prelude.{◌≡◌, ◌≤◌, length};
 ghost use Rattle.text.specs.Wrote.{Wrote};
-ghost use Rattle.unit.specs.Calls.{testedBy};
+ghost use Rattle.unit.specs.Calls.{tested_by};
 ghost use Rattle.session.specs.Sessions.{Line};
-ghost use Rattle.caller_text.specs.Told.{startedLine, servedLine, sharedThen, SharedOn};
+ghost use Rattle.caller_text.specs.Told.{started_line, served_line, shared_then, SharedOn};
 
 use callers::{Served, Shared};
 use command::Request;
@@ -17,7 +17,7 @@ use words::byte;
 // The caller and the record that were started.
 fn write_started(line: &mut [u8], caller: u8, started: Waiting) -> usize
     requires { 64 ≤ length line.old }
-    ensures { Wrote line.old 0 (startedLine caller started) line.new result }
+    ensures { Wrote line.old 0 (started_line caller started) line.new result }
 {
     let after_word = text::put(line, 0, b"started ");
     let after_caller = text::put_number(line, after_word, caller as u32);
@@ -29,7 +29,7 @@ fn write_started(line: &mut [u8], caller: u8, started: Waiting) -> usize
 }
 
 fn put_started(out: &mut [u8], caller: u8, started: Waiting) -> usize
-    ensures { Line (startedLine caller started) out.old out.new result }
+    ensures { Line (started_line caller started) out.old out.new result }
 {
     let mut line = [0u8; 64];
     let end = write_started(&mut line, caller, started);
@@ -38,7 +38,7 @@ fn put_started(out: &mut [u8], caller: u8, started: Waiting) -> usize
 
 // What a time unit did.
 fn put_served(out: &mut [u8], served: Served) -> usize
-    ensures { Line (servedLine served) out.old out.new result }
+    ensures { Line (served_line served) out.old out.new result }
 {
     match served {
         Served::Started(caller, started) => put_started(out, caller, started),
@@ -49,7 +49,7 @@ fn put_served(out: &mut [u8], served: Served) -> usize
 
 // The port for so many callers, or the one that was there.
 fn shared_then(answer: Answer, callers: u8, before: Shared) -> Shared
-    ensures { result ≡ sharedThen answer callers before }
+    ensures { result ≡ shared_then answer callers before }
 {
     match answer {
         Answer::Refused(_) => before,

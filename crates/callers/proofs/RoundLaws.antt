@@ -8,16 +8,16 @@ use lib.Dec.{eqb}
 use borrow.Author.Tests.{eqb-true, eqb-false}
 use Rattle.unit.specs.Unit.{inside}
 use Rattle.unit.proofs.Laws.{within, inside_of}
-use Rattle.callers.specs.Turn.{round, firstAfter, nextTurn, turnNow}
-use Rattle.callers.specs.Queues.{hasWork}
+use Rattle.callers.specs.Turn.{round, first_after, next_turn, turn_now}
+use Rattle.callers.specs.Queues.{has_work}
 use Rattle.callers.specs.Inner.{Among}
 
 pub data Round (C t r : ℕ) : Type 0 where
   over : t ≡ C → r ≡ 1 → Round C t r
   on : t < C → r ≡ t + 1 → Round C t r
 
-pub is-round : (C t : ℕ) → t ≤ C → Round C t (round C t)
-is-round C t h = go (eqb t C) refl
+pub is_round : (C t : ℕ) → t ≤ C → Round C t (round C t)
+is_round C t h = go (eqb t C) refl
   where
     go : (b : Bool) → eqb t C ≡ b → Round C t (cond b 1 (t + 1))
     go true e = over (eqb-true t C e) refl
@@ -28,81 +28,81 @@ is-round C t h = go (eqb t C) refl
 
 module _ (C : ℕ) where
   pub round-inside : (t : ℕ) → inside t C ≡ true → inside (round C t) C ≡ true
-  round-inside t i = let w = within t C i in go (is-round C t w.most) w.least w.most
+  round-inside t i = let w = within t C i in go (is_round C t w.most) w.least w.most
     where
       go : {r : ℕ} → Round C t r → 1 ≤ t → t ≤ C → inside r C ≡ true
       go {r} (over e f) a b = inside_of r C (omega arith) (omega arith)
       go {r} (on e f) a b = inside_of r C (omega arith) (omega arith)
 
 -- the turn always names a caller
-pub next-inside : (C : ℕ) (work : ℕ → Bool) (k t stay : ℕ) → inside t C ≡ true → inside stay C ≡ true → inside (firstAfter k C work t stay) C ≡ true
-unfolding firstAfter
-next-inside C work zero t stay i j = j
-next-inside C work (suc k) t stay i j = go (work (round C t)) (next-inside C work k (round C t) stay (round-inside C t i) j)
+pub next_inside : (C : ℕ) (work : ℕ → Bool) (k t stay : ℕ) → inside t C ≡ true → inside stay C ≡ true → inside (first_after k C work t stay) C ≡ true
+unfolding first_after
+next_inside C work zero t stay i j = j
+next_inside C work (suc k) t stay i j = go (work (round C t)) (next_inside C work k (round C t) stay (round-inside C t i) j)
   where
-    go : (b : Bool) → inside (firstAfter k C work (round C t) stay) C ≡ true → inside (cond b (round C t) (firstAfter k C work (round C t) stay)) C ≡ true
+    go : (b : Bool) → inside (first_after k C work (round C t) stay) C ≡ true → inside (cond b (round C t) (first_after k C work (round C t) stay)) C ≡ true
     go true h = round-inside C t i
     go false h = h
 
 -- whose turn it is: the caller whose turn it was, or, where that one has no work, the next
-pub turn-now : (C : ℕ) (work : ℕ → Bool) (t : ℕ) (P : ℕ → Type 0) → (work t ≡ true → P t) → (work t ≡ false → P (nextTurn C work t)) → P (turnNow C work t)
-turn-now C work t P x y = go (work t) refl
+pub turn_now_lem : (C : ℕ) (work : ℕ → Bool) (t : ℕ) (P : ℕ → Type 0) → (work t ≡ true → P t) → (work t ≡ false → P (next_turn C work t)) → P (turn_now C work t)
+turn_now_lem C work t P x y = go (work t) refl
   where
-    go : (b : Bool) → work t ≡ b → P (cond b t (nextTurn C work t))
+    go : (b : Bool) → work t ≡ b → P (cond b t (next_turn C work t))
     go true e = x e
     go false e = y e
 
-pub now-inside : (C : ℕ) (work : ℕ → Bool) (t : ℕ) → inside t C ≡ true → inside (turnNow C work t) C ≡ true
-now-inside C work t i = turn-now C work t (λ j. inside j C ≡ true) (λ e. i) (λ e. next-inside C work C t t i i)
+pub now_inside : (C : ℕ) (work : ℕ → Bool) (t : ℕ) → inside t C ≡ true → inside (turn_now C work t) C ≡ true
+now_inside C work t i = turn_now_lem C work t (λ j. inside j C ≡ true) (λ e. i) (λ e. next_inside C work C t t i i)
 
 -- The search as a loop makes it
 
 module _ (C : ℕ) (work : ℕ → Bool) (i stay : ℕ) where
-  first_found : (k : ℕ) → 0 < k → work (round C i) ≡ true → firstAfter k C work i stay ≡ round C i
-  unfolding firstAfter
+  first_found : (k : ℕ) → 0 < k → work (round C i) ≡ true → first_after k C work i stay ≡ round C i
+  unfolding first_after
   first_found zero h e = absurd (omega arith)
-  first_found (suc k) h e = ap (λ b. cond b (round C i) (firstAfter k C work (round C i) stay)) e
+  first_found (suc k) h e = ap (λ b. cond b (round C i) (first_after k C work (round C i) stay)) e
 
-  first_on : (k : ℕ) → 0 < k → work (round C i) ≡ false → firstAfter k C work i stay ≡ firstAfter (k - 1) C work (round C i) stay
-  unfolding firstAfter
+  first_on : (k : ℕ) → 0 < k → work (round C i) ≡ false → first_after k C work i stay ≡ first_after (k - 1) C work (round C i) stay
+  unfolding first_after
   first_on zero h e = absurd (omega arith)
   first_on (suc k) h e =
       let s : suc k - 1 ≡ k = omega arith in
-      ap (λ b. cond b (round C i) (firstAfter k C work (round C i) stay)) e ∙ ap (λ (n : ℕ). firstAfter n C work (round C i) stay) (sym s)
+      ap (λ b. cond b (round C i) (first_after k C work (round C i) stay)) e ∙ ap (λ (n : ℕ). first_after n C work (round C i) stay) (sym s)
 
-  first-end : (k : ℕ) → k ≤ 0 → firstAfter k C work i stay ≡ stay
-  unfolding firstAfter
+  first-end : (k : ℕ) → k ≤ 0 → first_after k C work i stay ≡ stay
+  unfolding first_after
   first-end zero h = refl
   first-end (suc k) h = absurd (omega arith)
 
-one-round : (C i : ℕ) → Among C i → Among C (round C i)
-one-round C i o =
+one_round : (C i : ℕ) → Among C i → Among C (round C i)
+one_round C i o =
     let w = within (round C i) C (round-inside C i (inside_of i C o.least o.most)) in
     record { few = o.few; least = w.least; most = w.most }
 
 -- so many callers are still to be asked
 pub record Going (C : ℕ) (counts : List ℕ) (from caller left : ℕ) : Type 0 where
   pub here : Among C caller
-  pub rest : nextTurn C (hasWork counts) from ≡ firstAfter left C (hasWork counts) caller from
+  pub rest : next_turn C (has_work counts) from ≡ first_after left C (has_work counts) caller from
 
-pub going-one : {C : ℕ} {counts : List ℕ} {from caller left : ℕ} → Going C counts from caller left → (r : ℕ) → r ≡ round C caller → Among 4 r
-going-one {C} {counts} {from} {caller} {left} g r e =
-    let o = one-round C caller g.here in
+pub going_one : {C : ℕ} {counts : List ℕ} {from caller left : ℕ} → Going C counts from caller left → (r : ℕ) → r ≡ round C caller → Among 4 r
+going_one {C} {counts} {from} {caller} {left} g r e =
+    let o = one_round C caller g.here in
     subst (Among 4) (sym e) (record { few = omega arith; least = o.least; most = omega (arith, o.most, o.few) })
 
-pub going-found : {C : ℕ} {counts : List ℕ} {from caller left : ℕ} → Going C counts from caller left → 0 < left → (r : ℕ) → r ≡ round C caller
-    → hasWork counts r ≡ true → r ≡ nextTurn C (hasWork counts) from
-going-found {C} {counts} {from} {caller} {left} g h r e w =
-    e ∙ sym (g.rest ∙ first_found C (hasWork counts) caller from left h (ap (hasWork counts) (sym e) ∙ w))
+pub going_found : {C : ℕ} {counts : List ℕ} {from caller left : ℕ} → Going C counts from caller left → 0 < left → (r : ℕ) → r ≡ round C caller
+    → has_work counts r ≡ true → r ≡ next_turn C (has_work counts) from
+going_found {C} {counts} {from} {caller} {left} g h r e w =
+    e ∙ sym (g.rest ∙ first_found C (has_work counts) caller from left h (ap (has_work counts) (sym e) ∙ w))
 
 pub going_on : {C : ℕ} {counts : List ℕ} {from caller left : ℕ} → Going C counts from caller left → 0 < left → (r : ℕ) → r ≡ round C caller
-    → hasWork counts r ≡ false → Going C counts from r (left - 1)
+    → has_work counts r ≡ false → Going C counts from r (left - 1)
 going_on {C} {counts} {from} {caller} {left} g h r e w =
     subst (λ (x : ℕ). Going C counts from x (left - 1)) (sym e)
     (record {
-      here = one-round C caller g.here;
-      rest = g.rest ∙ first_on C (hasWork counts) caller from left h (ap (hasWork counts) (sym e) ∙ w);
+      here = one_round C caller g.here;
+      rest = g.rest ∙ first_on C (has_work counts) caller from left h (ap (has_work counts) (sym e) ∙ w);
     })
 
-pub going_end : {C : ℕ} {counts : List ℕ} {from caller left : ℕ} → Going C counts from caller left → left ≤ 0 → from ≡ nextTurn C (hasWork counts) from
-going_end {C} {counts} {from} {caller} {left} g h = sym (g.rest ∙ first-end C (hasWork counts) caller from left h)
+pub going_end : {C : ℕ} {counts : List ℕ} {from caller left : ℕ} → Going C counts from caller left → left ≤ 0 → from ≡ next_turn C (has_work counts) from
+going_end {C} {counts} {from} {caller} {left} g h = sym (g.rest ∙ first-end C (has_work counts) caller from left h)

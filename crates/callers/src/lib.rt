@@ -6,12 +6,12 @@ ghost use Rattle.unit.specs.Unit.{inside};
 ghost use Rattle.unit.specs.declared.Answer.TheVariants.{Done};
 ghost use Rattle.queue.specs.declared.Passed.TheVariants.{Idle};
 ghost use Rattle.queue.specs.Calls.{oldest};
-ghost use Rattle.queue.specs.Line.{noRecord, tagsInside, forward};
-ghost use Rattle.callers.specs.Turn.{eachCaller, round, nextTurn, turnNow};
-ghost use Rattle.callers.specs.Queues.{room, place_of, count_of, withCount, waitingOf, hasWork};
-ghost use Rattle.callers.specs.Calls.{one_of, emptyShared, call_of, taken_of};
-ghost use Rattle.callers.specs.Parts.{arrivalIn, arrivalOnBy, unitIn, onBy, unitOnBy};
-ghost use Rattle.callers.specs.Inner.{Among, asked_of, FewEach, startedBy, Servable, Startable};
+ghost use Rattle.queue.specs.Line.{no_record, tags_inside, forward};
+ghost use Rattle.callers.specs.Turn.{each_caller, round, next_turn, turn_now};
+ghost use Rattle.callers.specs.Queues.{room, place_of, count_of, with_count, waiting_of, has_work};
+ghost use Rattle.callers.specs.Calls.{one_of, empty_shared, call_of, taken_of};
+ghost use Rattle.callers.specs.Parts.{arrival_in, arrival_on_by, unit_in, on_by, unit_on_by};
+ghost use Rattle.callers.specs.Inner.{Among, asked_of, FewEach, started_by, Servable, Startable};
 
 use controller::{Bank, Event};
 use queue::{Arrival, Waiting};
@@ -100,7 +100,7 @@ fn round_to(callers: u8, caller: u8) -> u8
 // Whether a record waits in the caller's queue.
 fn has_work(counts: [usize; 4], caller: u8) -> bool
     requires { Among 4 caller }
-    ensures { result ≡ hasWork counts caller }
+    ensures { result ≡ has_work counts caller }
 {
     let place = (caller - 1) as usize;
     counts[place] != 0
@@ -109,7 +109,7 @@ fn has_work(counts: [usize; 4], caller: u8) -> bool
 // The next caller with work, going round; where none has any, the turn stays.
 fn next_turn(callers: u8, counts: [usize; 4], from: u8) -> u8
     requires { Among callers from }
-    ensures { result ≡ nextTurn callers (hasWork counts) from }
+    ensures { result ≡ next_turn callers (has_work counts) from }
 {
     let mut caller = from;
     let mut left = callers;
@@ -126,7 +126,7 @@ fn next_turn(callers: u8, counts: [usize; 4], from: u8) -> u8
 // Whose turn it is in a time unit.
 fn turn_now(callers: u8, counts: [usize; 4], turn: u8) -> u8
     requires { Among callers turn }
-    ensures { result ≡ turnNow callers (hasWork counts) turn }
+    ensures { result ≡ turn_now callers (has_work counts) turn }
 {
     if has_work(counts, turn) {
         return turn;
@@ -159,7 +159,7 @@ fn asked(callers: u8) -> u8
 // Whether no more than 8 wait in each of the first queues.
 fn all_few(counts: [usize; 4], callers: u8) -> bool
     requires { callers ≤ 4 }
-    ensures { result ≡ eachCaller callers (λ i. leb (count_of counts i) room) }
+    ensures { result ≡ each_caller callers (λ i. leb (count_of counts i) room) }
 {
     let mut place = 0;
     while place < callers as usize {
@@ -174,7 +174,7 @@ fn all_few(counts: [usize; 4], callers: u8) -> bool
 // Whether some records have tags of the unit.
 fn fits_from(list: [Waiting; 32], from: usize, count: usize, functions: u8) -> bool
     requires { from + count ≤ 32 }
-    ensures { result ≡ tagsInside functions (take count (drop from list)) }
+    ensures { result ≡ tags_inside functions (take count (drop from list)) }
 {
     let mut i = 0;
     while i < count {
@@ -190,7 +190,7 @@ fn fits_from(list: [Waiting; 32], from: usize, count: usize, functions: u8) -> b
 // Whether the records that wait in the first queues have tags of the unit.
 fn all_fit(list: [Waiting; 32], counts: [usize; 4], callers: u8, functions: u8) -> bool
     requires { FewEach callers counts }
-    ensures { result ≡ eachCaller callers (λ i. tagsInside functions (take (count_of counts i) (drop (place_of i) list))) }
+    ensures { result ≡ each_caller callers (λ i. tags_inside functions (take (count_of counts i) (drop (place_of i) list))) }
 {
     let mut place = 0;
     while place < callers as usize {
@@ -205,7 +205,7 @@ fn all_fit(list: [Waiting; 32], counts: [usize; 4], callers: u8, functions: u8) 
 // The same, where no more than 8 wait in each; otherwise none is looked at.
 fn few_fit(list: [Waiting; 32], counts: [usize; 4], callers: u8, few: bool, functions: u8) -> bool
     requires { few ≡ true → FewEach callers counts }
-    ensures { result ≡ cond few (eachCaller callers (λ i. tagsInside functions (take (count_of counts i) (drop (place_of i) list)))) true }
+    ensures { result ≡ cond few (each_caller callers (λ i. tags_inside functions (take (count_of counts i) (drop (place_of i) list)))) true }
 {
     if few {
         return all_fit(list, counts, callers, functions);
@@ -222,7 +222,7 @@ fn check_unit(
     list: [Waiting; 32],
     counts: [usize; 4],
 ) -> Answer
-    ensures { result ≡ unitIn u callers turn length list counts }
+    ensures { result ≡ unit_in u callers turn length list counts }
 {
     let sound = unit::sound(u);
     let known = named(callers, turn);
@@ -250,7 +250,7 @@ fn place_of(caller: u8) -> usize
 // Whether the records that wait in one queue have tags of the unit; where more than 8 wait none is looked at.
 fn own_fit(list: [Waiting; 32], from: usize, count: usize, functions: u8) -> bool
     requires { from + 8 ≤ 32 }
-    ensures { result ≡ cond (leb count room) (tagsInside functions (take count (drop from list))) true }
+    ensures { result ≡ cond (leb count room) (tags_inside functions (take count (drop from list))) true }
 {
     if count <= 8 {
         return fits_from(list, from, count, functions);
@@ -268,7 +268,7 @@ fn check_arrival(
     count: usize,
     tag: u8,
 ) -> Answer
-    ensures { result ≡ arrivalIn u callers caller length list count tag }
+    ensures { result ≡ arrival_in u callers caller length list count tag }
 {
     let sound = unit::sound(u);
     let known = named(callers, caller);
@@ -306,7 +306,7 @@ pub fn arrival_on(
     count: usize,
     offered: Waiting,
 ) -> ArrivalOn
-    ensures { result ≡ arrivalOnBy caller records.list count offered (arrivalIn u callers caller length records.list count offered.tag) }
+    ensures { result ≡ arrival_on_by caller records.list count offered (arrival_in u callers caller length records.list count offered.tag) }
 {
     let list = records.list;
     let answer = check_arrival(u, callers, caller, length, list, count, offered.tag);
@@ -336,7 +336,7 @@ pub fn arrival_on(
 // A time unit in which the turn is this caller's and nothing is started.
 fn idled(u: FunctionUnit, bank: Bank, caller: u8, records: Records, counts: Counts) -> UnitOn
     requires { Among 4 caller }
-    ensures { result ≡ onBy u bank 0 0 records.list counts.each caller Idle }
+    ensures { result ≡ on_by u bank 0 0 records.list counts.each caller Idle }
 {
     let after = controller::step(u, bank, Event::Tick);
     let later = after.bank;
@@ -375,7 +375,7 @@ fn started(
     counts: Counts,
 ) -> UnitOn
     requires { (Among callers caller) × (1 ≤ count_of counts.each caller) × (count_of counts.each caller ≤ 8) }
-    ensures { result ≡ startedBy callers caller first bank records.list counts.each }
+    ensures { result ≡ started_by callers caller first bank records.list counts.each }
 {
     let list = records.list;
     let mut each = counts.each;
@@ -399,7 +399,7 @@ fn started(
 // The first record of a queue.
 fn first_of(list: [Waiting; 32], caller: u8) -> Waiting
     requires { Among 4 caller }
-    ensures { (result ≡ get_or list (place_of caller) noRecord) × (length list ≡ 32) }
+    ensures { (result ≡ get_or list (place_of caller) no_record) × (length list ≡ 32) }
 {
     let place = (caller - 1) as usize;
     list[8 * place]
@@ -415,7 +415,7 @@ fn tried(
     counts: Counts,
 ) -> UnitOn
     requires { Startable u callers caller records.list counts.each }
-    ensures { result ≡ onBy u bank callers 0 records.list counts.each caller (oldest bank (waitingOf records.list counts.each caller)) }
+    ensures { result ≡ on_by u bank callers 0 records.list counts.each caller (oldest bank (waiting_of records.list counts.each caller)) }
 {
     let list = records.list;
     let first = first_of(list, caller);
@@ -440,7 +440,7 @@ fn turned_to(
     counts: Counts,
 ) -> UnitOn
     requires { Servable u callers turn records.list counts.each }
-    ensures { result ≡ unitOnBy u bank callers turn records.list counts.each Done }
+    ensures { result ≡ unit_on_by u bank callers turn records.list counts.each Done }
 {
     let each = counts.each;
     let caller = turn_now(callers, each, turn);
@@ -460,7 +460,7 @@ pub fn unit_on(
     records: Records,
     counts: Counts,
 ) -> UnitOn
-    ensures { result ≡ unitOnBy u bank callers turn records.list counts.each (unitIn u callers turn length records.list counts.each) }
+    ensures { result ≡ unit_on_by u bank callers turn records.list counts.each (unit_in u callers turn length records.list counts.each) }
 {
     let list = records.list;
     let each = counts.each;
@@ -483,7 +483,7 @@ pub fn unit_on(
 
 // A port of so many callers: the turn is caller 1's, and nothing waits.
 pub fn empty_shared(callers: u8) -> Shared
-    ensures { result ≡ emptyShared callers }
+    ensures { result ≡ empty_shared callers }
 {
     Shared {
         callers,
@@ -513,7 +513,7 @@ fn count_of(counts: [usize; 4], caller: u8) -> usize
 
 // The counts with another one for a caller.
 fn with_count(counts: [usize; 4], caller: u8, count: usize) -> [usize; 4]
-    ensures { result ≡ cond (inside caller 4) (withCount counts caller count) counts }
+    ensures { result ≡ cond (inside caller 4) (with_count counts caller count) counts }
 {
     let mut each = counts;
     if words::is_inside(caller, 4) {

@@ -4,22 +4,22 @@ use mathlib.Core.Path.{◌≡◌, ap}
 use native.Mathlib.Omega.{arith}
 use lib.ListN.{length}
 use Rattle.text.specs.Text.{decimal}
-use Rattle.text.proofs.DecimalLaws.{by_digits, decimal-small, decimal-longer, decimal-some}
+use Rattle.text.proofs.DecimalLaws.{by_digits, decimal_small, decimal_longer, decimal_some}
 
-pub one-digit : (n : ℕ) → n < 10 → length (decimal n) ≡ 1
-one-digit n h = ap length (decimal-small n h)
+pub one_digit : (n : ℕ) → n < 10 → length (decimal n) ≡ 1
+one_digit n h = ap length (decimal_small n h)
 
 -- a smaller number has no more digits
-more-digits : (k a b : ℕ) → b < 10 ^ k → b < 2 ^ 32 → a ≤ b → length (decimal a) ≤ length (decimal b)
-more-digits zero a b h w l = let e : a ≡ b = omega arith in omega (arith, ap (λ n. length (decimal n)) e)
-more-digits (suc k) a b h w l =
-    by_digits b (λ s. omega (arith, one-digit a (omega arith), one-digit b s))
+more_digits : (k a b : ℕ) → b < 10 ^ k → b < 2 ^ 32 → a ≤ b → length (decimal a) ≤ length (decimal b)
+more_digits zero a b h w l = let e : a ≡ b = omega arith in omega (arith, ap (λ n. length (decimal n)) e)
+more_digits (suc k) a b h w l =
+    by_digits b (λ s. omega (arith, one_digit a (omega arith), one_digit b s))
     (λ t.
-    by_digits a (λ s. omega (arith, one-digit a s, decimal-some b))
-    (λ s. omega (arith, decimal-longer a s (omega arith), decimal-longer b t w, more-digits k (a / 10) (b / 10) (omega arith) (omega arith) (omega arith))))
+    by_digits a (λ s. omega (arith, one_digit a s, decimal_some b))
+    (λ s. omega (arith, decimal_longer a s (omega arith), decimal_longer b t w, more_digits k (a / 10) (b / 10) (omega arith) (omega arith) (omega arith))))
 
-pub digits-most : (a b : ℕ) → b < 2 ^ 32 → a ≤ b → length (decimal a) ≤ length (decimal b)
-digits-most a b w l = more-digits 10 a b (omega arith) w l
+pub digits_most : (a b : ℕ) → b < 2 ^ 32 → a ≤ b → length (decimal a) ≤ length (decimal b)
+digits_most a b w l = more_digits 10 a b (omega arith) w l
 
 -- both numbers divided by ten so often that so many spaces are counted
 pub record Counted (number most rest room spaces : ℕ) : Type 0 where
@@ -35,18 +35,18 @@ module _ (number most rest room spaces : ℕ) (c : Counted number most rest room
   counted-space h l = record {
     below = omega arith;
     word = omega (arith, c.word);
-    digits = omega (arith, c.digits, decimal-longer room h c.word, one-digit rest l, one-digit (rest / 10) (omega arith));
+    digits = omega (arith, c.digits, decimal_longer room h c.word, one_digit rest l, one_digit (rest / 10) (omega arith));
   }
 
   pub counted-digit : 10 ≤ room → 10 ≤ rest → Counted number most (rest / 10) (room / 10) spaces
   counted-digit h l = record {
     below = omega (arith, c.below);
     word = omega (arith, c.word);
-    digits = omega (arith, c.digits, decimal-longer room h c.word, decimal-longer rest l (omega (arith, c.below, c.word)));
+    digits = omega (arith, c.digits, decimal_longer room h c.word, decimal_longer rest l (omega (arith, c.below, c.word)));
   }
 
   pub counted-few : spaces ≤ length (decimal most)
-  counted-few = omega (arith, c.digits, decimal-some number, decimal-some room, digits-most rest room c.word c.below)
+  counted-few = omega (arith, c.digits, decimal_some number, decimal_some room, digits_most rest room c.word c.below)
 
   pub counted-end : room < 10 → spaces ≡ length (decimal most) - length (decimal number)
-  counted-end h = omega (arith, c.digits, one-digit room h, one-digit rest (omega (arith, c.below)))
+  counted-end h = omega (arith, c.digits, one_digit room h, one_digit rest (omega (arith, c.below)))

@@ -4,7 +4,7 @@ mod rows;
 
 ghost use Rattle.std.specs.Prelude.{◌≡◌, length, replicate};
 ghost use Rattle.controller.specs.Bank.{empty};
-ghost use Rattle.chart.specs.Answers.{planAnswer, unitsAnswer, chartRefusal, chartAnswer, chartOut, simulateAnswer, simulateOut, chartArea};
+ghost use Rattle.chart.specs.Answers.{plan_answer, units_answer, chart_refusal, chart_answer, chart_out, simulate_answer, simulate_out, chart_area};
 
 use controller::Bank;
 use unit::{Answer, FunctionUnit, Plan, Refusal, Tag};
@@ -21,7 +21,7 @@ pub enum Charted {
 
 // Zeros, room for every chart of up to 8,192 units.
 pub fn area() -> [u8; CHART]
-    ensures { result ≡ replicate chartArea 0 }
+    ensures { result ≡ replicate chart_area 0 }
 {
     [0; CHART]
 }
@@ -39,7 +39,7 @@ fn empty_bank() -> Bank
 
 // Whether the plan is one of the unit's, and holds a cycle.
 fn check_plan(u: FunctionUnit, plan: Plan) -> Answer
-    ensures { result ≡ planAnswer u plan }
+    ensures { result ≡ plan_answer u plan }
 {
     let known = unit::check_tag(u, Tag(plan.tag));
     match known {
@@ -55,7 +55,7 @@ fn check_plan(u: FunctionUnit, plan: Plan) -> Answer
 
 // Whether every one of so many units is played.
 fn check_units(u: FunctionUnit, plan: Plan, units: u32) -> Answer
-    ensures { result ≡ unitsAnswer u plan units }
+    ensures { result ≡ units_answer u plan units }
 {
     let mut position: u16 = 0;
     let mut bank = empty_bank();
@@ -75,7 +75,7 @@ fn check_units(u: FunctionUnit, plan: Plan, units: u32) -> Answer
 
 // Whether there is a chart, for which so many bytes have room. The room is tried before the units are played, so that the time goes by it.
 fn check_chart(u: FunctionUnit, plan: Plan, units: u32, room: usize) -> Answer
-    ensures { result ≡ chartRefusal u plan units room }
+    ensures { result ≡ chart_refusal u plan units room }
 {
     let known = check_plan(u, plan);
     match known {
@@ -91,8 +91,8 @@ fn check_chart(u: FunctionUnit, plan: Plan, units: u32, room: usize) -> Answer
 
 // The chart of a plan, played on a unit for so many time units.
 pub fn chart(u: FunctionUnit, plan: Plan, units: u32, out: &mut [u8]) -> Charted
-    ensures value { result ≡ chartAnswer u plan units (length out.old) }
-    ensures out_after { out.new ≡ chartOut u plan units out.old }
+    ensures value { result ≡ chart_answer u plan units (length out.old) }
+    ensures out_after { out.new ≡ chart_out u plan units out.old }
 {
     let checked = check_chart(u, plan, units, out.len());
     match checked {
@@ -106,8 +106,8 @@ pub fn chart(u: FunctionUnit, plan: Plan, units: u32, out: &mut [u8]) -> Charted
 
 // The chart of a function's own plan.
 pub fn simulate(u: FunctionUnit, tag: Tag, units: u32, out: &mut [u8]) -> Charted
-    ensures value { result ≡ simulateAnswer u tag.0 units (length out.old) }
-    ensures out_after { out.new ≡ simulateOut u tag.0 units out.old }
+    ensures value { result ≡ simulate_answer u tag.0 units (length out.old) }
+    ensures out_after { out.new ≡ simulate_out u tag.0 units out.old }
 {
     let own = function_plan::read_for(u, tag);
     let answer = own.answer;

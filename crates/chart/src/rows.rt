@@ -1,18 +1,18 @@
 // The lines of a chart.
 ghost use Rattle.std.specs.Prelude.{◌+◌, ◌-◌, ◌*◌, ◌≤◌, ◌<◌, ◌≡◌, length};
-ghost use Rattle.words.specs.Below.{listBelow};
+ghost use Rattle.words.specs.Below.{list_below};
 ghost use Rattle.text.specs.Text.{decimal, placed};
 ghost use Rattle.text.specs.Wrote.{Wrote, Put};
-ghost use Rattle.chart.specs.Cells.{letter, startCell, nextCell};
-ghost use Rattle.chart.specs.Text.{atLeft, atRight, unitDigit, busy, busyText, segmentLine, topLines, chartOf};
-ghost use Rattle.chart.specs.Inner.{Ready, startByte, row_in, cells_in, linesText, topLength, lineLength, rowFrom};
+ghost use Rattle.chart.specs.Cells.{letter, start_cell, next_cell};
+ghost use Rattle.chart.specs.Text.{at_left, at_right, unit_digit, busy, busy_text, segment_line, top_lines, chart_of};
+ghost use Rattle.chart.specs.Inner.{Ready, start_byte, row_in, cells_in, lines_text, top_length, line_length, row_from};
 
 use unit::{FunctionUnit, Plan, Tag};
 
 // The last digits of the numbers of the units.
 fn put_units(out: &mut [u8], at: usize, units: usize) -> usize
     requires { (units < 4294967296) × (at + units ≤ length out.old) }
-    ensures { Wrote out.old at (listBelow units unitDigit) out.new result }
+    ensures { Wrote out.old at (list_below units unit_digit) out.new result }
 {
     let mut i: usize = 0;
     while i < units {
@@ -35,7 +35,7 @@ fn letter_of(task: usize) -> u8
 
 // The byte of a unit in the row of starts.
 fn start_cell(started: bool, tasks: usize) -> u8
-    ensures { result ≡ startByte started tasks }
+    ensures { result ≡ start_byte started tasks }
 {
     if started {
         return letter_of(tasks);
@@ -46,7 +46,7 @@ fn start_cell(started: bool, tasks: usize) -> u8
 // The row of starts, played step by step.
 fn put_starts(out: &mut [u8], at: usize, u: FunctionUnit, plan: Plan, units: usize) -> usize
     requires { (units < 4294967296) × (at + units ≤ length out.old) }
-    ensures { Wrote out.old at (listBelow units (startCell u plan)) out.new result }
+    ensures { Wrote out.old at (list_below units (start_cell u plan)) out.new result }
 {
     let mut position: u16 = 0;
     let mut bank = crate::empty_bank();
@@ -65,8 +65,8 @@ fn put_starts(out: &mut [u8], at: usize, u: FunctionUnit, plan: Plan, units: usi
 
 // The first two lines.
 fn put_top(out: &mut [u8], u: FunctionUnit, plan: Plan, units: usize) -> usize
-    requires { (units < 4294967296) × (topLength units ≤ length out.old) }
-    ensures { Put (topLength units) out.old 0 (topLines units (startCell u plan)) out.new result }
+    requires { (units < 4294967296) × (top_length units ≤ length out.old) }
+    ensures { Put (top_length units) out.old 0 (top_lines units (start_cell u plan)) out.new result }
 {
     let after_name = text::put(out, 0, b"unit    ");
     let after_units = put_units(out, after_name, units);
@@ -79,7 +79,7 @@ fn put_top(out: &mut [u8], u: FunctionUnit, plan: Plan, units: usize) -> usize
 // The task that occupies a segment in a unit, with one more column looked at: that of the start so many units before, if the segment is marked in it.
 fn next_cell(bytes: &[u8], from: usize, i: usize, c: usize, marked: bool, cell: u8) -> u8
     requires { from + i < length bytes.now }
-    ensures { result ≡ nextCell marked (row_in bytes.now from) i c cell }
+    ensures { result ≡ next_cell marked (row_in bytes.now from) i c cell }
 {
     if i < c {
         return cell;
@@ -128,7 +128,7 @@ fn put_cells(
 ) -> usize
     requires { (columns ≤ 32) × (from + units ≤ at) × (at + units ≤ length out.old) }
     ensures value { result ≡ busy units (cells_in out.old from marks columns segment) }
-    ensures out_after { out.new ≡ placed out.old at (listBelow units (cells_in out.old from marks columns segment)) }
+    ensures out_after { out.new ≡ placed out.old at (list_below units (cells_in out.old from marks columns segment)) }
 {
     let mut count: usize = 0;
     let mut i: usize = 0;
@@ -162,7 +162,7 @@ fn spaces_before(number: u32, most: u32) -> usize
 // A number at the right of as many bytes as another has digits.
 fn put_at_right(out: &mut [u8], at: usize, number: u32, most: u32) -> usize
     requires { (number ≤ most) × (at + length (decimal most) ≤ length out.old) }
-    ensures { Put (length (decimal most)) out.old at (atRight (length (decimal most)) (decimal number)) out.new result }
+    ensures { Put (length (decimal most)) out.old at (at_right (length (decimal most)) (decimal number)) out.new result }
 {
     let blank = [32u8; 10];
     let spaces = spaces_before(number, most);
@@ -173,7 +173,7 @@ fn put_at_right(out: &mut [u8], at: usize, number: u32, most: u32) -> usize
 // How many of the units are busy.
 fn put_count(out: &mut [u8], at: usize, number: u32, units: u32) -> usize
     requires { (number ≤ units) × (at + (2 * length (decimal units) + 8) ≤ length out.old) }
-    ensures { Put (2 * length (decimal units) + 8) out.old at (busyText number units) out.new result }
+    ensures { Put (2 * length (decimal units) + 8) out.old at (busy_text number units) out.new result }
 {
     let after_word = text::put(out, at, b" busy ");
     let after_number = put_at_right(out, after_word, number, units);
@@ -185,7 +185,7 @@ fn put_count(out: &mut [u8], at: usize, number: u32, units: u32) -> usize
 // The number of a segment at the left of its field.
 fn put_name(out: &mut [u8], at: usize, number: u32) -> usize
     requires { (number < 100) × (at + 8 ≤ length out.old) }
-    ensures { Put 8 out.old at (atLeft 8 (decimal number)) out.new result }
+    ensures { Put 8 out.old at (at_left 8 (decimal number)) out.new result }
 {
     let after_number = text::put_number(out, at, number);
     if number < 10 {
@@ -203,8 +203,8 @@ fn put_segment(
     columns: usize,
     segment: u32,
 ) -> usize
-    requires { (columns ≤ 32) × (segment < 16) × (rowFrom units + units ≤ at) × (at + lineLength units ≤ length out.old) }
-    ensures { Put (lineLength units) out.old at (segmentLine units (cells_in out.old (rowFrom units) marks columns segment) (segment + 1)) out.new result }
+    requires { (columns ≤ 32) × (segment < 16) × (row_from units + units ≤ at) × (at + line_length units ≤ length out.old) }
+    ensures { Put (line_length units) out.old at (segment_line units (cells_in out.old (row_from units) marks columns segment) (segment + 1)) out.new result }
 {
     let count = units as usize;
     let after_name = put_name(out, at, segment + 1);
@@ -221,8 +221,8 @@ fn put_segments(
     columns: usize,
     segments: u32,
 ) -> usize
-    requires { (columns ≤ 32) × (segments ≤ 16) × (rowFrom units + units ≤ at) × (at + lineLength units * segments ≤ length out.old) }
-    ensures { Put (lineLength units * segments) out.old at (linesText out.old (rowFrom units) marks columns units segments) out.new result }
+    requires { (columns ≤ 32) × (segments ≤ 16) × (row_from units + units ≤ at) × (at + line_length units * segments ≤ length out.old) }
+    ensures { Put (line_length units * segments) out.old at (lines_text out.old (row_from units) marks columns units segments) out.new result }
 {
     let mut end = at;
     let mut segment: u32 = 0;
@@ -235,8 +235,8 @@ fn put_segments(
 
 // The whole chart.
 pub fn put_chart(out: &mut [u8], u: FunctionUnit, plan: Plan, units: u32) -> usize
-    requires { (Ready u plan) × (topLength units + lineLength units * u.segments ≤ length out.old) }
-    ensures { Put (topLength units + lineLength units * u.segments) out.old 0 (chartOf u plan units) out.new result }
+    requires { (Ready u plan) × (top_length units + line_length units * u.segments ≤ length out.old) }
+    ensures { Put (top_length units + line_length units * u.segments) out.old 0 (chart_of u plan units) out.new result }
 {
     let marks = columns::columns_of(u, Tag(plan.tag));
     let after_top = put_top(out, u, plan, units as usize);
@@ -252,7 +252,7 @@ pub fn put_chart(out: &mut [u8], u: FunctionUnit, plan: Plan, units: u32) -> usi
 
 // How many bytes a chart has.
 pub fn length_of(segments: u8, units: u32) -> usize
-    ensures { result ≡ topLength units + lineLength units * segments }
+    ensures { result ≡ top_length units + line_length units * segments }
 {
     let digits = spaces_before(0, units) + 1;
     let count = units as usize;

@@ -6,60 +6,60 @@ use Prim.Native.Nat.{ℕ, zero, suc, ◌+◌, ◌-◌, ◌≤◌, ◌<◌}
 use native.Mathlib.Omega.{arith}
 use lib.ListN.{length, get_or}
 use Rattle.words.specs.Bits.{is_set}
-use Rattle.words.specs.Below.{someBelow, wordBelow}
-use Rattle.words.proofs.BelowLaws.{some-none, word_same}
-use Rattle.clique_size.specs.Largest.{most_of, largestClique}
-use Rattle.clique_size.proofs.MostLaws.{Apart, count-largest, widest}
+use Rattle.words.specs.Below.{some_below, word_below}
+use Rattle.words.proofs.BelowLaws.{some_none, word_same}
+use Rattle.clique_size.specs.Largest.{most_of, largest_clique}
+use Rattle.clique_size.proofs.MostLaws.{Apart, count_largest, widest}
 use Rattle.unit.specs.Table.{Table}
 use Rattle.collision.specs.Pipeline.{Forbidden, total}
-use Rattle.collision.specs.Vector.{collides, rowWord, vectorWord, boundOf}
+use Rattle.collision.specs.Vector.{collides, row_word, vector_word, bound_of}
 use Rattle.collision.specs.Meaning.{Bounded}
 use Rattle.collision.proofs.VectorLaws.{vector-bit, row_lt}
 use Rattle.diagram.specs.States.{has}
 use Rattle.clique.specs.Sets.{Clique, IsLargestClique}
-use Rattle.clique.proofs.SetLaws.{passing, passing-length, passing-clique, clique-count, clique-differ}
+use Rattle.clique.proofs.SetLaws.{passing, passing_length, passing_clique, clique_count, clique_differ}
 
 module _ (T : Table) (b : Bounded T) (q : ℕ) where
-  pub set-forbidden : (x y : ℕ) → x < y → is_set (vectorWord T q) (y - x - 1) ≡ true → Forbidden T q (y - x)
+  pub set-forbidden : (x y : ℕ) → x < y → is_set (vector_word T q) (y - x - 1) ≡ true → Forbidden T q (y - x)
   set-forbidden x y h = (vector-bit T b q (y - x) (omega arith)).0
 
   -- no clique is larger
-  pub clique-most : (set : List ℕ) → Clique T q set → length set ≤ boundOf T q
-  unfolding boundOf
+  pub clique-most : (set : List ℕ) → Clique T q set → length set ≤ bound_of T q
+  unfolding bound_of
   clique-most set k =
-      omega (arith, clique-count T q set k, count-largest (vectorWord T q) (suc (total set)) (λ x. has x set) (row_lt T q q) apart)
+      omega (arith, clique_count T q set k, count_largest (vector_word T q) (suc (total set)) (λ x. has x set) (row_lt T q q) apart)
     where
-      apart : Apart (vectorWord T q) (λ x. has x set)
+      apart : Apart (vector_word T q) (λ x. has x set)
       apart x y p r h =
           let e : y ≡ x + (y - x) = omega arith in
-          (vector-bit T b q (y - x) (omega arith)).1 (clique-differ T q set k x (y - x) (omega arith) p (rw e at r))
+          (vector-bit T b q (y - x) (omega arith)).1 (clique_differ T q set k x (y - x) (omega arith) p (rw e at r))
 
   -- one is as large
-  pub clique-reached : (set : List ℕ) × Clique T q set × (length set ≡ boundOf T q)
-  unfolding boundOf
+  pub clique-reached : (set : List ℕ) × Clique T q set × (length set ≡ bound_of T q)
+  unfolding bound_of
   clique-reached =
-      let w = widest (vectorWord T q) in (
+      let w = widest (vector_word T q) in (
         passing 33 w.test,
-        passing-clique T q 33 w.test (λ x y p r h. set-forbidden x y h (w.apart x y p r h)),
-        passing-length 33 w.test ∙ w.count,
+        passing_clique T q 33 w.test (λ x y p r h. set-forbidden x y h (w.apart x y p r h)),
+        passing_length 33 w.test ∙ w.count,
       )
 
-  pub largest-means : IsLargestClique T q (boundOf T q)
+  pub largest-means : IsLargestClique T q (bound_of T q)
   largest-means = record { reached = clique-reached; most = clique-most }
 
 -- A set of one always counts, and a function without marks has no other
 
-pub one-counts : (T : Table) (q x : ℕ) → Clique T q (x ∷ [])
-one-counts T q x = record { distinct = λ i j h k e. omega arith; differ = λ i j h k l. absurd (same i j h k l) }
+pub one_counts : (T : Table) (q x : ℕ) → Clique T q (x ∷ [])
+one_counts T q x = record { distinct = λ i j h k e. omega arith; differ = λ i j h k l. absurd (same i j h k l) }
   where
     same : (i j : ℕ) → i < 1 → j < 1 → get_or (x ∷ []) i 0 < get_or (x ∷ []) j 0 → ⊥
     same zero zero h k l = omega arith
     same zero (suc j) h k l = omega arith
     same (suc i) j h k l = omega arith
 
-pub unmarked-bound : (T : Table) (q : ℕ) → ((s c : ℕ) → T q s c ≡ false) → boundOf T q ≡ 1
-unfolding boundOf largestClique most_of rowWord wordBelow collides
-unmarked-bound T q none = ap largestClique (word_same 32 (λ k. collides T q q (k + 1)) (λ k. false) (λ k h. free (k + 1)))
+pub unmarked_bound : (T : Table) (q : ℕ) → ((s c : ℕ) → T q s c ≡ false) → bound_of T q ≡ 1
+unfolding bound_of largest_clique most_of row_word word_below collides
+unmarked_bound T q none = ap largest_clique (word_same 32 (λ k. collides T q q (k + 1)) (λ k. false) (λ k h. free (k + 1)))
   where
     free : (t : ℕ) → collides T q q t ≡ false
-    free t = some-none 17 (λ s. someBelow 33 (λ c. T q s c && T q s (c + t))) (λ s h. some-none 33 (λ c. T q s c && T q s (c + t)) (λ c l. rw (none s c)))
+    free t = some_none 17 (λ s. some_below 33 (λ c. T q s c && T q s (c + t))) (λ s h. some_none 33 (λ c. T q s c && T q s (c + t)) (λ c l. rw (none s c)))

@@ -8,18 +8,18 @@ use native.Mathlib.Omega.{arith}
 use lib.ListN.{length, get_or}
 use Rattle.unit.specs.Table.{Table}
 use Rattle.collision.specs.Pipeline.{Cycle, total, start_at, NeverCollides}
-use Rattle.collision.specs.Vector.{boundOf}
+use Rattle.collision.specs.Vector.{bound_of}
 use Rattle.collision.specs.Meaning.{Bounded}
-use Rattle.collision.proofs.ClashLaws.{never-forbidden, startAt-mono}
-use Rattle.collision.proofs.StartLaws.{startAt-turns, latency-least}
+use Rattle.collision.proofs.ClashLaws.{never_forbidden, start_at_mono}
+use Rattle.collision.proofs.StartLaws.{start_at_turns, latency_least}
 use Rattle.diagram.proofs.Pigeon.{pigeon}
 use Rattle.clique.specs.Sets.{Clique}
-use Rattle.clique.proofs.SetLaws.{at-most-total}
+use Rattle.clique.proofs.SetLaws.{at_most_total}
 use Rattle.clique.proofs.LargestLaws.{clique-reached}
 
 -- what holds of every number of turns, up to a constant, holds of one
-pub per-turn : (a b e : ℕ) → suc e * a ≤ suc e * b + e → a ≤ b
-per-turn a b e k = pick (dec_le a b)
+pub per_turn : (a b e : ℕ) → suc e * a ≤ suc e * b + e → a ≤ b
+per_turn a b e k = pick (dec_le a b)
   where
     pick : Dec (a ≤ b) → a ≤ b
     pick (yes l) = l
@@ -27,14 +27,14 @@ per-turn a b e k = pick (dec_le a b)
 
 module _ (T : Table) (q g : ℕ) (l set : List ℕ) (pos : 1 ≤ g) (c : Cycle g l) (never : NeverCollides T q l) (k : Clique T q set) where
   later : (i j : ℕ) → i < j → start_at l i < start_at l j
-  later i j h = omega (arith, startAt-mono l (suc i) j h, latency-least g l c i)
+  later i j h = omega (arith, start_at_mono l (suc i) j h, latency_least g l c i)
 
   -- no task is as far after a number of the set as another is after another
   no-earlier : (i j a b : ℕ) → a < length set → b < length set → i < j → start_at l i + get_or set a 0 ≡ start_at l j + get_or set b 0 → ⊥
   no-earlier i j a b ha hb h e =
       let s = later i j h in
       let d : start_at l j - start_at l i ≡ get_or set a 0 - get_or set b 0 = omega arith in
-      (never-forbidden T q l).0 never i j h (rw d (k.differ b a hb ha (omega arith)))
+      (never_forbidden T q l).0 never i j h (rw d (k.differ b a hb ha (omega arith)))
 
   same_start : (i j a b : ℕ) → a < length set → b < length set → start_at l i + get_or set a 0 ≡ start_at l j + get_or set b 0 → i ≡ j
   same_start i j a b ha hb e = go (dec_lt i j) (dec_lt j i)
@@ -72,7 +72,7 @@ module _ (T : Table) (q g : ℕ) (l set : List ℕ) (pos : 1 ≤ g) (c : Cycle g
     unfolding time
     time-below x h =
         let d : x / suc b < m = (div-lt_iff_lt-mul {k = suc b} {x = x} {y = m} (omega arith)).1 h in
-        omega (arith, startAt-mono l (x / suc b) m (le_of_lt d), at-most-total set (x % suc b) (place x))
+        omega (arith, start_at_mono l (x / suc b) m (le_of_lt d), at_most_total set (x % suc b) (place x))
 
     crowd : m * suc b ≤ start_at l m + total set + 1
     crowd = pigeon (start_at l m + total set + 1) (m * suc b) time time-below (λ x y h h2 e. time-apart x y e)
@@ -88,10 +88,10 @@ module _ (T : Table) (q g : ℕ) (l set : List ℕ) (pos : 1 ≤ g) (c : Cycle g
           let turns : ℕ = suc r * length l in
           let same : suc r * (suc b * length l) ≡ turns * suc b =
           ap (λ x. suc r * x) (mul_comm (suc b) (length l)) ∙ sym (mul_assoc (suc r) (length l) (suc b)) in
-          per-turn (suc b * length l) (total l) r (omega (arith, same, crowd b turns e, startAt-turns l (suc r)))
+          per_turn (suc b * length l) (total l) r (omega (arith, same, crowd b turns e, start_at_turns l (suc r)))
 
 -- Bound × K ≤ S
-pub lower-bound : (T : Table) → Bounded T → (q g : ℕ) (l : List ℕ) → 1 ≤ g → Cycle g l → NeverCollides T q l → boundOf T q * length l ≤ total l
-lower-bound T b q g l pos c never =
+pub lower_bound : (T : Table) → Bounded T → (q g : ℕ) (l : List ℕ) → 1 ≤ g → Cycle g l → NeverCollides T q l → bound_of T q * length l ≤ total l
+lower_bound T b q g l pos c never =
     let r = clique-reached T b q in
     subst (λ n. n * length l ≤ total l) r.2 (lower T q g l r.0 pos c never r.1)

@@ -7,21 +7,21 @@ use native.Mathlib.Omega.{arith}
 use lib.Dec.{eqb}
 use lib.ListN.{get_or}
 use borrow.Author.Tests.{ne_eqb}
-use Rattle.words.specs.Below.{countBelow}
-use Rattle.words.proofs.Tests.{nowhere, not-passed}
-use Rattle.clique_size.proofs.MostLaws.{Widest, widest, behind, count-first}
+use Rattle.words.specs.Below.{count_below}
+use Rattle.words.proofs.Tests.{nowhere, not_passed}
+use Rattle.clique_size.proofs.MostLaws.{Widest, widest, behind, count_first}
 use Rattle.unit.specs.Table.{Table}
 use Rattle.unit.specs.Unit.{marked}
-use Rattle.unit.specs.Calls.{tagAnswer}
+use Rattle.unit.specs.Calls.{tag_answer}
 use Rattle.collision.specs.Pipeline.{Forbidden}
-use Rattle.collision.specs.Vector.{vectorWord, boundOf}
-use Rattle.collision.specs.Answers.{boundAnswer}
+use Rattle.collision.specs.Vector.{vector_word, bound_of}
+use Rattle.collision.specs.Answers.{bound_answer}
 use Rattle.collision.specs.Meaning.{Bounded}
-use Rattle.collision.proofs.AnswerLaws.{answer-given}
-use Rattle.collision.proofs.VectorLaws.{marked-bounded, vector-bit}
+use Rattle.collision.proofs.AnswerLaws.{answer_given}
+use Rattle.collision.proofs.VectorLaws.{marked_bounded, vector-bit}
 use Rattle.clique.specs.Sets.{Clique, IsLargestClique, SameVector, InColumns, IsRowMaximum, EveryBound}
-use Rattle.clique.proofs.SetLaws.{passing, passing-length}
-use Rattle.clique.proofs.SegmentLaws.{segment-clique}
+use Rattle.clique.proofs.SetLaws.{passing, passing_length}
+use Rattle.clique.proofs.SegmentLaws.{segment_clique}
 use Rattle.clique.proofs.LargestLaws.{clique-most, set-forbidden, largest-means}
 
 -- the table with a further row, in which the columns that pass the test are marked
@@ -30,18 +30,18 @@ with_row T f x s c = cond (eqb s 17) (f c) (T x s c)
 
 module _ (T : Table) (b : Bounded T) (q : ℕ) where
   -- a row of another table with the same vector
-  row-most : (U : Table) → SameVector T U q → (s columns : ℕ) → countBelow columns (λ c. U q s c) ≤ boundOf T q
+  row-most : (U : Table) → SameVector T U q → (s columns : ℕ) → count_below columns (λ c. U q s c) ≤ bound_of T q
   row-most U same s columns =
-      let k = segment-clique U q s columns in
+      let k = segment_clique U q s columns in
       let set : List ℕ = passing columns (λ c. U q s c) in
       let c : Clique T q set = record {
         distinct = k.distinct;
         differ = λ i j h l o. (same (get_or set j 0 - get_or set i 0) (omega arith)).1 (k.differ i j h l o);
       } in
-      omega (arith, clique-most T b q set c, passing-length columns (λ c. U q s c))
+      omega (arith, clique-most T b q set c, passing_length columns (λ c. U q s c))
 
   -- the numbers of a widest test as columns, number k in column k + 1
-  module _ (w : Widest (vectorWord T q)) where
+  module _ (w : Widest (vector_word T q)) where
     abbrev U : Table
     U = with_row T (behind false w.test)
 
@@ -51,7 +51,7 @@ module _ (T : Table) (b : Bounded T) (q : ℕ) where
     far (suc k) p =
         let d : suc k - 1 ≡ k = omega arith in
         let f = (vector-bit T b q (suc k) (omega arith)).0 (rw d (w.within k p)) in
-        omega (arith, b.column-least q f.segment f.column f.later, b.column-lt q f.segment (f.column + suc k) f.earlier)
+        omega (arith, b.column_least q f.segment f.column f.later, b.column_lt q f.segment (f.column + suc k) f.earlier)
 
     columns : InColumns U
     unfolding with_row
@@ -60,7 +60,7 @@ module _ (T : Table) (b : Bounded T) (q : ℕ) where
         go : (n : Bool) (c : ℕ) → cond n (behind false w.test c) (T x s c) ≡ true → (1 ≤ c) × (c ≤ 32)
         go true zero e = nowhere e
         go true (suc k) e = (omega arith, omega (arith, far k e))
-        go false c e = (b.column-least x s c e, omega (arith, b.column-lt x s c e))
+        go false c e = (b.column_least x s c e, omega (arith, b.column_lt x s c e))
 
     two : (t c : ℕ) → 1 ≤ t → behind false w.test c ≡ true → behind false w.test (c + t) ≡ true → Forbidden T q t
     two t zero h p r = nowhere p
@@ -75,7 +75,7 @@ module _ (T : Table) (b : Bounded T) (q : ℕ) where
     same t h = (there, back)
       where
         old : (s c : ℕ) → T q s c ≡ true → eqb s 17 ≡ false
-        old s c e = ne_eqb s 17 (λ z. omega (arith, b.segment-lt q s c e))
+        old s c e = ne_eqb s 17 (λ z. omega (arith, b.segment_lt q s c e))
 
         there : Forbidden T q t → Forbidden U q t
         there f = record {
@@ -93,22 +93,22 @@ module _ (T : Table) (b : Bounded T) (q : ℕ) where
             go true p r = two t f.column h p r
             go false p r = record { segment = f.segment; column = f.column; later = p; earlier = r }
 
-    size : countBelow 33 (λ c. U q 17 c) ≡ boundOf T q
-    unfolding with_row boundOf countBelow
+    size : count_below 33 (λ c. U q 17 c) ≡ bound_of T q
+    unfolding with_row bound_of count_below
     size =
-        let last : w.test 32 ≡ false = not-passed (w.test 32) (λ e. omega (arith, far 32 e)) in
-        let all : cond (w.test 32) 1 0 + countBelow 32 w.test ≡ boundOf T q = w.count in
-        count-first 32 (behind false w.test) ∙ (rw last at all)
+        let last : w.test 32 ≡ false = not_passed (w.test 32) (λ e. omega (arith, far 32 e)) in
+        let all : cond (w.test 32) 1 0 + count_below 32 w.test ≡ bound_of T q = w.count in
+        count_first 32 (behind false w.test) ∙ (rw last at all)
 
-  pub row-means : IsRowMaximum T q (boundOf T q)
+  pub row-means : IsRowMaximum T q (bound_of T q)
   row-means =
-      let w = widest (vectorWord T q) in
+      let w = widest (vector_word T q) in
       record { reached = (U w, columns w, same w, (17, omega arith, size w)); most = row-most }
 
 -- what the call answers
-pub every-bound : EveryBound
-unfolding boundAnswer
-every-bound u q n e =
-    let same = (answer-given (tagAnswer u q) (boundOf (marked u) q) n e).value in
+pub every_bound : EveryBound
+unfolding bound_answer
+every_bound u q n e =
+    let same = (answer_given (tag_answer u q) (bound_of (marked u) q) n e).value in
     subst (λ m. IsLargestClique (marked u) q m × IsRowMaximum (marked u) q m) same
-    (largest-means (marked u) (marked-bounded u) q, row-means (marked u) (marked-bounded u) q)
+    (largest-means (marked u) (marked_bounded u) q, row-means (marked u) (marked_bounded u) q)

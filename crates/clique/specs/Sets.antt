@@ -1,13 +1,13 @@
 -- Sets of whole numbers of which every two differ by a forbidden latency. Two tasks never start as far apart as two of the numbers, so that the times
 -- of all starts, each moved by every number, are different: the size of the set is a lower bound on the average latency (`lower`, proofs/LowerLaws.antt).
 use Rattle.std.specs.Prelude.{◌≡◌, true, ◌↔◌, List, ℕ, ◌-◌, ◌≤◌, ◌<◌, length, get_or}
-use Rattle.words.specs.Below.{countBelow}
+use Rattle.words.specs.Below.{count_below}
 use Rattle.unit.specs.declared.FunctionUnit.{FunctionUnit}
 use Rattle.unit.specs.Table.{Table}
 use Rattle.unit.specs.Unit.{marked}
 use Rattle.collision.specs.declared.Number.TheVariants as Number
 use Rattle.collision.specs.Pipeline.{Forbidden}
-use Rattle.collision.specs.Answers.{marksAnswer, boundAnswer}
+use Rattle.collision.specs.Answers.{marks_answer, bound_answer}
 use Rattle.diagram.specs.States.{Distinct}
 
 -- no number twice, and every two differ by a forbidden latency; a set of one number or none always counts
@@ -33,15 +33,15 @@ InColumns U = (q s c : ℕ) → U q s c ≡ true → (1 ≤ c) × (c ≤ 32)
 -- n is that number of marks (`row-means`, proofs/RowLaws.antt: Bound is): no row of such a table has more, however many columns it has, and one of 32
 -- columns has as many
 pub record IsRowMaximum (T : Table) (q n : ℕ) : Type 0 where
-  pub reached : (U : Table) × InColumns U × SameVector T U q × ((s : ℕ) × (1 ≤ s) × (countBelow 33 (λ c. U q s c) ≡ n))
-  pub most : (U : Table) → SameVector T U q → (s columns : ℕ) → countBelow columns (λ c. U q s c) ≤ n
+  pub reached : (U : Table) × InColumns U × SameVector T U q × ((s : ℕ) × (1 ≤ s) × (count_below 33 (λ c. U q s c) ≡ n))
+  pub most : (U : Table) → SameVector T U q → (s columns : ℕ) → count_below columns (λ c. U q s c) ≤ n
 
 -- What the calls answer, for every unit and tag
 
--- a bound is the size of the largest set, and the paper's row maximum (`every-bound`, proofs/RowLaws.antt)
+-- a bound is the size of the largest set, and the paper's row maximum (`every_bound`, proofs/RowLaws.antt)
 abbrev pub EveryBound : Type 0
-EveryBound = (u : FunctionUnit) (q n : ℕ) → boundAnswer u q ≡ Number.Value n → IsLargestClique (marked u) q n × IsRowMaximum (marked u) q n
+EveryBound = (u : FunctionUnit) (q n : ℕ) → bound_answer u q ≡ Number.Value n → IsLargestClique (marked u) q n × IsRowMaximum (marked u) q n
 
--- no segment has more marks than the bound (`every-marks`, proofs/SegmentLaws.antt)
+-- no segment has more marks than the bound (`every_marks`, proofs/SegmentLaws.antt)
 abbrev pub EveryMarks : Type 0
-EveryMarks = (u : FunctionUnit) (q l n : ℕ) → marksAnswer u q ≡ Number.Value l → boundAnswer u q ≡ Number.Value n → l ≤ n
+EveryMarks = (u : FunctionUnit) (q l n : ℕ) → marks_answer u q ≡ Number.Value l → bound_answer u q ≡ Number.Value n → l ≤ n

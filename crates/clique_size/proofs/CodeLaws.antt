@@ -9,48 +9,48 @@ use lib.Count.{count_trailing_zeros, trailing_le, under}
 use lib.Dec.{eqb}
 use lib.Pow.{shr-shr, shr_le}
 use Rattle.words.specs.Bits.{is_set}
-use Rattle.words.specs.Below.{countBelow}
-use Rattle.words.proofs.BitLaws.{bit-zero, bit-of-zero, zero-unset}
+use Rattle.words.specs.Below.{count_below}
+use Rattle.words.proofs.BitLaws.{bit_zero, bit_of_zero, zero_unset}
 use Rattle.words.proofs.BelowLaws.{count_none, count_most}
-use Rattle.words.proofs.CountLaws.{count-le}
+use Rattle.words.proofs.CountLaws.{count_le}
 use Rattle.clique_size.specs.Largest.{most_of}
-use Rattle.clique_size.proofs.MostLaws.{half_lt, and-half-lt, most-taken}
+use Rattle.clique_size.proofs.MostLaws.{half_lt, and_half_lt, most_taken}
 
 -- no more are taken than there are
-pub most-count : (n v w : ℕ) → most_of n v w ≤ countBelow n (is_set w)
-most-count n v w = let t = most-taken n v w in omega (arith, t.count, count-le n t.test (is_set w) (λ k l. t.within k))
+pub most_count : (n v w : ℕ) → most_of n v w ≤ count_below n (is_set w)
+most_count n v w = let t = most_taken n v w in omega (arith, t.count, count_le n t.test (is_set w) (λ k l. t.within k))
 
 -- a number more than the word has bits changes nothing
-most-stable : (n v w : ℕ) → w < 2 ^ n → most_of (suc n) v w ≡ most_of n v w
+most_stable : (n v w : ℕ) → w < 2 ^ n → most_of (suc n) v w ≡ most_of n v w
 unfolding most_of
-most-stable zero v w h = let z : w ≡ 0 = omega arith in rw z
-most-stable (suc n) v w h =
+most_stable zero v w h = let z : w ≡ 0 = omega arith in rw z
+most_stable (suc n) v w h =
     ap₂ (λ (a b : ℕ). cond (is_set w 0) (max (suc a) b) b)
-    (most-stable n v (bit_and (w / 2) v) (and-half-lt n v w h)) (most-stable n v (w / 2) (half_lt n w h))
+    (most_stable n v (bit_and (w / 2) v) (and_half_lt n v w h)) (most_stable n v (w / 2) (half_lt n w h))
 
 -- the number 0 is taken or left out, or is none of them
 pair : ℕ → ℕ → ℕ → ℕ
 pair n v x = max (suc (most_of n v (bit_and x v))) (most_of n v x)
 
-most-odd : (n v w : ℕ) → w % 2 ≡ 1 → most_of (suc n) v w ≡ pair n v (w / 2)
+most_odd : (n v w : ℕ) → w % 2 ≡ 1 → most_of (suc n) v w ≡ pair n v (w / 2)
 unfolding most_of pair
-most-odd n v w e =
-    ap (λ x. cond (eqb x 1) (max (suc (most_of n v (bit_and (w / 2) v))) (most_of n v (w / 2))) (most_of n v (w / 2))) (bit-zero w ∙ e)
+most_odd n v w e =
+    ap (λ x. cond (eqb x 1) (max (suc (most_of n v (bit_and (w / 2) v))) (most_of n v (w / 2))) (most_of n v (w / 2))) (bit_zero w ∙ e)
 
-most-even : (n v w : ℕ) → w % 2 ≡ 0 → most_of (suc n) v w ≡ most_of n v (w / 2)
+most_even : (n v w : ℕ) → w % 2 ≡ 0 → most_of (suc n) v w ≡ most_of n v (w / 2)
 unfolding most_of
-most-even n v w e =
-    ap (λ x. cond (eqb x 1) (max (suc (most_of n v (bit_and (w / 2) v))) (most_of n v (w / 2))) (most_of n v (w / 2))) (bit-zero w ∙ e)
+most_even n v w e =
+    ap (λ x. cond (eqb x 1) (max (suc (most_of n v (bit_and (w / 2) v))) (most_of n v (w / 2))) (most_of n v (w / 2))) (bit_zero w ∙ e)
 
-pair-stable : (n v x : ℕ) → x < 2 ^ n → pair (suc n) v x ≡ pair n v x
+pair_stable : (n v x : ℕ) → x < 2 ^ n → pair (suc n) v x ≡ pair n v x
 unfolding pair
-pair-stable n v x h = ap₂ (λ (a b : ℕ). max (suc a) b) (most-stable n v (bit_and x v) (omega (arith, and_le_l x v))) (most-stable n v x h)
+pair_stable n v x h = ap₂ (λ (a b : ℕ). max (suc a) b) (most_stable n v (bit_and x v) (omega (arith, and_le_l x v))) (most_stable n v x h)
 
 -- the lowest of the numbers is taken or left out
-most-lowest : (n v w : ℕ) → w < 2 ^ n → 0 < w → most_of n v w ≡ pair n v (w / 2 ^ suc (count_trailing_zeros n w))
+most_lowest : (n v w : ℕ) → w < 2 ^ n → 0 < w → most_of n v w ≡ pair n v (w / 2 ^ suc (count_trailing_zeros n w))
 unfolding count_trailing_zeros
-most-lowest zero v w h p = absurd (omega arith)
-most-lowest (suc n) v w h p = go (w % 2) refl (most-lowest n v (w / 2) (half_lt n w h))
+most_lowest zero v w h p = absurd (omega arith)
+most_lowest (suc n) v w h p = go (w % 2) refl (most_lowest n v (w / 2) (half_lt n w h))
   where
     small : (k : ℕ) → w / 2 / 2 ^ k < 2 ^ n
     small k = omega (arith, shr_le (w / 2) k, half_lt n w h)
@@ -60,50 +60,50 @@ most-lowest (suc n) v w h p = go (w % 2) refl (most-lowest n v (w / 2) (half_lt 
     go zero e r =
         let z : ℕ = count_trailing_zeros n (w / 2) in
         let sum : 1 + suc z ≡ suc (suc z) = omega arith in
-        most-even n v w e ∙ r (omega arith) ∙ sym (pair-stable n v (w / 2 / 2 ^ suc z) (small (suc z)))
+        most_even n v w e ∙ r (omega arith) ∙ sym (pair_stable n v (w / 2 / 2 ^ suc z) (small (suc z)))
         ∙ ap (pair (suc n) v) (shr-shr w 1 (suc z) ∙ ap (λ k. w / 2 ^ k) sum)
-    go (suc zero) e r = most-odd n v w e ∙ sym (pair-stable n v (w / 2) (half_lt n w h))
+    go (suc zero) e r = most_odd n v w e ∙ sym (pair_stable n v (w / 2) (half_lt n w h))
     go (suc (suc b)) e r = absurd (omega arith)
 
 -- What the functions answer
 
 -- above the lowest
-pub shift-lowest : (w : ℕ) → w / 2 ^ ((count_trailing_zeros 32 w + 1) % 64) ≡ w / 2 ^ suc (count_trailing_zeros 32 w)
-shift-lowest w =
+pub shift_lowest : (w : ℕ) → w / 2 ^ ((count_trailing_zeros 32 w + 1) % 64) ≡ w / 2 ^ suc (count_trailing_zeros 32 w)
+shift_lowest w =
     let l = trailing_le 32 w in
     let m : (count_trailing_zeros 32 w + 1) % 64 ≡ count_trailing_zeros 32 w + 1 = mod-eq_of_lt (omega arith) in
     let s : count_trailing_zeros 32 w + 1 ≡ suc (count_trailing_zeros 32 w) = omega arith in
     ap (λ k. w / 2 ^ k) (m ∙ s)
 
 -- no more than `least`
-pub most-pruned : (v w least n : ℕ) → n ≡ countBelow 32 (is_set w) → n ≤ least → least ≡ max least (most_of 32 v w)
-most-pruned v w least n e h = omega (arith, most-count 32 v w)
+pub most_pruned : (v w least n : ℕ) → n ≡ count_below 32 (is_set w) → n ≤ least → least ≡ max least (most_of 32 v w)
+most_pruned v w least n e h = omega (arith, most_count 32 v w)
 
 -- more than `least` is some
-pub some_number : (w least n : ℕ) → n ≡ countBelow 32 (is_set w) → least < n → 0 < w
+pub some_number : (w least n : ℕ) → n ≡ count_below 32 (is_set w) → least < n → 0 < w
 some_number w least n e h = go w refl
   where
     go : (x : ℕ) → w ≡ x → 0 < x
-    go zero z = absurd (omega (arith, count_none 32 (is_set w) (λ k l. rw z (zero-unset 0 k (bit-of-zero k)))))
+    go zero z = absurd (omega (arith, count_none 32 (is_set w) (λ k l. rw z (zero_unset 0 k (bit_of_zero k)))))
     go (suc x) z = omega arith
 
 -- the numbers above the lowest are fewer
-pub above-falls : (w x t : ℕ) → 0 < w → x ≡ w / 2 ^ suc (count_trailing_zeros 32 w) → w ≡ t → x < t
-above-falls w x t h e m =
+pub above_falls : (w x t : ℕ) → 0 < w → x ≡ w / 2 ^ suc (count_trailing_zeros 32 w) → w ≡ t → x < t
+above_falls w x t h e m =
     let z : ℕ = count_trailing_zeros 32 w in
     let sum : 1 + z ≡ suc z = omega arith in
     let same : w / 2 / 2 ^ z ≡ w / 2 ^ suc z = shr-shr w 1 z ∙ ap (λ k. w / 2 ^ k) sum in
     omega (arith, shr_le (w / 2) z)
 
-pub and-falls : (v w x t : ℕ) → 0 < w → x ≡ w / 2 ^ suc (count_trailing_zeros 32 w) → w ≡ t → bit_and x v < t
-and-falls v w x t h e m = omega (arith, above-falls w x t h e m, and_le_l x v)
+pub and_falls : (v w x t : ℕ) → 0 < w → x ≡ w / 2 ^ suc (count_trailing_zeros 32 w) → w ≡ t → bit_and x v < t
+and_falls v w x t h e m = omega (arith, above_falls w x t h e m, and_le_l x v)
 
 -- with the lowest, and then without
-pub most-turn : (v w least x o a b : ℕ) → w < 2 ^ 32 → 0 < w → x ≡ w / 2 ^ suc (count_trailing_zeros 32 w) → o ≡ least - 1
+pub most_turn : (v w least x o a b : ℕ) → w < 2 ^ 32 → 0 < w → x ≡ w / 2 ^ suc (count_trailing_zeros 32 w) → o ≡ least - 1
     → a ≡ max o (most_of 32 v (bit_and x v)) → b ≡ max (a + 1) (most_of 32 v x) → b ≡ max least (most_of 32 v w)
 unfolding pair
-most-turn v w least x o a b l h e d p q = omega (arith, rw (← e) at (most-lowest 32 v w l h))
+most_turn v w least x o a b l h e d p q = omega (arith, rw (← e) at (most_lowest 32 v w l h))
 
 -- what is found fits a word
-pub most-fits : (v w o a : ℕ) → o < 2 ^ 32 - 1 → a ≡ max o (most_of 32 v w) → a + 1 < 2 ^ 32
-most-fits v w o a h e = omega (arith, most-count 32 v w, count_most 32 (is_set w))
+pub most_fits : (v w o a : ℕ) → o < 2 ^ 32 - 1 → a ≡ max o (most_of 32 v w) → a + 1 < 2 ^ 32
+most_fits v w o a h e = omega (arith, most_count 32 v w, count_most 32 (is_set w))

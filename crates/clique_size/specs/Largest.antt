@@ -13,7 +13,7 @@ most_of (suc n) v w =
     let either : ℕ = max (suc (most_of n v (bit_and (w / 2) v))) without in
     cond (is_set w 0) either without
 
--- the least number of the set, which always counts, and the most of those that are a forbidden latency above it (`widest` and `count-largest`,
+-- the least number of the set, which always counts, and the most of those that are a forbidden latency above it (`widest` and `count_largest`,
 -- proofs/MostLaws.antt)
-unfoldable pub largestClique : ℕ → ℕ
-largestClique v = suc (most_of 32 v v)
+unfoldable pub largest_clique : ℕ → ℕ
+largest_clique v = suc (most_of 32 v v)

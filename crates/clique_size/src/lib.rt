@@ -2,7 +2,7 @@
 // branch and bound. Every function here is proved, total and without a `requires`; the crate assumes nothing of its own.
 ghost use Rattle.std.specs.Prelude.{◌≡◌, ◌-◌, ◌/◌, ◌^◌, suc, max};
 ghost use Rattle.std.specs.Int.Count.{count_trailing_zeros};
-ghost use Rattle.clique_size.specs.Largest.{most_of, largestClique};
+ghost use Rattle.clique_size.specs.Largest.{most_of, largest_clique};
 
 // One less, or 0.
 fn one_less(number: u32) -> u32
@@ -36,7 +36,7 @@ fn most_of(vector: u32, numbers: u32, least: u32) -> u32
 
 // The size of the largest clique of a collision vector.
 pub fn largest(vector: u32) -> u32
-    ensures { result ≡ largestClique vector }
+    ensures { result ≡ largest_clique vector }
 {
     most_of(vector, vector, 0) + 1
 }

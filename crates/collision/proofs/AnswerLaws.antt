@@ -8,27 +8,27 @@ use Rattle.unit.specs.declared.Refusal.{Refusal}
 use Rattle.unit.specs.declared.Refusal.TheVariants.{NotSound, NoSuchTag}
 use Rattle.unit.specs.declared.Answer.{Answer}
 use Rattle.unit.specs.declared.Answer.TheVariants.{Done, Refused}
-use Rattle.unit.specs.Unit.{inside, marked, soundOf}
-use Rattle.unit.specs.Calls.{check, tagAnswer}
-use Rattle.unit.proofs.Laws.{never_done, tag-accepted}
+use Rattle.unit.specs.Unit.{inside, marked, sound_of}
+use Rattle.unit.specs.Calls.{check, tag_answer}
+use Rattle.unit.proofs.Laws.{never_done, tag_accepted}
 use Rattle.collision.specs.declared.Number.{Number}
 use Rattle.collision.specs.declared.Number.TheVariants as Number
-use Rattle.collision.specs.Vector.{vectorWord}
-use Rattle.collision.specs.Answers.{answering, tagsAnswer, vectorAnswer}
+use Rattle.collision.specs.Vector.{vector_word}
+use Rattle.collision.specs.Answers.{answering, tags_answer, vector_answer}
 
 -- a number, or why there is none
 
-pub number-refused : {a : Answer} {why : Refusal} (n : ℕ) → a ≡ Refused why → Number.Refused why ≡ answering a n
-number-refused n e = ap (λ b. answering b n) (sym e)
+pub number_refused : {a : Answer} {why : Refusal} (n : ℕ) → a ≡ Refused why → Number.Refused why ≡ answering a n
+number_refused n e = ap (λ b. answering b n) (sym e)
 
-pub number-given : {a : Answer} {m n : ℕ} → a ≡ Done → m ≡ n → Number.Value m ≡ answering a n
-number-given e f = ap₂ answering (sym e) f
+pub number_given : {a : Answer} {m n : ℕ} → a ≡ Done → m ≡ n → Number.Value m ≡ answering a n
+number_given e f = ap₂ answering (sym e) f
 
 -- two tags are tried one after the other
 
-pub tags-one : (u : FunctionUnit) (q r : ℕ) (why : Refusal) → tagAnswer u q ≡ Refused why → tagsAnswer u q r ≡ Refused why
-unfolding tagAnswer tagsAnswer
-tags-one u q r why e = go (soundOf u) (inside q u.functions) e
+pub tags_one : (u : FunctionUnit) (q r : ℕ) (why : Refusal) → tag_answer u q ≡ Refused why → tags_answer u q r ≡ Refused why
+unfolding tag_answer tags_answer
+tags_one u q r why e = go (sound_of u) (inside q u.functions) e
   where
     go : (a b : Bool) → check a NotSound (check b NoSuchTag Done) ≡ Refused why
         → check a NotSound (check b NoSuchTag (check (inside r u.functions) NoSuchTag Done)) ≡ Refused why
@@ -36,29 +36,29 @@ tags-one u q r why e = go (soundOf u) (inside q u.functions) e
     go true false e = e
     go false b e = e
 
-pub tags-other : (u : FunctionUnit) (q r : ℕ) → tagAnswer u q ≡ Done → tagsAnswer u q r ≡ tagAnswer u r
-unfolding tagAnswer tagsAnswer
-tags-other u q r e = let a = tag-accepted u q e in simp (a.sound, a.tag)
+pub tags_other : (u : FunctionUnit) (q r : ℕ) → tag_answer u q ≡ Done → tags_answer u q r ≡ tag_answer u r
+unfolding tag_answer tags_answer
+tags_other u q r e = let a = tag_accepted u q e in simp (a.sound, a.tag)
 
 -- what the vector's answer tells of the tag and of the word
 
-answer-refused : (a : Answer) (n : ℕ) (why : Refusal) → answering a n ≡ Number.Refused why → a ≡ Refused why
-answer-refused Done n why e = let z : ◌≡◌ {A = ℕ} 0 1 = cc in absurd (omega arith)
-answer-refused (Refused other) n why e = cc
+answer_refused : (a : Answer) (n : ℕ) (why : Refusal) → answering a n ≡ Number.Refused why → a ≡ Refused why
+answer_refused Done n why e = let z : ◌≡◌ {A = ℕ} 0 1 = cc in absurd (omega arith)
+answer_refused (Refused other) n why e = cc
 
-pub vector-refused : (u : FunctionUnit) (q : ℕ) (why : Refusal) → vectorAnswer u q ≡ Number.Refused why → tagAnswer u q ≡ Refused why
-unfolding vectorAnswer
-vector-refused u q why e = answer-refused (tagAnswer u q) (vectorWord (marked u) q) why e
+pub vector_refused : (u : FunctionUnit) (q : ℕ) (why : Refusal) → vector_answer u q ≡ Number.Refused why → tag_answer u q ≡ Refused why
+unfolding vector_answer
+vector_refused u q why e = answer_refused (tag_answer u q) (vector_word (marked u) q) why e
 
 -- nothing was refused, and the number that was asked for is the one in hand
 pub record Given (a : Answer) (n w : ℕ) : Type 0 where
   pub done : a ≡ Done
   pub value : n ≡ w
 
-pub answer-given : (a : Answer) (n w : ℕ) → answering a n ≡ Number.Value w → Given a n w
-answer-given Done n w e = record { done = refl; value = cc }
-answer-given (Refused why) n w e = let z : ◌≡◌ {A = ℕ} 0 1 = cc in absurd (omega arith)
+pub answer_given : (a : Answer) (n w : ℕ) → answering a n ≡ Number.Value w → Given a n w
+answer_given Done n w e = record { done = refl; value = cc }
+answer_given (Refused why) n w e = let z : ◌≡◌ {A = ℕ} 0 1 = cc in absurd (omega arith)
 
-pub vector-given : (u : FunctionUnit) (q w : ℕ) → vectorAnswer u q ≡ Number.Value w → Given (tagAnswer u q) (vectorWord (marked u) q) w
-unfolding vectorAnswer
-vector-given u q w e = answer-given (tagAnswer u q) (vectorWord (marked u) q) w e
+pub vector_given : (u : FunctionUnit) (q w : ℕ) → vector_answer u q ≡ Number.Value w → Given (tag_answer u q) (vector_word (marked u) q) w
+unfolding vector_answer
+vector_given u q w e = answer_given (tag_answer u q) (vector_word (marked u) q) w e

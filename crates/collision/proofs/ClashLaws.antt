@@ -7,11 +7,11 @@ use native.Mathlib.Nat.{le_refl, le_of_lt}
 use native.Mathlib.Decide.{le_ind}
 use native.Mathlib.Omega.{arith}
 use Rattle.unit.specs.Table.{Table}
-use Rattle.collision.specs.Pipeline.{Task, Clash, Collides, Forbidden, start_at, taskAt, NeverCollides}
+use Rattle.collision.specs.Pipeline.{Task, Clash, Collides, Forbidden, start_at, task_at, NeverCollides}
 
 -- a task y started t after the task x clashes with it exactly when y's function, started t after x's, collides with it
-pub clash-collides : (T : Table) (x y : Task) (t : ℕ) → y.start ≡ x.start + t → Clash T x y ↔ Collides T y.tag x.tag t
-clash-collides T x y t e = (there, back)
+pub clash_collides : (T : Table) (x y : Task) (t : ℕ) → y.start ≡ x.start + t → Clash T x y ↔ Collides T y.tag x.tag t
+clash_collides T x y t e = (there, back)
   where
     there : Clash T x y → Collides T y.tag x.tag t
     there c =
@@ -27,14 +27,14 @@ clash-collides T x y t e = (there, back)
     }
 
 -- the starts of a cycle never go back
-pub startAt-mono : (l : List ℕ) (i j : ℕ) → i ≤ j → start_at l i ≤ start_at l j
-startAt-mono l i j h = le_ind (λ (m : ℕ). start_at l i ≤ start_at l m) (le_refl (start_at l i)) (λ m k e. omega arith) j h
+pub start_at_mono : (l : List ℕ) (i j : ℕ) → i ≤ j → start_at l i ≤ start_at l j
+start_at_mono l i j h = le_ind (λ (m : ℕ). start_at l i ≤ start_at l m) (le_refl (start_at l i)) (λ m k e. omega arith) j h
 
 -- a cycle never collides exactly when no time between two of its starts is forbidden
-pub never-forbidden : (T : Table) (q : ℕ) (l : List ℕ)
+pub never_forbidden : (T : Table) (q : ℕ) (l : List ℕ)
     → NeverCollides T q l ↔ ((i j : ℕ) → i < j → Forbidden T q (start_at l j - start_at l i) → ⊥)
-never-forbidden T q l = (λ h i j k f. h i j k ((same i j k).1 f), λ h i j k c. h i j k ((same i j k).0 c))
+never_forbidden T q l = (λ h i j k f. h i j k ((same i j k).1 f), λ h i j k c. h i j k ((same i j k).0 c))
   where
-    same : (i j : ℕ) → i < j → Clash T (taskAt q l i) (taskAt q l j) ↔ Forbidden T q (start_at l j - start_at l i)
+    same : (i j : ℕ) → i < j → Clash T (task_at q l i) (task_at q l j) ↔ Forbidden T q (start_at l j - start_at l i)
     same i j k =
-        clash-collides T (taskAt q l i) (taskAt q l j) (start_at l j - start_at l i) (omega (arith, startAt-mono l i j (le_of_lt k)))
+        clash_collides T (task_at q l i) (task_at q l j) (start_at l j - start_at l i) (omega (arith, start_at_mono l i j (le_of_lt k)))

@@ -8,14 +8,14 @@ abbrev pub SameWords : List ℕ → List ℕ → Type 0
 SameWords a b = (k : ℕ) → get_or b k 0 ≡ get_or a k 0
 
 -- word t with what a column's word shares with the earlier function's column that is t further on
-abbrev pub withCommon : List ℕ → ℕ → ℕ → List ℕ → ℕ → ℕ
-withCommon earlier column word before t = bit_or (get_or before t 0) (bit_and word (get_or earlier (column + t) 0))
+abbrev pub with_common : List ℕ → ℕ → ℕ → List ℕ → ℕ → ℕ
+with_common earlier column word before t = bit_or (get_or before t 0) (bit_and word (get_or earlier (column + t) 0))
 
 -- each word has got it
 pub record Joins (earlier : List ℕ) (column word : ℕ) (before after : List ℕ) : Type 0 where
   pub small : word < 2 ^ 16
   pub long : length after ≡ 32
-  pub each : (t : ℕ) → t < 32 → get_or after t 0 ≡ withCommon earlier column word before t
+  pub each : (t : ℕ) → t < 32 → get_or after t 0 ≡ with_common earlier column word before t
 
 -- word t is other than 0
 abbrev pub nonzero : List ℕ → ℕ → Bool

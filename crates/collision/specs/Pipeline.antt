@@ -51,9 +51,9 @@ abbrev pub start_at : List ℕ → ℕ → ℕ
 start_at l zero = 0
 start_at l (suc i) = start_at l i + latency l i
 
-abbrev pub taskAt : ℕ → List ℕ → ℕ → Task
-taskAt q l i = record { tag = q; start = start_at l i }
+abbrev pub task_at : ℕ → List ℕ → ℕ → Task
+task_at q l i = record { tag = q; start = start_at l i }
 
 -- no two of its tasks occupy one segment in one time unit
 abbrev pub NeverCollides : Table → ℕ → List ℕ → Type 0
-NeverCollides T q l = (i j : ℕ) → i < j → Clash T (taskAt q l i) (taskAt q l j) → ⊥
+NeverCollides T q l = (i j : ℕ) → i < j → Clash T (task_at q l i) (task_at q l j) → ⊥

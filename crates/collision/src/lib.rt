@@ -2,8 +2,8 @@
 // public one is total and without a `requires`; the crate assumes nothing of its own.
 ghost use Rattle.std.specs.Prelude.{◌≡◌, ◌<◌, length};
 ghost use Rattle.unit.specs.Unit.{marked};
-ghost use Rattle.collision.specs.Vector.{rowOfColumns, rowWord};
-ghost use Rattle.collision.specs.Answers.{tagsAnswer, vectorAnswer, rowAnswer};
+ghost use Rattle.collision.specs.Vector.{row_of_columns, row_word};
+ghost use Rattle.collision.specs.Answers.{tags_answer, vector_answer, row_answer};
 ghost use Rattle.collision.specs.Inner.{SameWords, Joins, Common};
 
 use unit::{Answer, FunctionUnit, Refusal, Tag};
@@ -59,7 +59,7 @@ fn common_segments(later: [u16; 32], earlier: [u16; 32]) -> [u16; 32]
 // The row of a matrix, from the marks of two functions by column as `columns::columns_of` hands them out: column t of the row is
 // bit t - 1, and is 1 where the later function, started t after the earlier, would collide. Marks are at most 31 columns apart.
 pub fn row_of(later: [u16; 32], earlier: [u16; 32]) -> u32
-    ensures { result ≡ rowOfColumns later earlier }
+    ensures { result ≡ row_of_columns later earlier }
 {
     let common = common_segments(later, earlier);
     let mut row: u32 = 0;
@@ -75,7 +75,7 @@ pub fn row_of(later: [u16; 32], earlier: [u16; 32]) -> u32
 
 // The row of two functions of a unit; of one function twice, its collision vector.
 fn row_of_tags(u: FunctionUnit, later: Tag, earlier: Tag) -> u32
-    ensures { result ≡ rowWord (marked u) later.0 earlier.0 }
+    ensures { result ≡ row_word (marked u) later.0 earlier.0 }
 {
     let later_columns = columns::columns_of(u, later);
     let earlier_columns = columns::columns_of(u, earlier);
@@ -84,7 +84,7 @@ fn row_of_tags(u: FunctionUnit, later: Tag, earlier: Tag) -> u32
 
 // What a question about two functions tries first: the unit, then either tag.
 fn check_tags(u: FunctionUnit, one: Tag, other: Tag) -> Answer
-    ensures { result ≡ tagsAnswer u one.0 other.0 }
+    ensures { result ≡ tags_answer u one.0 other.0 }
 {
     let first = unit::check_tag(u, one);
     match first {
@@ -95,7 +95,7 @@ fn check_tags(u: FunctionUnit, one: Tag, other: Tag) -> Answer
 
 // The collision vector of a function: bit t - 1 is 1 exactly where the latency t is forbidden.
 pub fn vector(u: FunctionUnit, tag: Tag) -> Number
-    ensures { result ≡ vectorAnswer u tag.0 }
+    ensures { result ≡ vector_answer u tag.0 }
 {
     let answer = unit::check_tag(u, tag);
     match answer {
@@ -106,7 +106,7 @@ pub fn vector(u: FunctionUnit, tag: Tag) -> Number
 
 // Row q of the matrix M_r: bit t - 1 is 1 exactly where q, started t after r, would collide with it.
 pub fn matrix_row(u: FunctionUnit, q: Tag, r: Tag) -> Number
-    ensures { result ≡ rowAnswer u q.0 r.0 }
+    ensures { result ≡ row_answer u q.0 r.0 }
 {
     let answer = check_tags(u, q, r);
     match answer {

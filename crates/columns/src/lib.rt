@@ -3,8 +3,8 @@
 // Every public function here is proved, total and without a `requires`.
 ghost use Rattle.std.specs.Prelude.{◌≡◌};
 ghost use Rattle.unit.specs.Inner.{Somewhere};
-ghost use Rattle.unit.specs.Unit.{place, columnsOf};
-ghost use Rattle.unit.specs.Calls.{withWord, columnAnswer, columnOf};
+ghost use Rattle.unit.specs.Unit.{place, columns_of};
+ghost use Rattle.unit.specs.Calls.{with_word, column_answer, column_of};
 
 use unit::{Answer, FunctionUnit, Outcome, Refusal, Tag};
 
@@ -19,7 +19,7 @@ fn place_of(tag: u8, column: u8) -> usize
 // The unit with another word for a tag in a column, and without plan.
 fn with_word(u: FunctionUnit, tag: u8, column: u8, word: u16) -> FunctionUnit
     requires { Somewhere tag column }
-    ensures { result ≡ withWord u tag column word }
+    ensures { result ≡ with_word u tag column word }
 {
     let i = place_of(tag, column);
     let mut marks = u.marks;
@@ -36,7 +36,7 @@ fn with_word(u: FunctionUnit, tag: u8, column: u8, word: u16) -> FunctionUnit
 
 // Whether a column's word can be given to a function.
 fn check_column(u: FunctionUnit, tag: Tag, column: u8, word: u16) -> Answer
-    ensures { result ≡ columnAnswer u tag.0 column word }
+    ensures { result ≡ column_answer u tag.0 column word }
 {
     let first = unit::check_tag(u, tag);
     match first {
@@ -56,7 +56,7 @@ fn check_column(u: FunctionUnit, tag: Tag, column: u8, word: u16) -> Answer
 
 // Gives a function all its marks in one column at once, bit r - 1 for segment r, and drops the plan.
 pub fn with_column(u: FunctionUnit, tag: Tag, column: u8, word: u16) -> Outcome
-    ensures { result ≡ columnOf u tag.0 column word }
+    ensures { result ≡ column_of u tag.0 column word }
 {
     let answer = check_column(u, tag, column, word);
     match answer {
@@ -77,7 +77,7 @@ pub fn with_column(u: FunctionUnit, tag: Tag, column: u8, word: u16) -> Outcome
 // The marks of a function by column: word column - 1 holds the column's marks, bit r - 1 for segment r. A tag outside 1 to 4
 // has none.
 pub fn columns_of(u: FunctionUnit, tag: Tag) -> [u16; 32]
-    ensures { result ≡ columnsOf u tag.0 }
+    ensures { result ≡ columns_of u tag.0 }
 {
     let mut columns = [0u16; 32];
     if !words::is_inside(tag.0, 4) {

@@ -5,9 +5,9 @@ use Prim.Native.Nat.{ℕ, min}
 use native.Mathlib.Omega.{arith}
 use lib.ListN.{length, take, drop, length-take}
 use lib.Seq.{take_at}
-use Rattle.command.specs.Lines.{inFront}
+use Rattle.command.specs.Lines.{in_front}
 
-module _ (l zeros : List ℕ) {count : ℕ} {bytes : List ℕ} (n : count ≡ min (length l) (length zeros)) (e : bytes ≡ inFront l zeros) where
+module _ (l zeros : List ℕ) {count : ℕ} {bytes : List ℕ} (n : count ≡ min (length l) (length zeros)) (e : bytes ≡ in_front l zeros) where
   taken-length : length (take (length zeros) l) ≡ count
   taken-length = length-take (length zeros) l ∙ omega arith
 

@@ -8,118 +8,118 @@ use native.Mathlib.Numerals.{add-one}
 use native.Mathlib.Omega.{arith}
 use lib.ListN.{length, get_or, take, drop, length-drop, drop_of_length-le}
 use lib.Seq.{drop-cons, drop-drop, drop-nil}
-use Rattle.words.proofs.Tests.{by-test}
-use Rattle.command.specs.Lines.{isBlank, onto, parts_of, filled, words_of, word_at}
-use Rattle.command.specs.Inner.{wordFrom, wordsFrom, Begins, Passes}
+use Rattle.words.proofs.Tests.{by_test}
+use Rattle.command.specs.Lines.{is_blank, onto, parts_of, filled, words_of, word_at}
+use Rattle.command.specs.Inner.{word_from, words_from, Begins, Passes}
 
 -- A text, byte by byte
 
-onto-first : (b : ℕ) (parts : List (List ℕ)) → word_at (onto b parts) 0 ≡ b ∷ word_at parts 0
-onto-first b [] = refl
-onto-first b (p ∷ parts) = refl
+onto_first : (b : ℕ) (parts : List (List ℕ)) → word_at (onto b parts) 0 ≡ b ∷ word_at parts 0
+onto_first b [] = refl
+onto_first b (p ∷ parts) = refl
 
-onto-rest : (b : ℕ) (parts : List (List ℕ)) → drop 1 (onto b parts) ≡ drop 1 parts
-onto-rest b [] = refl
-onto-rest b (p ∷ parts) = refl
+onto_rest : (b : ℕ) (parts : List (List ℕ)) → drop 1 (onto b parts) ≡ drop 1 parts
+onto_rest b [] = refl
+onto_rest b (p ∷ parts) = refl
 
 -- a blank ends an empty part
-parts-blank : (b : ℕ) (l : List ℕ) → isBlank b ≡ true → parts_of (b ∷ l) ≡ [] ∷ parts_of l
+parts_blank : (b : ℕ) (l : List ℕ) → is_blank b ≡ true → parts_of (b ∷ l) ≡ [] ∷ parts_of l
 unfolding parts_of
-parts-blank b l e = ap (λ t. cond t ([] ∷ parts_of l) (onto b (parts_of l))) e
+parts_blank b l e = ap (λ t. cond t ([] ∷ parts_of l) (onto b (parts_of l))) e
 
-parts-byte : (b : ℕ) (l : List ℕ) → isBlank b ≡ false → parts_of (b ∷ l) ≡ onto b (parts_of l)
+parts_byte : (b : ℕ) (l : List ℕ) → is_blank b ≡ false → parts_of (b ∷ l) ≡ onto b (parts_of l)
 unfolding parts_of
-parts-byte b l e = ap (λ t. cond t ([] ∷ parts_of l) (onto b (parts_of l))) e
+parts_byte b l e = ap (λ t. cond t ([] ∷ parts_of l) (onto b (parts_of l))) e
 
 parts_none : parts_of [] ≡ [] ∷ []
 unfolding parts_of
 parts_none = refl
 
 -- what holds of an empty text, of one that begins with a blank, and of one that begins with another byte
-by_byte : (P : List ℕ → Type 0) → P [] → ((b : ℕ) (l : List ℕ) → isBlank b ≡ true → P (b ∷ l)) → ((b : ℕ) (l : List ℕ) → isBlank b ≡ false → P l → P (b ∷ l))
+by_byte : (P : List ℕ → Type 0) → P [] → ((b : ℕ) (l : List ℕ) → is_blank b ≡ true → P (b ∷ l)) → ((b : ℕ) (l : List ℕ) → is_blank b ≡ false → P l → P (b ∷ l))
     → (l : List ℕ) → P l
 by_byte P none blank byte [] = none
-by_byte P none blank byte (b ∷ l) = let r : P l = by_byte P none blank byte l in by-test (isBlank b) (λ e. blank b l e) (λ e. byte b l e r)
+by_byte P none blank byte (b ∷ l) = let r : P l = by_byte P none blank byte l in by_test (is_blank b) (λ e. blank b l e) (λ e. byte b l e r)
 
-pub first_byte : (b : ℕ) (l : List ℕ) → isBlank b ≡ false → word_at (parts_of (b ∷ l)) 0 ≡ b ∷ word_at (parts_of l) 0
-first_byte b l e = ap (λ p. word_at p 0) (parts-byte b l e) ∙ onto-first b (parts_of l)
+pub first_byte : (b : ℕ) (l : List ℕ) → is_blank b ≡ false → word_at (parts_of (b ∷ l)) 0 ≡ b ∷ word_at (parts_of l) 0
+first_byte b l e = ap (λ p. word_at p 0) (parts_byte b l e) ∙ onto_first b (parts_of l)
 
-pub first-blank : (b : ℕ) (l : List ℕ) → isBlank b ≡ true → word_at (parts_of (b ∷ l)) 0 ≡ []
-first-blank b l e = ap (λ p. word_at p 0) (parts-blank b l e)
+pub first_blank : (b : ℕ) (l : List ℕ) → is_blank b ≡ true → word_at (parts_of (b ∷ l)) 0 ≡ []
+first_blank b l e = ap (λ p. word_at p 0) (parts_blank b l e)
 
-pub first-none : word_at (parts_of []) 0 ≡ []
-first-none = ap (λ p. word_at p 0) parts_none
+pub first_none : word_at (parts_of []) 0 ≡ []
+first_none = ap (λ p. word_at p 0) parts_none
 
-rest-byte : (b : ℕ) (l : List ℕ) → isBlank b ≡ false → drop 1 (parts_of (b ∷ l)) ≡ drop 1 (parts_of l)
-rest-byte b l e = ap (drop 1) (parts-byte b l e) ∙ onto-rest b (parts_of l)
+rest_byte : (b : ℕ) (l : List ℕ) → is_blank b ≡ false → drop 1 (parts_of (b ∷ l)) ≡ drop 1 (parts_of l)
+rest_byte b l e = ap (drop 1) (parts_byte b l e) ∙ onto_rest b (parts_of l)
 
 -- there is a first part
 parts_first : (l : List ℕ) → parts_of l ≡ word_at (parts_of l) 0 ∷ drop 1 (parts_of l)
 parts_first =
     by_byte (λ l. parts_of l ≡ word_at (parts_of l) 0 ∷ drop 1 (parts_of l))
     (rw parts_none)
-    (λ b l e. rw (parts-blank b l e))
-    (λ b l e r. parts-byte b l e ∙ ap (onto b) r ∙ sym (ap (λ w. w ∷ drop 1 (parts_of (b ∷ l))) (first_byte b l e) ∙ ap (λ w. (b ∷ word_at (parts_of l) 0) ∷ w) (rest-byte b l e)))
+    (λ b l e. rw (parts_blank b l e))
+    (λ b l e r. parts_byte b l e ∙ ap (onto b) r ∙ sym (ap (λ w. w ∷ drop 1 (parts_of (b ∷ l))) (first_byte b l e) ∙ ap (λ w. (b ∷ word_at (parts_of l) 0) ∷ w) (rest_byte b l e)))
 
 -- The first part and what comes after it
 
 -- the text begins with it
-first-take : (l : List ℕ) → take (length (word_at (parts_of l) 0)) l ≡ word_at (parts_of l) 0
-first-take =
+first_take : (l : List ℕ) → take (length (word_at (parts_of l) 0)) l ≡ word_at (parts_of l) 0
+first_take =
     by_byte (λ l. take (length (word_at (parts_of l) 0)) l ≡ word_at (parts_of l) 0)
-    (rw first-none)
-    (λ b l e. rw (first-blank b l e))
+    (rw first_none)
+    (λ b l e. rw (first_blank b l e))
     (λ b l e r. rw (first_byte b l e) (ap (λ w. b ∷ w) r))
 
-first-le : (l : List ℕ) → length (word_at (parts_of l) 0) ≤ length l
-first-le =
+first_le : (l : List ℕ) → length (word_at (parts_of l) 0) ≤ length l
+first_le =
     by_byte (λ l. length (word_at (parts_of l) 0) ≤ length l)
-    (rw first-none (omega arith))
-    (λ b l e. rw (first-blank b l e) (omega arith))
+    (rw first_none (omega arith))
+    (λ b l e. rw (first_blank b l e) (omega arith))
     (λ b l e r. rw (first_byte b l e) (omega arith))
 
 -- from its end on the text begins with an empty part, and then come the others
 first_ends : (l : List ℕ) → word_at (parts_of (drop (length (word_at (parts_of l) 0)) l)) 0 ≡ []
 first_ends =
     by_byte (λ l. word_at (parts_of (drop (length (word_at (parts_of l) 0)) l)) 0 ≡ [])
-    (rw first-none first-none)
-    (λ b l e. rw (first-blank b l e) (first-blank b l e))
+    (rw first_none first_none)
+    (λ b l e. rw (first_blank b l e) (first_blank b l e))
     (λ b l e r. rw (first_byte b l e) r)
 
-rest-ends : (l : List ℕ) → drop 1 (parts_of (drop (length (word_at (parts_of l) 0)) l)) ≡ drop 1 (parts_of l)
-rest-ends =
+rest_ends : (l : List ℕ) → drop 1 (parts_of (drop (length (word_at (parts_of l) 0)) l)) ≡ drop 1 (parts_of l)
+rest_ends =
     by_byte (λ l. drop 1 (parts_of (drop (length (word_at (parts_of l) 0)) l)) ≡ drop 1 (parts_of l))
-    (rw first-none)
-    (λ b l e. rw (first-blank b l e))
-    (λ b l e r. rw (first_byte b l e) (r ∙ sym (rest-byte b l e)))
+    (rw first_none)
+    (λ b l e. rw (first_blank b l e))
+    (λ b l e r. rw (first_byte b l e) (r ∙ sym (rest_byte b l e)))
 
 -- Words
 
-pub words-none : words_of [] ≡ []
+pub words_none : words_of [] ≡ []
 unfolding words_of
-words-none = ap filled parts_none
+words_none = ap filled parts_none
 
 -- a blank before the first word is passed over
-pub words-blank : (b : ℕ) (l : List ℕ) → isBlank b ≡ true → words_of (b ∷ l) ≡ words_of l
+pub words_blank : (b : ℕ) (l : List ℕ) → is_blank b ≡ true → words_of (b ∷ l) ≡ words_of l
 unfolding words_of
-words-blank b l e = ap filled (parts-blank b l e)
+words_blank b l e = ap filled (parts_blank b l e)
 
 -- the words from the end of the first part on
-words-rest : (l : List ℕ) → words_of (drop (length (word_at (parts_of l) 0)) l) ≡ filled (drop 1 (parts_of l))
+words_rest : (l : List ℕ) → words_of (drop (length (word_at (parts_of l) 0)) l) ≡ filled (drop 1 (parts_of l))
 unfolding words_of
-words-rest l =
+words_rest l =
     let m : List ℕ = drop (length (word_at (parts_of l) 0)) l in
-    ap filled (parts_first m ∙ ap (λ p. p ∷ drop 1 (parts_of m)) (first_ends l)) ∙ ap filled (rest-ends l)
+    ap filled (parts_first m ∙ ap (λ p. p ∷ drop 1 (parts_of m)) (first_ends l)) ∙ ap filled (rest_ends l)
 
 -- a text that begins with no blank begins with its first word
-pub words-first : (b : ℕ) (l : List ℕ) → isBlank b ≡ false
+pub words_first : (b : ℕ) (l : List ℕ) → is_blank b ≡ false
     → words_of (b ∷ l) ≡ word_at (parts_of (b ∷ l)) 0 ∷ words_of (drop (length (word_at (parts_of (b ∷ l)) 0)) (b ∷ l))
 unfolding words_of
-words-first b l e =
+words_first b l e =
     let rest : List (List ℕ) = drop 1 (parts_of (b ∷ l)) in
     ap filled (parts_first (b ∷ l) ∙ ap (λ p. p ∷ rest) (first_byte b l e))
     ∙ ap (λ p. p ∷ filled rest) (sym (first_byte b l e))
-    ∙ ap (λ w. word_at (parts_of (b ∷ l)) 0 ∷ w) (sym (words-rest (b ∷ l)))
+    ∙ ap (λ w. word_at (parts_of (b ∷ l)) 0 ∷ w) (sym (words_rest (b ∷ l)))
 
 -- From an index on
 
@@ -127,60 +127,60 @@ words-first b l e =
 abbrev pub part : ℕ → ℕ → List ℕ → List ℕ
 part from end text = take (end - from) (drop from text)
 
-pub words-end : (text : List ℕ) (at : ℕ) → length text ≤ at → wordsFrom text at ≡ []
-words-end text at h = ap words_of (drop_of_length-le text h) ∙ words-none
+pub words_end : (text : List ℕ) (at : ℕ) → length text ≤ at → words_from text at ≡ []
+words_end text at h = ap words_of (drop_of_length-le text h) ∙ words_none
 
-words-skip : (text : List ℕ) (at : ℕ) → at < length text → isBlank (get_or text at 0) ≡ true → wordsFrom text (at + 1) ≡ wordsFrom text at
-words-skip text at h e =
-    ap (λ k. wordsFrom text k) (add-one at) ∙ sym (ap words_of (drop-cons text at 0 h) ∙ words-blank (get_or text at 0) (drop (suc at) text) e)
+words_skip : (text : List ℕ) (at : ℕ) → at < length text → is_blank (get_or text at 0) ≡ true → words_from text (at + 1) ≡ words_from text at
+words_skip text at h e =
+    ap (λ k. words_from text k) (add-one at) ∙ sym (ap words_of (drop-cons text at 0 h) ∙ words_blank (get_or text at 0) (drop (suc at) text) e)
 
-pub word_none : (text : List ℕ) (at : ℕ) → length text ≤ at → wordFrom text at ≡ []
-word_none text at h = ap (λ l. word_at (parts_of l) 0) (drop_of_length-le text h) ∙ first-none
+pub word_none : (text : List ℕ) (at : ℕ) → length text ≤ at → word_from text at ≡ []
+word_none text at h = ap (λ l. word_at (parts_of l) 0) (drop_of_length-le text h) ∙ first_none
 
-pub word_blank : (text : List ℕ) (at : ℕ) → at < length text → isBlank (get_or text at 0) ≡ true → wordFrom text at ≡ []
-word_blank text at h e = ap (λ l. word_at (parts_of l) 0) (drop-cons text at 0 h) ∙ first-blank (get_or text at 0) (drop (suc at) text) e
+pub word_blank : (text : List ℕ) (at : ℕ) → at < length text → is_blank (get_or text at 0) ≡ true → word_from text at ≡ []
+word_blank text at h e = ap (λ l. word_at (parts_of l) 0) (drop-cons text at 0 h) ∙ first_blank (get_or text at 0) (drop (suc at) text) e
 
 -- another byte belongs to the word
-pub word_byte : (text : List ℕ) (at : ℕ) → at < length text → isBlank (get_or text at 0) ≡ false → wordFrom text at ≡ get_or text at 0 ∷ wordFrom text (at + 1)
+pub word_byte : (text : List ℕ) (at : ℕ) → at < length text → is_blank (get_or text at 0) ≡ false → word_from text at ≡ get_or text at 0 ∷ word_from text (at + 1)
 word_byte text at h e =
     ap (λ l. word_at (parts_of l) 0) (drop-cons text at 0 h)
     ∙ first_byte (get_or text at 0) (drop (suc at) text) e
-    ∙ ap (λ k. get_or text at 0 ∷ wordFrom text k) (sym (add-one at))
+    ∙ ap (λ k. get_or text at 0 ∷ word_from text k) (sym (add-one at))
 
-pub word_more : (text : List ℕ) (from at : ℕ) → at < length text → isBlank (get_or text at 0) ≡ false → at + length (wordFrom text at) ≡ from + length (wordFrom text from)
-    → at + 1 + length (wordFrom text (at + 1)) ≡ from + length (wordFrom text from)
+pub word_more : (text : List ℕ) (from at : ℕ) → at < length text → is_blank (get_or text at 0) ≡ false → at + length (word_from text at) ≡ from + length (word_from text from)
+    → at + 1 + length (word_from text (at + 1)) ≡ from + length (word_from text from)
 word_more text from at h e i =
-    let s : length (wordFrom text at) ≡ suc (length (wordFrom text (at + 1))) = ap length (word_byte text at h e) in omega arith
+    let s : length (word_from text at) ≡ suc (length (word_from text (at + 1))) = ap length (word_byte text at h e) in omega arith
 
-pub word-end-none : (text : List ℕ) (from at : ℕ) → length text ≤ at → at + length (wordFrom text at) ≡ from + length (wordFrom text from)
-    → at ≡ from + length (wordFrom text from)
-word-end-none text from at h i = let s : length (wordFrom text at) ≡ 0 = ap length (word_none text at h) in omega arith
+pub word_end_none : (text : List ℕ) (from at : ℕ) → length text ≤ at → at + length (word_from text at) ≡ from + length (word_from text from)
+    → at ≡ from + length (word_from text from)
+word_end_none text from at h i = let s : length (word_from text at) ≡ 0 = ap length (word_none text at h) in omega arith
 
-pub word-end-blank : (text : List ℕ) (from at : ℕ) → at < length text → isBlank (get_or text at 0) ≡ true → at + length (wordFrom text at) ≡ from + length (wordFrom text from)
-    → at ≡ from + length (wordFrom text from)
-word-end-blank text from at h e i = let s : length (wordFrom text at) ≡ 0 = ap length (word_blank text at h e) in omega arith
+pub word_end_blank : (text : List ℕ) (from at : ℕ) → at < length text → is_blank (get_or text at 0) ≡ true → at + length (word_from text at) ≡ from + length (word_from text from)
+    → at ≡ from + length (word_from text from)
+word_end_blank text from at h e i = let s : length (word_from text at) ≡ 0 = ap length (word_blank text at h e) in omega arith
 
-module _ (text : List ℕ) (from : ℕ) (end : ℕ) (ends : end ≡ from + length (wordFrom text from)) where
+module _ (text : List ℕ) (from : ℕ) (end : ℕ) (ends : end ≡ from + length (word_from text from)) where
   -- where the word ends
-  pub word-inside : from ≤ length text → end ≤ length text
-  word-inside h = omega (arith, first-le (drop from text), length-drop from text)
+  pub word_inside : from ≤ length text → end ≤ length text
+  word_inside h = omega (arith, first_le (drop from text), length-drop from text)
 
   pub word_after : from ≤ end
   word_after = omega arith
 
-  pub word-part : part from end text ≡ wordFrom text from
-  word-part = let n : end - from ≡ length (wordFrom text from) = omega arith in ap (λ k. take k (drop from text)) n ∙ first-take (drop from text)
+  pub word-part : part from end text ≡ word_from text from
+  word-part = let n : end - from ≡ length (word_from text from) = omega arith in ap (λ k. take k (drop from text)) n ∙ first_take (drop from text)
 
   -- a word that begins has a byte, and the others come after it
-  pub word_some : from < length text → isBlank (get_or text from 0) ≡ false → from < end
-  word_some h e = let s : length (wordFrom text from) ≡ suc (length (wordFrom text (from + 1))) = ap length (word_byte text from h e) in omega arith
+  pub word_some : from < length text → is_blank (get_or text from 0) ≡ false → from < end
+  word_some h e = let s : length (word_from text from) ≡ suc (length (word_from text (from + 1))) = ap length (word_byte text from h e) in omega arith
 
-  pub words-here : from < length text → isBlank (get_or text from 0) ≡ false → wordsFrom text from ≡ wordFrom text from ∷ wordsFrom text end
+  pub words-here : from < length text → is_blank (get_or text from 0) ≡ false → words_from text from ≡ word_from text from ∷ words_from text end
   words-here h e =
       let byte : drop from text ≡ get_or text from 0 ∷ drop (suc from) text = drop-cons text from 0 h in
-      ap words_of byte ∙ words-first (get_or text from 0) (drop (suc from) text) e
+      ap words_of byte ∙ words_first (get_or text from 0) (drop (suc from) text) e
       ∙ ap (λ l. word_at (parts_of l) 0 ∷ words_of (drop (length (word_at (parts_of l) 0)) l)) (sym byte)
-      ∙ ap (λ w. wordFrom text from ∷ w) (ap words_of (drop-drop (length (wordFrom text from)) from text) ∙ ap (λ k. wordsFrom text k) (sym ends))
+      ∙ ap (λ w. word_from text from ∷ w) (ap words_of (drop-drop (length (word_from text from)) from text) ∙ ap (λ k. words_from text k) (sym ends))
 
 -- The next word
 
@@ -188,39 +188,39 @@ module _ (text : List ℕ) (from : ℕ) (end : ℕ) (ends : end ≡ from + lengt
 pub record Skipped (text : List ℕ) (from at : ℕ) : Type 0 where
   pub after : from ≤ at
   pub inside : at ≤ length text
-  pub same : wordsFrom text at ≡ wordsFrom text from
+  pub same : words_from text at ≡ words_from text from
 
-pub skip-start : (text : List ℕ) (from : ℕ) → from ≤ length text → Skipped text from from
-skip-start text from h = record { after = omega arith; inside = h; same = refl }
+pub skip_start : (text : List ℕ) (from : ℕ) → from ≤ length text → Skipped text from from
+skip_start text from h = record { after = omega arith; inside = h; same = refl }
 
-pub skip-more : {text : List ℕ} {from at : ℕ} → Skipped text from at → at < length text → isBlank (get_or text at 0) ≡ true → Skipped text from (at + 1)
-skip-more {text} {from} {at} s h e = record { after = omega (arith, s.after); inside = omega arith; same = words-skip text at h e ∙ s.same }
+pub skip_more : {text : List ℕ} {from at : ℕ} → Skipped text from at → at < length text → is_blank (get_or text at 0) ≡ true → Skipped text from (at + 1)
+skip_more {text} {from} {at} s h e = record { after = omega (arith, s.after); inside = omega arith; same = words_skip text at h e ∙ s.same }
 
-pub skip-here : {text : List ℕ} {from at : ℕ} → Skipped text from at → isBlank (get_or text at 0) ≡ false → Begins text from at
-skip-here s e = record { after = s.after; inside = s.inside; same = s.same; here = λ h. e }
+pub skip_here : {text : List ℕ} {from at : ℕ} → Skipped text from at → is_blank (get_or text at 0) ≡ false → Begins text from at
+skip_here s e = record { after = s.after; inside = s.inside; same = s.same; here = λ h. e }
 
-pub skip-end : {text : List ℕ} {from at : ℕ} → Skipped text from at → length text ≤ at → Begins text from at
-skip-end s h = record { after = s.after; inside = s.inside; same = s.same; here = λ l. absurd (omega arith) }
+pub skip_end : {text : List ℕ} {from at : ℕ} → Skipped text from at → length text ≤ at → Begins text from at
+skip_end s h = record { after = s.after; inside = s.inside; same = s.same; here = λ l. absurd (omega arith) }
 
 -- the first word from an index on
-pub begins-first : {text : List ℕ} {from at : ℕ} → Begins text from at → word_at (wordsFrom text from) 0 ≡ wordFrom text at
-begins-first {text} {from} {at} b = ap (λ w. word_at w 0) (sym b.same) ∙ go (dec_lt at (length text))
+pub begins_first : {text : List ℕ} {from at : ℕ} → Begins text from at → word_at (words_from text from) 0 ≡ word_from text at
+begins_first {text} {from} {at} b = ap (λ w. word_at w 0) (sym b.same) ∙ go (dec_lt at (length text))
   where
-    go : Dec (at < length text) → word_at (wordsFrom text at) 0 ≡ wordFrom text at
-    go (yes h) = ap (λ w. word_at w 0) (words-here text at (at + length (wordFrom text at)) refl h (b.here h))
-    go (no h) = ap (λ w. word_at w 0) (words-end text at (omega arith)) ∙ sym (word_none text at (omega arith))
+    go : Dec (at < length text) → word_at (words_from text at) 0 ≡ word_from text at
+    go (yes h) = ap (λ w. word_at w 0) (words-here text at (at + length (word_from text at)) refl h (b.here h))
+    go (no h) = ap (λ w. word_at w 0) (words_end text at (omega arith)) ∙ sym (word_none text at (omega arith))
 
-pub begins-rest : {text : List ℕ} {from at : ℕ} (end : ℕ) → Begins text from at → end ≡ at + length (wordFrom text at) → Passes text from 1 end
-begins-rest {text} {from} {at} end b e = record {
-  inside = word-inside text at end e b.inside;
+pub begins_rest : {text : List ℕ} {from at : ℕ} (end : ℕ) → Begins text from at → end ≡ at + length (word_from text at) → Passes text from 1 end
+begins_rest {text} {from} {at} end b e = record {
+  inside = word_inside text at end e b.inside;
   rest = go (dec_lt at (length text)) ∙ ap (drop 1) b.same;
 }
   where
-    go : Dec (at < length text) → wordsFrom text end ≡ drop 1 (wordsFrom text at)
+    go : Dec (at < length text) → words_from text end ≡ drop 1 (words_from text at)
     go (yes h) = sym (ap (drop 1) (words-here text at end e h (b.here h)))
     go (no h) =
-        let none : length (wordFrom text at) ≡ 0 = ap length (word_none text at (omega arith)) in
-        words-end text end (omega arith) ∙ sym (ap (drop 1) (words-end text at (omega arith)))
+        let none : length (word_from text at) ≡ 0 = ap length (word_none text at (omega arith)) in
+        words_end text end (omega arith) ∙ sym (ap (drop 1) (words_end text at (omega arith)))
 
 -- Several words
 
@@ -229,25 +229,25 @@ pub record Passing (text : List ℕ) (count at passed : ℕ) : Type 0 where
   pub few : passed ≤ count
   pub passes : Passes text 0 passed at
 
-pub passing-start : (text : List ℕ) (count : ℕ) → Passing text count 0 0
-passing-start text count = record { few = omega arith; passes = record { inside = omega arith; rest = refl } }
+pub passing_start : (text : List ℕ) (count : ℕ) → Passing text count 0 0
+passing_start text count = record { few = omega arith; passes = record { inside = omega arith; rest = refl } }
 
-pub passing-more : {text : List ℕ} {count at passed : ℕ} (end : ℕ) → Passing text count at passed → passed < count → Passes text at 1 end
+pub passing_more : {text : List ℕ} {count at passed : ℕ} (end : ℕ) → Passing text count at passed → passed < count → Passes text at 1 end
     → Passing text count end (passed + 1)
-passing-more {text} {count} {at} {passed} end p h q = record {
+passing_more {text} {count} {at} {passed} end p h q = record {
   few = omega arith;
   passes = record { inside = q.inside; rest = q.rest ∙ ap (drop 1) p.passes.rest ∙ drop-drop 1 passed (words_of text) };
 }
 
-pub passing-all : {text : List ℕ} {count at passed : ℕ} → Passing text count at passed → count ≤ passed → Passes text 0 count at
-passing-all {text} {count} {at} {passed} p h = let e : passed ≡ count = omega (arith, p.few) in subst (λ k. Passes text 0 k at) e p.passes
+pub passing_all : {text : List ℕ} {count at passed : ℕ} → Passing text count at passed → count ≤ passed → Passes text 0 count at
+passing_all {text} {count} {at} {passed} p h = let e : passed ≡ count = omega (arith, p.few) in subst (λ k. Passes text 0 k at) e p.passes
 
 -- at the end of the text there are no more
-pub passing-end : {text : List ℕ} {count at passed : ℕ} → Passing text count at passed → at ≡ length text → Passes text 0 count at
-passing-end {text} {count} {at} {passed} p e = record {
+pub passing_end : {text : List ℕ} {count at passed : ℕ} → Passing text count at passed → at ≡ length text → Passes text 0 count at
+passing_end {text} {count} {at} {passed} p e = record {
   inside = p.passes.inside;
   rest =
-      let none : wordsFrom text at ≡ [] = words-end text at (omega arith) in
+      let none : words_from text at ≡ [] = words_end text at (omega arith) in
       let sum : count ≡ passed + (count - passed) = omega (arith, p.few) in
       none
       ∙ sym (ap (λ k. drop k (words_of text)) sum ∙ sym (drop-drop (count - passed) passed (words_of text))

@@ -6,15 +6,15 @@ use Rattle.command_table.specs.declared.Form.TheVariants as Form
 use Rattle.command.specs.declared.scan.Scan.{Scan}
 use Rattle.command.specs.declared.scan.Numeral.{Numeral}
 use Rattle.command.specs.declared.scan.Numeral.TheVariants as Numeral
-use Rattle.command.specs.Lines.{text_of, isBlank, parts_of, words_of, word_at, is_number, numberSaid, allNumbers}
+use Rattle.command.specs.Lines.{text_of, is_blank, parts_of, words_of, word_at, is_number, number_said, all_numbers}
 
 -- the bytes of a text from an index up to the next blank
-abbrev pub wordFrom : List ℕ → ℕ → List ℕ
-wordFrom text at = word_at (parts_of (drop at text)) 0
+abbrev pub word_from : List ℕ → ℕ → List ℕ
+word_from text at = word_at (parts_of (drop at text)) 0
 
 -- the words of a text from an index on
-abbrev pub wordsFrom : List ℕ → ℕ → List (List ℕ)
-wordsFrom text at = words_of (drop at text)
+abbrev pub words_from : List ℕ → ℕ → List (List ℕ)
+words_from text at = words_of (drop at text)
 
 -- where a line's text ends
 pub record TextEnd (line : List ℕ) (end : ℕ) : Type 0 where
@@ -25,13 +25,13 @@ pub record TextEnd (line : List ℕ) (end : ℕ) : Type 0 where
 pub record Begins (text : List ℕ) (from at : ℕ) : Type 0 where
   pub after : from ≤ at
   pub inside : at ≤ length text
-  pub same : wordsFrom text at ≡ wordsFrom text from
-  pub here : at < length text → isBlank (get_or text at 0) ≡ false
+  pub same : words_from text at ≡ words_from text from
+  pub here : at < length text → is_blank (get_or text at 0) ≡ false
 
 -- so many words from an index on, or all where there are fewer, end at another
 pub record Passes (text : List ℕ) (from count end : ℕ) : Type 0 where
   pub inside : end ≤ length text
-  pub rest : wordsFrom text end ≡ drop count (wordsFrom text from)
+  pub rest : words_from text end ≡ drop count (words_from text from)
 
 -- the number that a word says, if it says one
 abbrev pub numeral : List ℕ → Numeral
@@ -49,29 +49,29 @@ noted s allGood number = record {
 }
 
 -- one word more
-abbrev pub withWord : Scan → List ℕ → Scan
-withWord s word = noted s (s.good && is_number word) (numberSaid word)
+abbrev pub with_word : Scan → List ℕ → Scan
+with_word s word = noted s (s.good && is_number word) (number_said word)
 
 -- the words in front of the last
-abbrev pub beforeLast : List (List ℕ) → List (List ℕ)
-beforeLast words = take (length words - 1) words
+abbrev pub before_last : List (List ℕ) → List (List ℕ)
+before_last words = take (length words - 1) words
 
 -- whether all words are numbers, whether those in front of the last are, how many they are, and the numbers that the first three say
 abbrev pub scanned : List (List ℕ) → Scan
 scanned words = record {
-  good = allNumbers words;
-  front = allNumbers (beforeLast words);
+  good = all_numbers words;
+  front = all_numbers (before_last words);
   count = length words;
-  first = numberSaid (word_at words 0);
-  second = numberSaid (word_at words 1);
-  third = numberSaid (word_at words 2);
+  first = number_said (word_at words 0);
+  second = number_said (word_at words 1);
+  third = number_said (word_at words 2);
 }
 
 -- the words that a scan tells of are what a command wants
-abbrev pub scanFits : Form → Scan → Bool
-scanFits (Form.Numbers k) s = eqb s.count k && s.good
-scanFits (Form.Optional k) s = leb k s.count && (leb s.count (k + 1) && s.good)
-scanFits (Form.File k) s = eqb s.count (k + 1) && s.front
-scanFits (Form.OptionalFile k) s = cond (eqb s.count k) s.good (eqb s.count (k + 1) && s.front)
-scanFits Form.Cycle s = leb 1 s.count && s.good
-scanFits Form.List s = s.good
+abbrev pub scan_fits : Form → Scan → Bool
+scan_fits (Form.Numbers k) s = eqb s.count k && s.good
+scan_fits (Form.Optional k) s = leb k s.count && (leb s.count (k + 1) && s.good)
+scan_fits (Form.File k) s = eqb s.count (k + 1) && s.front
+scan_fits (Form.OptionalFile k) s = cond (eqb s.count k) s.good (eqb s.count (k + 1) && s.front)
+scan_fits Form.Cycle s = leb 1 s.count && s.good
+scan_fits Form.List s = s.good

@@ -7,7 +7,7 @@ use Rattle.command_table.specs.declared.Form.TheVariants as Form
 use Rattle.command_table.specs.declared.Verb.{Verb}
 use Rattle.command_table.specs.declared.Named.{Named}
 use Rattle.command_table.specs.declared.Named.TheVariants as Named
-use Rattle.command_table.specs.Commands.{commandOf}
+use Rattle.command_table.specs.Commands.{command_of}
 use Rattle.command.specs.declared.Trouble.TheVariants as Trouble
 use Rattle.command.specs.declared.Request.{Request}
 use Rattle.command.specs.declared.Parsed.{Parsed}
@@ -20,8 +20,8 @@ unfoldable pub text_of : List ℕ → List ℕ
 text_of line = cond (eqb (get_or line (length line - 1) 0) 13) (take (length line - 1) line) line
 
 -- a space or a tab
-abbrev pub isBlank : ℕ → Bool
-isBlank b = eqb b 32 || eqb b 9
+abbrev pub is_blank : ℕ → Bool
+is_blank b = eqb b 32 || eqb b 9
 
 -- a byte in front of the first part
 abbrev pub onto : ℕ → List (List ℕ) → List (List ℕ)
@@ -31,7 +31,7 @@ onto b (p ∷ parts) = (b ∷ p) ∷ parts
 -- the parts of a text between its blanks: between two blanks side by side stands an empty part
 unfoldable pub parts_of : List ℕ → List (List ℕ)
 parts_of [] = [] ∷ []
-parts_of (b ∷ text) = cond (isBlank b) ([] ∷ parts_of text) (onto b (parts_of text))
+parts_of (b ∷ text) = cond (is_blank b) ([] ∷ parts_of text) (onto b (parts_of text))
 
 -- those that are not empty
 abbrev pub filled : List (List ℕ) → List (List ℕ)
@@ -49,44 +49,44 @@ word_at words i = get_or words i []
 
 -- Numbers
 
-abbrev pub isDigit : ℕ → Bool
-isDigit b = leb 48 b && leb b 57
+abbrev pub is_digit : ℕ → Bool
+is_digit b = leb 48 b && leb b 57
 
-unfoldable pub digitsOnly : List ℕ → Bool
-digitsOnly [] = true
-digitsOnly (b ∷ word) = isDigit b && digitsOnly word
+unfoldable pub digits_only : List ℕ → Bool
+digits_only [] = true
+digits_only (b ∷ word) = is_digit b && digits_only word
 
 -- one or more digits that say a number up to 4294967295
 unfoldable pub is_number : List ℕ → Bool
-is_number word = leb 1 (length word) && (digitsOnly word && leb (value word) 4294967295)
+is_number word = leb 1 (length word) && (digits_only word && leb (value word) 4294967295)
 
 -- the number that a word says, 0 where it says none
-unfoldable pub numberSaid : List ℕ → ℕ
-numberSaid word = cond (is_number word) (value word) 0
+unfoldable pub number_said : List ℕ → ℕ
+number_said word = cond (is_number word) (value word) 0
 
-unfoldable pub allNumbers : List (List ℕ) → Bool
-allNumbers [] = true
-allNumbers (w ∷ words) = is_number w && allNumbers words
+unfoldable pub all_numbers : List (List ℕ) → Bool
+all_numbers [] = true
+all_numbers (w ∷ words) = is_number w && all_numbers words
 
 -- Commands
 
 -- the words after the name are what the command wants
 abbrev pub fits : Form → List (List ℕ) → Bool
-fits (Form.Numbers k) words = eqb (length words) k && allNumbers words
-fits (Form.Optional k) words = leb k (length words) && (leb (length words) (k + 1) && allNumbers words)
-fits (Form.File k) words = eqb (length words) (k + 1) && allNumbers (take k words)
-fits (Form.OptionalFile k) words = leb k (length words) && (leb (length words) (k + 1) && allNumbers (take k words))
-fits Form.Cycle words = leb 1 (length words) && allNumbers words
-fits Form.List words = allNumbers words
+fits (Form.Numbers k) words = eqb (length words) k && all_numbers words
+fits (Form.Optional k) words = leb k (length words) && (leb (length words) (k + 1) && all_numbers words)
+fits (Form.File k) words = eqb (length words) (k + 1) && all_numbers (take k words)
+fits (Form.OptionalFile k) words = leb k (length words) && (leb (length words) (k + 1) && all_numbers (take k words))
+fits Form.Cycle words = leb 1 (length words) && all_numbers words
+fits Form.List words = all_numbers words
 
 -- the command with the number of words after its name, and the numbers that the first three say
 abbrev pub requested : Verb → List (List ℕ) → Request
 requested v words = record {
   verb = v;
   count = length words;
-  first = numberSaid (word_at words 0);
-  second = numberSaid (word_at words 1);
-  third = numberSaid (word_at words 2);
+  first = number_said (word_at words 0);
+  second = number_said (word_at words 1);
+  third = number_said (word_at words 2);
 }
 
 abbrev pub named : Named → List (List ℕ) → Parsed
@@ -94,14 +94,14 @@ named Named.Unknown words = Parsed.Bad Trouble.NoCommand
 named (Named.Known e) words = cond (fits e.form words) (Parsed.Command (requested e.verb words)) (Parsed.Bad (Trouble.Usage e.row))
 
 -- a word that begins with #
-abbrev pub isComment : List ℕ → Bool
-isComment [] = false
-isComment (b ∷ word) = eqb b 35
+abbrev pub is_comment : List ℕ → Bool
+is_comment [] = false
+is_comment (b ∷ word) = eqb b 35
 
 -- no words, and words of which the first begins with #, say nothing
 unfoldable pub said : List (List ℕ) → Parsed
 said [] = Parsed.Nothing
-said (w ∷ words) = cond (isComment w) Parsed.Nothing (named (commandOf w) words)
+said (w ∷ words) = cond (is_comment w) Parsed.Nothing (named (command_of w) words)
 
 -- what a line says
 unfoldable pub meaning : List ℕ → Parsed
@@ -111,19 +111,19 @@ meaning line = cond (leb (length line) 4096) (said (words_of (text_of line))) (P
 
 -- the numbers that words say, as bytes: 0 for one that no byte holds
 abbrev pub narrowed : List (List ℕ) → List ℕ
-narrowed words = map (λ word. narrow (numberSaid word)) words
+narrowed words = map (λ word. narrow (number_said word)) words
 
 -- the latencies of a cycle that is judged: the numbers after the name and the tag
-unfoldable pub latenciesIn : List ℕ → List ℕ
-latenciesIn line = narrowed (drop 2 (words_of (text_of line)))
+unfoldable pub latencies_in : List ℕ → List ℕ
+latencies_in line = narrowed (drop 2 (words_of (text_of line)))
 
 -- the tags of a loop: the numbers after the name
-unfoldable pub tagsIn : List ℕ → List ℕ
-tagsIn line = narrowed (drop 1 (words_of (text_of line)))
+unfoldable pub tags_in : List ℕ → List ℕ
+tags_in line = narrowed (drop 1 (words_of (text_of line)))
 
 -- as many as there is room for stand in front, the bytes after them are as before
-abbrev pub inFront : List ℕ → List ℕ → List ℕ
-inFront l bytes = take (length bytes) l ++ drop (length l) bytes
+abbrev pub in_front : List ℕ → List ℕ → List ℕ
+in_front l bytes = take (length bytes) l ++ drop (length l) bytes
 
 -- word i of a line, the name of its command being word 0; empty where there is none. The file of a command that names one is the last word
 -- of its line, word `count` of the request.

@@ -4,8 +4,8 @@ mod scan;
 
 ghost use Rattle.std.specs.Prelude.{◌≡◌, min, ◌≤◌, length};
 ghost use Rattle.command_table.specs.declared.Named.TheVariants.{Known};
-ghost use Rattle.command.specs.Lines.{named, said, meaning, words_of, latenciesIn, tagsIn, inFront, word_in};
-ghost use Rattle.command.specs.Inner.{wordsFrom, scanFits, TextEnd, Passes};
+ghost use Rattle.command.specs.Lines.{named, said, meaning, words_of, latencies_in, tags_in, in_front, word_in};
+ghost use Rattle.command.specs.Inner.{words_from, scan_fits, TextEnd, Passes};
 
 use command_table::{Entry, Form, Named, Verb};
 use scan::Scan;
@@ -38,7 +38,7 @@ pub enum Parsed {
 
 // Whether there are so many numbers, or one more.
 fn is_optional(count: usize, words: Scan) -> bool
-    ensures { result ≡ scanFits (Form.Optional count) words }
+    ensures { result ≡ scan_fits (Form.Optional count) words }
 {
     if words.count < count {
         return false;
@@ -51,7 +51,7 @@ fn is_optional(count: usize, words: Scan) -> bool
 
 // Whether there are so many numbers, and the name of a file after them.
 fn is_file(count: usize, words: Scan) -> bool
-    ensures { result ≡ scanFits (Form.File count) words }
+    ensures { result ≡ scan_fits (Form.File count) words }
 {
     if words.count == 0 {
         return false;
@@ -64,7 +64,7 @@ fn is_file(count: usize, words: Scan) -> bool
 
 // Whether there are so many numbers, and nothing or the name of a file after them.
 fn is_optional_file(count: usize, words: Scan) -> bool
-    ensures { result ≡ scanFits (Form.OptionalFile count) words }
+    ensures { result ≡ scan_fits (Form.OptionalFile count) words }
 {
     if words.count == count {
         return words.good;
@@ -74,7 +74,7 @@ fn is_optional_file(count: usize, words: Scan) -> bool
 
 // Whether the words after the name, of which a scan tells, are what the command wants.
 fn is_fit(form: Form, words: Scan) -> bool
-    ensures { result ≡ scanFits form words }
+    ensures { result ≡ scan_fits form words }
 {
     match form {
         Form::Numbers(count) => words.count == count && words.good,
@@ -89,7 +89,7 @@ fn is_fit(form: Form, words: Scan) -> bool
 // What the words after the name of a command say. The name ends at an index.
 fn parse_rest(text: &[u8], from: usize, entry: Entry) -> Parsed
     requires { from ≤ length text.now }
-    ensures { result ≡ named (Known entry) (wordsFrom text.now from) }
+    ensures { result ≡ named (Known entry) (words_from text.now from) }
 {
     let words = scan::scan_words(text, from);
     let form = entry.form;
@@ -178,8 +178,8 @@ fn past_words(text: &[u8], count: usize) -> usize
 // The latencies of a cycle that is judged, as bytes: 0 for a number that is too large for one. As many as there is room for are kept, and
 // their number is the answer.
 pub fn latencies(line: &[u8], cycle: &mut [u8]) -> usize
-    ensures value { result ≡ min (length (latenciesIn line.now)) (length cycle.old) }
-    ensures cycle_after { cycle.new ≡ inFront (latenciesIn line.now) cycle.old }
+    ensures value { result ≡ min (length (latencies_in line.now)) (length cycle.old) }
+    ensures cycle_after { cycle.new ≡ in_front (latencies_in line.now) cycle.old }
 {
     let end = text_end(line);
     let text = &line[..end];
@@ -190,8 +190,8 @@ pub fn latencies(line: &[u8], cycle: &mut [u8]) -> usize
 
 // The tags of a loop, as bytes: 0 for a number that is too large for one. As many as there is room for are kept, and their number is the answer.
 pub fn tags(line: &[u8], list: &mut [u8]) -> usize
-    ensures value { result ≡ min (length (tagsIn line.now)) (length list.old) }
-    ensures list_after { list.new ≡ inFront (tagsIn line.now) list.old }
+    ensures value { result ≡ min (length (tags_in line.now)) (length list.old) }
+    ensures list_after { list.new ≡ in_front (tags_in line.now) list.old }
 {
     let end = text_end(line);
     let text = &line[..end];

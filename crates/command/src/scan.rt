@@ -1,8 +1,8 @@
 // Words of a text, and the numbers that they say.
 ghost use Rattle.std.specs.Prelude.{◌≡◌, cond, ◌+◌, ◌≤◌, ◌<◌, min, eqb, length};
 ghost use Rattle.words.specs.Bytes.{narrow};
-ghost use Rattle.command.specs.Lines.{isBlank, numberSaid, narrowed, inFront};
-ghost use Rattle.command.specs.Inner.{wordFrom, wordsFrom, Begins, numeral, noted, withWord, scanned};
+ghost use Rattle.command.specs.Lines.{is_blank, number_said, narrowed, in_front};
+ghost use Rattle.command.specs.Inner.{word_from, words_from, Begins, numeral, noted, with_word, scanned};
 
 // Whether all words are numbers, whether those in front of the last are, how many they are, and the numbers that the first three say, 0 where one
 // says none.
@@ -25,7 +25,7 @@ pub enum Numeral {
 
 // A space or a tab.
 fn is_blank(byte: u8) -> bool
-    ensures { result ≡ isBlank byte }
+    ensures { result ≡ is_blank byte }
 {
     byte == 32 || byte == 9
 }
@@ -48,7 +48,7 @@ pub fn word_start(text: &[u8], from: usize) -> usize
 // The index at which the word from an index on ends: that of the next blank, or of the text's end.
 pub fn word_end(text: &[u8], from: usize) -> usize
     requires { from ≤ length text.now }
-    ensures { result ≡ from + length (wordFrom text.now from) }
+    ensures { result ≡ from + length (word_from text.now from) }
 {
     let mut at = from;
     while at < text.len() {
@@ -115,7 +115,7 @@ fn note(words: Scan, good: bool, number: u32) -> Scan
 // One word more.
 fn with_word(words: Scan, word: &[u8]) -> Scan
     requires { words.count < 18446744073709551615 }
-    ensures { result ≡ withWord words word.now }
+    ensures { result ≡ with_word words word.now }
 {
     let numeral = number_of(word);
     match numeral {
@@ -127,7 +127,7 @@ fn with_word(words: Scan, word: &[u8]) -> Scan
 // The words from an index on.
 pub fn scan_words(text: &[u8], from: usize) -> Scan
     requires { from ≤ length text.now }
-    ensures { result ≡ scanned (wordsFrom text.now from) }
+    ensures { result ≡ scanned (words_from text.now from) }
 {
     let mut words = Scan {
         good: true,
@@ -148,7 +148,7 @@ pub fn scan_words(text: &[u8], from: usize) -> Scan
 
 // The number that a word says as a byte: 0 where it is too large for one, or where the word says none.
 fn byte_of(word: &[u8]) -> u8
-    ensures { result ≡ narrow (numberSaid word.now) }
+    ensures { result ≡ narrow (number_said word.now) }
 {
     let Numeral::Number(number) = number_of(word) else {
         return 0;
@@ -159,8 +159,8 @@ fn byte_of(word: &[u8]) -> u8
 // The numbers of the words from an index on as bytes, as many as there is room for.
 pub fn bytes_after(text: &[u8], from: usize, list: &mut [u8]) -> usize
     requires { from ≤ length text.now }
-    ensures value { result ≡ min (length (narrowed (wordsFrom text.now from))) (length list.old) }
-    ensures list_after { list.new ≡ inFront (narrowed (wordsFrom text.now from)) list.old }
+    ensures value { result ≡ min (length (narrowed (words_from text.now from))) (length list.old) }
+    ensures list_after { list.new ≡ in_front (narrowed (words_from text.now from)) list.old }
 {
     let mut count = 0;
     let mut at = word_start(text, from);

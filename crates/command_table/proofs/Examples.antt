@@ -2,68 +2,68 @@
 use mathlib.Core.Path.{◌≡◌, refl}
 use Rattle.text.specs.Text.{ascii, same}
 use Rattle.command_table.specs.declared.Named.TheVariants as Named
-use Rattle.command_table.specs.Commands.{row_at, name_at, usageAt, entry_at, among, commandOf}
+use Rattle.command_table.specs.Commands.{row_at, name_at, usage_at, entry_at, among, command_of}
 
-pub name-of-mark : name_at 1 ≡ ascii "mark"
+pub name_of_mark : name_at 1 ≡ ascii "mark"
 unfolding name_at row_at
-name-of-mark = refl
+name_of_mark = refl
 
-pub usage-of-judge : usageAt 12 ≡ ascii "judge Q L L .."
-unfolding usageAt row_at
-usage-of-judge = refl
+pub usage_of_judge : usage_at 12 ≡ ascii "judge Q L L .."
+unfolding usage_at row_at
+usage_of_judge = refl
 
-pub usage-of-loop : usageAt 21 ≡ ascii "loop Q Q .."
-unfolding usageAt row_at
-usage-of-loop = refl
+pub usage_of_loop : usage_at 21 ≡ ascii "loop Q Q .."
+unfolding usage_at row_at
+usage_of_loop = refl
 
-pub usage-of-record : usageAt 22 ≡ ascii "record Q FILE"
-unfolding usageAt row_at
-usage-of-record = refl
+pub usage_of_record : usage_at 22 ≡ ascii "record Q FILE"
+unfolding usage_at row_at
+usage_of_record = refl
 
-pub usage-of-simulate : usageAt 25 ≡ ascii "simulate Q UNITS"
-unfolding usageAt row_at
-usage-of-simulate = refl
+pub usage_of_simulate : usage_at 25 ≡ ascii "simulate Q UNITS"
+unfolding usage_at row_at
+usage_of_simulate = refl
 
-pub usage-of-delays : usageAt 26 ≡ ascii "delays Q M [FILE]"
-unfolding usageAt row_at
-usage-of-delays = refl
+pub usage_of_delays : usage_at 26 ≡ ascii "delays Q M [FILE]"
+unfolding usage_at row_at
+usage_of_delays = refl
 
-pub usage-of-arrive : usageAt 27 ≡ ascii "arrive Q TICKET"
-unfolding usageAt row_at
-usage-of-arrive = refl
+pub usage_of_arrive : usage_at 27 ≡ ascii "arrive Q TICKET"
+unfolding usage_at row_at
+usage_of_arrive = refl
 
-pub usage-of-call : usageAt 31 ≡ ascii "call I Q TICKET"
-unfolding usageAt row_at
-usage-of-call = refl
+pub usage_of_call : usage_at 31 ≡ ascii "call I Q TICKET"
+unfolding usage_at row_at
+usage_of_call = refl
 
-pub usage-of-small : usageAt 33 ≡ ascii "small S C [NUMBER]"
-unfolding usageAt row_at
-usage-of-small = refl
+pub usage_of_small : usage_at 33 ≡ ascii "small S C [NUMBER]"
+unfolding usage_at row_at
+usage_of_small = refl
 
-pub mark-is-found : commandOf (ascii "mark") ≡ Named.Known (entry_at 1)
-unfolding commandOf among same name_at row_at
-mark-is-found = refl
+pub mark_is_found : command_of (ascii "mark") ≡ Named.Known (entry_at 1)
+unfolding command_of among same name_at row_at
+mark_is_found = refl
 
-pub delays-is-found : commandOf (ascii "delays") ≡ Named.Known (entry_at 26)
-unfolding commandOf among same name_at row_at
-delays-is-found = refl
+pub delays_is_found : command_of (ascii "delays") ≡ Named.Known (entry_at 26)
+unfolding command_of among same name_at row_at
+delays_is_found = refl
 
-pub queue-is-found : commandOf (ascii "queue") ≡ Named.Known (entry_at 29)
-unfolding commandOf among same name_at row_at
-queue-is-found = refl
+pub queue_is_found : command_of (ascii "queue") ≡ Named.Known (entry_at 29)
+unfolding command_of among same name_at row_at
+queue_is_found = refl
 
-pub turn-is-found : commandOf (ascii "turn") ≡ Named.Known (entry_at 32)
-unfolding commandOf among same name_at row_at
-turn-is-found = refl
+pub turn_is_found : command_of (ascii "turn") ≡ Named.Known (entry_at 32)
+unfolding command_of among same name_at row_at
+turn_is_found = refl
 
-pub small-is-found : commandOf (ascii "small") ≡ Named.Known (entry_at 33)
-unfolding commandOf among same name_at row_at
-small-is-found = refl
+pub small_is_found : command_of (ascii "small") ≡ Named.Known (entry_at 33)
+unfolding command_of among same name_at row_at
+small_is_found = refl
 
-pub part-of-a-name : commandOf (ascii "mar") ≡ Named.Unknown
-unfolding commandOf among same name_at row_at
-part-of-a-name = refl
+pub part_of_a_name : command_of (ascii "mar") ≡ Named.Unknown
+unfolding command_of among same name_at row_at
+part_of_a_name = refl
 
-pub capitals : commandOf (ascii "Mark") ≡ Named.Unknown
-unfolding commandOf among same name_at row_at
+pub capitals : command_of (ascii "Mark") ≡ Named.Unknown
+unfolding command_of among same name_at row_at
 capitals = refl

@@ -18,8 +18,8 @@ use Rattle.command_table.specs.declared.Form.{Form}
 use Rattle.command_table.specs.declared.Entry.{Entry}
 use Rattle.command_table.specs.declared.Named.{Named}
 use Rattle.command_table.specs.declared.Named.TheVariants as Named
-use Rattle.command_table.specs.Commands.{Row, rows, no_row, row_at, name_at, usageAt, entry_at, among, commandOf}
-use Rattle.command_table.specs.Inner.{form_of, formNumber, rowBytes, joined, tableBytes}
+use Rattle.command_table.specs.Commands.{Row, rows, no_row, row_at, name_at, usage_at, entry_at, among, command_of}
+use Rattle.command_table.specs.Inner.{form_of, form_number, row_bytes, joined, table_bytes}
 
 -- A test of every row
 
@@ -27,36 +27,36 @@ abbrev every : (Row → Bool) → List Row → Bool
 every f [] = true
 every f (r ∷ l) = f r && every f l
 
-every-at : (f : Row → Bool) (l : List Row) (i : ℕ) → every f l ≡ true → i < length l → f (get_or l i no_row) ≡ true
-every-at f [] i e h = absurd (omega arith)
-every-at f (r ∷ l) zero e h = and_left (f r) (every f l) e
-every-at f (r ∷ l) (suc i) e h = every-at f l i (and_right (f r) (every f l) e) (omega arith)
+every_at : (f : Row → Bool) (l : List Row) (i : ℕ) → every f l ≡ true → i < length l → f (get_or l i no_row) ≡ true
+every_at f [] i e h = absurd (omega arith)
+every_at f (r ∷ l) zero e h = and_left (f r) (every f l) e
+every_at f (r ∷ l) (suc i) e h = every_at f l i (and_right (f r) (every f l) e) (omega arith)
 
 -- The bytes of a row
 
 -- a row has 48 bytes
 abbrev wide : Row → Bool
-wide r = eqb (length (rowBytes r)) 48
+wide r = eqb (length (row_bytes r)) 48
 
-drop-row : (l : List Row) (i : ℕ) → every wide l ≡ true → i < length l → drop (i * 48) (joined l) ≡ rowBytes (get_or l i no_row) ++ joined (drop (suc i) l)
-drop-row [] i e h = absurd (omega arith)
-drop-row (r ∷ l) zero e h = refl
-drop-row (r ∷ l) (suc i) e h =
+drop_row : (l : List Row) (i : ℕ) → every wide l ≡ true → i < length l → drop (i * 48) (joined l) ≡ row_bytes (get_or l i no_row) ++ joined (drop (suc i) l)
+drop_row [] i e h = absurd (omega arith)
+drop_row (r ∷ l) zero e h = refl
+drop_row (r ∷ l) (suc i) e h =
     let step : suc i * 48 ≡ 48 + i * 48 = omega (arith, suc-mul i 48) in
-    let long : length (rowBytes r) ≡ 48 = eqb-true (length (rowBytes r)) 48 (and_left (wide r) (every wide l) e) in
-    ap (λ k. drop k (rowBytes r ++ joined l)) step ∙ sym (drop-drop (i * 48) 48 (rowBytes r ++ joined l))
-    ∙ ap (drop (i * 48)) (drop_at (rowBytes r) (joined l) 48 long) ∙ drop-row l i (and_right (wide r) (every wide l) e) (omega arith)
+    let long : length (row_bytes r) ≡ 48 = eqb-true (length (row_bytes r)) 48 (and_left (wide r) (every wide l) e) in
+    ap (λ k. drop k (row_bytes r ++ joined l)) step ∙ sym (drop-drop (i * 48) 48 (row_bytes r ++ joined l))
+    ∙ ap (drop (i * 48)) (drop_at (row_bytes r) (joined l) 48 long) ∙ drop_row l i (and_right (wide r) (every wide l) e) (omega arith)
 
 -- what the code finds in the bytes of a table
 pub record Held (table : List ℕ) (i : ℕ) : Type 0 where
   pub room : i * 48 + 48 ≤ length table
   pub names : get_or table (i * 48) 0 ≡ length (name_at i)
-  pub usages : get_or table (i * 48 + 1) 0 ≡ length (usageAt i)
+  pub usages : get_or table (i * 48 + 1) 0 ≡ length (usage_at i)
   pub form : form_of (get_or table (i * 48 + 2) 0) ≡ (row_at i).form
   pub name : take (length (name_at i)) (drop (i * 48 + 3) table) ≡ name_at i
-  pub usage : take (length (usageAt i)) (drop (i * 48 + 3) table) ≡ usageAt i
-  pub front : length (name_at i) ≤ length (usageAt i)
-  pub short : length (usageAt i) ≤ 45
+  pub usage : take (length (usage_at i)) (drop (i * 48 + 3) table) ≡ usage_at i
+  pub front : length (name_at i) ≤ length (usage_at i)
+  pub short : length (usage_at i) ≤ 45
 
 module _ (i : ℕ) (h : i < length rows) where
   abbrev r : Row
@@ -71,26 +71,26 @@ module _ (i : ℕ) (h : i < length rows) where
   abbrev wanted : List ℕ
   wanted = ascii r.wanted
 
-  row_here : drop (i * 48) tableBytes ≡ rowBytes r ++ rest
-  unfolding tableBytes row_at
-  row_here = drop-row rows i refl h
+  row_here : drop (i * 48) table_bytes ≡ row_bytes r ++ rest
+  unfolding table_bytes row_at
+  row_here = drop_row rows i refl h
 
-  row-wide : length (rowBytes r) ≡ 48
+  row-wide : length (row_bytes r) ≡ 48
   unfolding row_at
-  row-wide = eqb-true (length (rowBytes r)) 48 (every-at wide rows i refl h)
+  row-wide = eqb-true (length (row_bytes r)) 48 (every_at wide rows i refl h)
 
-  byte-here : (k : ℕ) → get_or tableBytes (i * 48 + k) 0 ≡ get_or (rowBytes r ++ rest) k 0
-  byte-here k = sym (get_or-drop (i * 48) tableBytes k 0) ∙ ap (λ l. get_or l k 0) row_here
+  byte-here : (k : ℕ) → get_or table_bytes (i * 48 + k) 0 ≡ get_or (row_bytes r ++ rest) k 0
+  byte-here k = sym (get_or-drop (i * 48) table_bytes k 0) ∙ ap (λ l. get_or l k 0) row_here
 
-  text-here : drop (i * 48 + 3) tableBytes ≡ name ++ (wanted ++ (replicate (45 - length (name ++ wanted)) 32 ++ rest))
+  text-here : drop (i * 48 + 3) table_bytes ≡ name ++ (wanted ++ (replicate (45 - length (name ++ wanted)) 32 ++ rest))
   text-here =
-      sym (drop-drop 3 (i * 48) tableBytes) ∙ ap (drop 3) row_here ∙ append_assoc name (wanted ++ replicate (45 - length (name ++ wanted)) 32) rest
+      sym (drop-drop 3 (i * 48) table_bytes) ∙ ap (drop 3) row_here ∙ append_assoc name (wanted ++ replicate (45 - length (name ++ wanted)) 32) rest
       ∙ ap (λ l. name ++ l) (append_assoc wanted (replicate (45 - length (name ++ wanted)) 32) rest)
 
-  form-here : form_of (formNumber r.form) ≡ r.form
+  form-here : form_of (form_number r.form) ≡ r.form
   unfolding row_at form_of
   form-here =
-      sym (get_or-map (λ (x : Row). form_of (formNumber x.form)) rows i no_row)
+      sym (get_or-map (λ (x : Row). form_of (form_number x.form)) rows i no_row)
       ∙ get_or-map (λ (x : Row). x.form) rows i no_row
 
   row-short : length (name ++ wanted) ≤ 45
@@ -100,11 +100,11 @@ module _ (i : ℕ) (h : i < length rows) where
       in
       omega (arith, row-wide, length-append name wanted)
 
-  pub held : (table : List ℕ) → table ≡ tableBytes → Held table i
-  unfolding name_at usageAt
+  pub held : (table : List ℕ) → table ≡ table_bytes → Held table i
+  unfolding name_at usage_at
   held table e = subst (λ t. Held t i) (sym e) (record {
-    room = omega (arith, ap length row_here, length-append (rowBytes r) rest, length-drop (i * 48) tableBytes, row-wide);
-    names = let z : i * 48 ≡ i * 48 + 0 = omega arith in ap (λ k. get_or tableBytes k 0) z ∙ byte-here 0;
+    room = omega (arith, ap length row_here, length-append (row_bytes r) rest, length-drop (i * 48) table_bytes, row-wide);
+    names = let z : i * 48 ≡ i * 48 + 0 = omega arith in ap (λ k. get_or table_bytes k 0) z ∙ byte-here 0;
     usages = byte-here 1;
     form = ap form_of (byte-here 2) ∙ form-here;
     name = ap (take (length name)) text-here ∙ take_at name (wanted ++ (replicate (45 - length (name ++ wanted)) 32 ++ rest)) (length name) refl;
@@ -116,53 +116,53 @@ module _ (i : ℕ) (h : i < length rows) where
   })
 
 -- what a command does
-pub verb-here : (i : ℕ) → i < length rows → get_or (map (λ (r : Row). r.verb) rows) i Verb.Fresh ≡ (row_at i).verb
+pub verb_here : (i : ℕ) → i < length rows → get_or (map (λ (r : Row). r.verb) rows) i Verb.Fresh ≡ (row_at i).verb
 unfolding row_at
-verb-here i h = get_or-map (λ (r : Row). r.verb) rows i no_row
+verb_here i h = get_or-map (λ (r : Row). r.verb) rows i no_row
 
 -- beyond the table
-beyond-default : (l : List Row) (i : ℕ) → length l ≤ i → get_or l i no_row ≡ no_row
-beyond-default [] i h = refl
-beyond-default (x ∷ l) zero h = absurd (omega arith)
-beyond-default (x ∷ l) (suc i) h = beyond-default l i (omega arith)
+beyond_default : (l : List Row) (i : ℕ) → length l ≤ i → get_or l i no_row ≡ no_row
+beyond_default [] i h = refl
+beyond_default (x ∷ l) zero h = absurd (omega arith)
+beyond_default (x ∷ l) (suc i) h = beyond_default l i (omega arith)
 
-pub name-beyond : (i : ℕ) → length rows ≤ i → name_at i ≡ []
+pub name_beyond : (i : ℕ) → length rows ≤ i → name_at i ≡ []
 unfolding name_at row_at
-name-beyond i h = ap (λ (r : Row). ascii r.name) (beyond-default rows i h)
+name_beyond i h = ap (λ (r : Row). ascii r.name) (beyond_default rows i h)
 
-pub usage-beyond : (i : ℕ) → length rows ≤ i → usageAt i ≡ []
-unfolding usageAt row_at
-usage-beyond i h = ap (λ (r : Row). ascii r.name ++ ascii r.wanted) (beyond-default rows i h)
+pub usage_beyond : (i : ℕ) → length rows ≤ i → usage_at i ≡ []
+unfolding usage_at row_at
+usage_beyond i h = ap (λ (r : Row). ascii r.name ++ ascii r.wanted) (beyond_default rows i h)
 
-pub usage-short : (i : ℕ) → length (usageAt i) ≤ 45
-usage-short i = go (dec_lt i (length rows))
+pub usage_short : (i : ℕ) → length (usage_at i) ≤ 45
+usage_short i = go (dec_lt i (length rows))
   where
-    go : Dec (i < length rows) → length (usageAt i) ≤ 45
-    go (yes h) = (held i h tableBytes refl).short
-    go (no h) = omega (arith, ap length (usage-beyond i (omega arith)))
+    go : Dec (i < length rows) → length (usage_at i) ≤ 45
+    go (yes h) = (held i h table_bytes refl).short
+    go (no h) = omega (arith, ap length (usage_beyond i (omega arith)))
 
 -- Names
 
 -- a name is one or more small letters
-abbrev pub isLetter : ℕ → Bool
-isLetter b = leb 97 b && leb b 122
+abbrev pub is_letter : ℕ → Bool
+is_letter b = leb 97 b && leb b 122
 
-abbrev pub lettersOnly : List ℕ → Bool
-lettersOnly [] = true
-lettersOnly (b ∷ word) = isLetter b && lettersOnly word
+abbrev pub letters_only : List ℕ → Bool
+letters_only [] = true
+letters_only (b ∷ word) = is_letter b && letters_only word
 
 abbrev lettered : Row → Bool
-lettered r = leb 1 (length (ascii r.name)) && lettersOnly (ascii r.name)
+lettered r = leb 1 (length (ascii r.name)) && letters_only (ascii r.name)
 
-lettered-at : (i : ℕ) → i < length rows → leb 1 (length (name_at i)) && lettersOnly (name_at i) ≡ true
+lettered_at : (i : ℕ) → i < length rows → leb 1 (length (name_at i)) && letters_only (name_at i) ≡ true
 unfolding name_at row_at
-lettered-at i h = every-at lettered rows i refl h
+lettered_at i h = every_at lettered rows i refl h
 
-pub name-some : (i : ℕ) → i < length rows → 1 ≤ length (name_at i)
-name-some i h = leb-true 1 (length (name_at i)) (and_left (leb 1 (length (name_at i))) (lettersOnly (name_at i)) (lettered-at i h))
+pub name_some : (i : ℕ) → i < length rows → 1 ≤ length (name_at i)
+name_some i h = leb-true 1 (length (name_at i)) (and_left (leb 1 (length (name_at i))) (letters_only (name_at i)) (lettered_at i h))
 
-pub name-letters : (i : ℕ) → i < length rows → lettersOnly (name_at i) ≡ true
-name-letters i h = and_right (leb 1 (length (name_at i))) (lettersOnly (name_at i)) (lettered-at i h)
+pub name_letters : (i : ℕ) → i < length rows → letters_only (name_at i) ≡ true
+name_letters i h = and_right (leb 1 (length (name_at i))) (letters_only (name_at i)) (lettered_at i h)
 
 -- A name tells its row
 
@@ -183,26 +183,26 @@ abbrev is_row : ℕ → Named → Bool
 is_row i Named.Unknown = false
 is_row i (Named.Known e) = eqb e.row i
 
-among-entry : (n i : ℕ) (word : List ℕ) (e : Entry) → among n i word ≡ Named.Known e → e ≡ entry_at e.row
+among_entry : (n i : ℕ) (word : List ℕ) (e : Entry) → among n i word ≡ Named.Known e → e ≡ entry_at e.row
 unfolding among
-among-entry zero i word e q = let z : ◌≡◌ {A = ℕ} 0 1 = cc in absurd (omega arith)
-among-entry (suc n) i word e q = go (same word (name_at i)) q (among-entry n (suc i) word e)
+among_entry zero i word e q = let z : ◌≡◌ {A = ℕ} 0 1 = cc in absurd (omega arith)
+among_entry (suc n) i word e q = go (same word (name_at i)) q (among_entry n (suc i) word e)
   where
     go : (t : Bool) → cond t (Named.Known (entry_at i)) (among n (suc i) word) ≡ Named.Known e
         → (among n (suc i) word ≡ Named.Known e → e ≡ entry_at e.row) → e ≡ entry_at e.row
     go true p r = let s : entry_at i ≡ e = cc in sym s ∙ ap (λ (x : Entry). entry_at x.row) s
     go false p r = r p
 
-first-row : (i : ℕ) → i < length rows → is_row i (commandOf (name_at i)) ≡ true
-unfolding commandOf among same name_at row_at
-first-row i h = below_at (length rows) (λ k. is_row k (commandOf (name_at k))) i refl h
+first_row : (i : ℕ) → i < length rows → is_row i (command_of (name_at i)) ≡ true
+unfolding command_of among same name_at row_at
+first_row i h = below_at (length rows) (λ k. is_row k (command_of (name_at k))) i refl h
 
 -- no two commands have one name
-pub name-command : (i : ℕ) → i < length rows → commandOf (name_at i) ≡ Named.Known (entry_at i)
-unfolding commandOf
-name-command i h = go (commandOf (name_at i)) refl (first-row i h)
+pub name_command : (i : ℕ) → i < length rows → command_of (name_at i) ≡ Named.Known (entry_at i)
+unfolding command_of
+name_command i h = go (command_of (name_at i)) refl (first_row i h)
   where
-    go : (x : Named) → commandOf (name_at i) ≡ x → is_row i x ≡ true → x ≡ Named.Known (entry_at i)
+    go : (x : Named) → command_of (name_at i) ≡ x → is_row i x ≡ true → x ≡ Named.Known (entry_at i)
     go Named.Unknown e t = nowhere t
     go (Named.Known entry) e t =
-        ap Named.Known (among-entry (length rows) 0 (name_at i) entry e ∙ ap entry_at (eqb-true entry.row i t))
+        ap Named.Known (among_entry (length rows) 0 (name_at i) entry e ∙ ap entry_at (eqb-true entry.row i t))

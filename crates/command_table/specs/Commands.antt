@@ -76,8 +76,8 @@ row_at index = get_or rows index no_row
 unfoldable pub name_at : ℕ → List ℕ
 name_at index = ascii (row_at index).name
 
-unfoldable pub usageAt : ℕ → List ℕ
-usageAt index = ascii (row_at index).name ++ ascii (row_at index).wanted
+unfoldable pub usage_at : ℕ → List ℕ
+usage_at index = ascii (row_at index).name ++ ascii (row_at index).wanted
 
 -- A command looked for by its name
 
@@ -90,5 +90,5 @@ among zero index word = Named.Unknown
 among (suc n) index word = cond (same word (name_at index)) (Named.Known (entry_at index)) (among n (suc index) word)
 
 -- the command that has the name, if any has
-unfoldable pub commandOf : List ℕ → Named
-commandOf word = among (length rows) 0 word
+unfoldable pub command_of : List ℕ → Named
+command_of word = among (length rows) 0 word

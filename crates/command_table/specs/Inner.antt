@@ -12,23 +12,23 @@ form_of n =
     (cond (ltb n 32) (Form.Optional (n - 16))
     (cond (ltb n 48) (Form.File (n - 32)) (cond (ltb n 64) (Form.OptionalFile (n - 48)) (cond (eqb n 64) Form.Cycle Form.List))))
 
-abbrev pub formNumber : Form → ℕ
-formNumber (Form.Numbers k) = k
-formNumber (Form.Optional k) = 16 + k
-formNumber (Form.File k) = 32 + k
-formNumber (Form.OptionalFile k) = 48 + k
-formNumber Form.Cycle = 64
-formNumber Form.List = 65
+abbrev pub form_number : Form → ℕ
+form_number (Form.Numbers k) = k
+form_number (Form.Optional k) = 16 + k
+form_number (Form.File k) = 32 + k
+form_number (Form.OptionalFile k) = 48 + k
+form_number Form.Cycle = 64
+form_number Form.List = 65
 
 -- a row: the lengths of name and usage, the number of its form, the usage, and spaces up to 48 bytes
-abbrev pub rowBytes : Row → List ℕ
-rowBytes r =
-    length (ascii r.name) ∷ length (ascii r.name ++ ascii r.wanted) ∷ formNumber r.form
+abbrev pub row_bytes : Row → List ℕ
+row_bytes r =
+    length (ascii r.name) ∷ length (ascii r.name ++ ascii r.wanted) ∷ form_number r.form
     ∷ (ascii r.name ++ (ascii r.wanted ++ replicate (45 - length (ascii r.name ++ ascii r.wanted)) 32))
 
 abbrev pub joined : List Row → List ℕ
 joined [] = []
-joined (r ∷ l) = rowBytes r ++ joined l
+joined (r ∷ l) = row_bytes r ++ joined l
 
-unfoldable pub tableBytes : List ℕ
-tableBytes = joined rows
+unfoldable pub table_bytes : List ℕ
+table_bytes = joined rows

@@ -2,9 +2,9 @@
 // write; beside it what each command does. Whoever reads, writes or explains commands goes by it, so that a further command is a further row.
 // Every public function here is proved, total and without a `requires`.
 ghost use Rattle.std.specs.Prelude.{◌≡◌, ◌<◌, length};
-ghost use Rattle.text.specs.Text.{put_in, putEnd, same};
-ghost use Rattle.command_table.specs.Commands.{rows, row_at, name_at, usageAt, entry_at, commandOf};
-ghost use Rattle.command_table.specs.Inner.{tableBytes, form_of};
+ghost use Rattle.text.specs.Text.{put_in, put_end, same};
+ghost use Rattle.command_table.specs.Commands.{rows, row_at, name_at, usage_at, entry_at, command_of};
+ghost use Rattle.command_table.specs.Inner.{table_bytes, form_of};
 
 // What changes or tells the unit and the bank of a session.
 #[derive(Drop)]
@@ -192,14 +192,14 @@ const VERBS: [Verb; COUNT] = [
 
 // The table as bytes.
 fn table() -> [u8; COUNT * WIDTH]
-    ensures { result ≡ tableBytes }
+    ensures { result ≡ table_bytes }
 {
     TABLE
 }
 
 // The name of a command, a part of the table.
 fn name_in<'a>(table: &'a [u8], index: usize) -> &'a [u8]
-    requires table_value { table.now ≡ tableBytes }
+    requires table_value { table.now ≡ table_bytes }
     requires index_in_bounds { index < length rows }
     ensures { result.now ≡ name_at index }
 {
@@ -211,9 +211,9 @@ fn name_in<'a>(table: &'a [u8], index: usize) -> &'a [u8]
 
 // The usage of a command, a part of the table.
 fn usage_in<'a>(table: &'a [u8], index: usize) -> &'a [u8]
-    requires table_value { table.now ≡ tableBytes }
+    requires table_value { table.now ≡ table_bytes }
     requires index_in_bounds { index < length rows }
-    ensures { result.now ≡ usageAt index }
+    ensures { result.now ≡ usage_at index }
 {
     let from = index * WIDTH;
     let start = from + 3;
@@ -252,7 +252,7 @@ fn verb_at(index: usize) -> Verb
 }
 
 fn entry_at(table: &[u8], index: usize) -> Entry
-    requires table_value { table.now ≡ tableBytes }
+    requires table_value { table.now ≡ table_bytes }
     requires index_in_bounds { index < length rows }
     ensures { result ≡ entry_at index }
 {
@@ -284,8 +284,8 @@ fn is_same(word: &[u8], name: &[u8]) -> bool
 
 // The command that has the name, if any has, looked for in the table.
 fn find_in(table: &[u8], word: &[u8]) -> Named
-    requires { table.now ≡ tableBytes }
-    ensures { result ≡ commandOf word.now }
+    requires { table.now ≡ table_bytes }
+    ensures { result ≡ command_of word.now }
 {
     let mut index = 0;
     while index < COUNT {
@@ -299,7 +299,7 @@ fn find_in(table: &[u8], word: &[u8]) -> Named
 
 // The command that has the name, if any has.
 pub fn find(word: &[u8]) -> Named
-    ensures { result ≡ commandOf word.now }
+    ensures { result ≡ command_of word.now }
 {
     let table = table();
     find_in(&table, word)
@@ -307,7 +307,7 @@ pub fn find(word: &[u8]) -> Named
 
 // Puts the name of a command.
 pub fn put_name(out: &mut [u8], at: usize, index: usize) -> usize
-    ensures value { result ≡ putEnd out.old at (name_at index) }
+    ensures value { result ≡ put_end out.old at (name_at index) }
     ensures out_after { out.new ≡ put_in out.old at (name_at index) }
 {
     if COUNT <= index {
@@ -319,8 +319,8 @@ pub fn put_name(out: &mut [u8], at: usize, index: usize) -> usize
 
 // Puts the usage of a command: its name, and what a designer is told to write after it.
 pub fn put_usage(out: &mut [u8], at: usize, index: usize) -> usize
-    ensures value { result ≡ putEnd out.old at (usageAt index) }
-    ensures out_after { out.new ≡ put_in out.old at (usageAt index) }
+    ensures value { result ≡ put_end out.old at (usage_at index) }
+    ensures out_after { out.new ≡ put_in out.old at (usage_at index) }
 {
     if COUNT <= index {
         return at;

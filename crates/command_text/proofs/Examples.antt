@@ -1,32 +1,32 @@
 -- Lines that say a command, and lines that say what was expected, worked out by hand. Assumes nothing.
 use mathlib.Core.Path.{◌≡◌, refl}
 use mathlib.Core.List.{[], ◌∷◌, ◌++◌}
-use Rattle.words.specs.Below.{joinBelow}
+use Rattle.words.specs.Below.{join_below}
 use Rattle.text.specs.Text.{ascii, digits, decimal, spaced}
-use Rattle.command_table.specs.Commands.{row_at, name_at, usageAt}
+use Rattle.command_table.specs.Commands.{row_at, name_at, usage_at}
 use Rattle.command.specs.declared.Trouble.TheVariants as Trouble
-use Rattle.command_text.specs.Written.{fileLine, troubleText}
+use Rattle.command_text.specs.Written.{file_line, trouble_text}
 
-pub a-file : fileLine 16 [] (ascii "a.unit") ≡ ascii "load a.unit"
-unfolding spaced joinBelow name_at row_at
-a-file = refl
+pub a_file : file_line 16 [] (ascii "a.unit") ≡ ascii "load a.unit"
+unfolding spaced join_below name_at row_at
+a_file = refl
 
-pub file-after-a-number : fileLine 22 (1 ∷ []) (ascii "plan") ≡ ascii "record 1 plan"
-unfolding spaced joinBelow decimal digits name_at row_at
-file-after-a-number = refl
+pub file_after_a_number : file_line 22 (1 ∷ []) (ascii "plan") ≡ ascii "record 1 plan"
+unfolding spaced join_below decimal digits name_at row_at
+file_after_a_number = refl
 
-pub file-after-two-numbers : fileLine 26 (1 ∷ 3 ∷ []) (ascii "f") ≡ ascii "delays 1 3 f"
-unfolding spaced joinBelow decimal digits name_at row_at
-file-after-two-numbers = refl
+pub file_after_two_numbers : file_line 26 (1 ∷ 3 ∷ []) (ascii "f") ≡ ascii "delays 1 3 f"
+unfolding spaced join_below decimal digits name_at row_at
+file_after_two_numbers = refl
 
-pub usage-of-mark : troubleText 12 (Trouble.Usage 1) ≡ ascii "line 12: expected mark Q R C" ++ (10 ∷ [])
-unfolding troubleText decimal digits usageAt row_at
-usage-of-mark = refl
+pub usage_of_mark : trouble_text 12 (Trouble.Usage 1) ≡ ascii "line 12: expected mark Q R C" ++ (10 ∷ [])
+unfolding trouble_text decimal digits usage_at row_at
+usage_of_mark = refl
 
-pub usage-of-delays : troubleText 7 (Trouble.Usage 26) ≡ ascii "line 7: expected delays Q M [FILE]" ++ (10 ∷ [])
-unfolding troubleText decimal digits usageAt row_at
-usage-of-delays = refl
+pub usage_of_delays : trouble_text 7 (Trouble.Usage 26) ≡ ascii "line 7: expected delays Q M [FILE]" ++ (10 ∷ [])
+unfolding trouble_text decimal digits usage_at row_at
+usage_of_delays = refl
 
-pub too_long : troubleText 3 Trouble.TooLong ≡ ascii "line 3: too long" ++ (10 ∷ [])
-unfolding troubleText decimal digits
+pub too_long : trouble_text 3 Trouble.TooLong ≡ ascii "line 3: too long" ++ (10 ∷ [])
+unfolding trouble_text decimal digits
 too_long = refl

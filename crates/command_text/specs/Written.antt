@@ -3,19 +3,19 @@ use Rattle.std.specs.Prelude.{Bool, true, false, ◌&&◌, List, [], ◌∷◌, 
 use Rattle.text.specs.Text.{ascii, decimal, spaced}
 use Rattle.command_table.specs.declared.Form.{Form}
 use Rattle.command_table.specs.declared.Form.TheVariants as Form
-use Rattle.command_table.specs.Commands.{name_at, usageAt}
+use Rattle.command_table.specs.Commands.{name_at, usage_at}
 use Rattle.command.specs.declared.Trouble.{Trouble}
 use Rattle.command.specs.declared.Trouble.TheVariants as Trouble
 
 -- The line that says the command of a row
 
 -- the name and the numbers in decimal, each after a space
-abbrev pub numberLine : ℕ → List ℕ → List ℕ
-numberLine row numbers = name_at row ++ spaced numbers
+abbrev pub number_line : ℕ → List ℕ → List ℕ
+number_line row numbers = name_at row ++ spaced numbers
 
 -- the name, and after it the numbers in decimal and the file, each after a space
-abbrev pub fileLine : ℕ → List ℕ → List ℕ → List ℕ
-fileLine row numbers file = name_at row ++ (spaced numbers ++ (32 ∷ file))
+abbrev pub file_line : ℕ → List ℕ → List ℕ → List ℕ
+file_line row numbers file = name_at row ++ (spaced numbers ++ (32 ∷ file))
 
 -- the numbers alone are what the command wants
 abbrev pub suits : Form → List ℕ → Bool
@@ -27,21 +27,21 @@ suits Form.Cycle numbers = leb 1 (length numbers)
 suits Form.List numbers = true
 
 -- the numbers and a file after them are what the command wants
-abbrev pub suitsFile : Form → List ℕ → Bool
-suitsFile (Form.Numbers k) numbers = false
-suitsFile (Form.Optional k) numbers = false
-suitsFile (Form.File k) numbers = eqb (length numbers) k
-suitsFile (Form.OptionalFile k) numbers = eqb (length numbers) k
-suitsFile Form.Cycle numbers = false
-suitsFile Form.List numbers = false
+abbrev pub suits_file : Form → List ℕ → Bool
+suits_file (Form.Numbers k) numbers = false
+suits_file (Form.Optional k) numbers = false
+suits_file (Form.File k) numbers = eqb (length numbers) k
+suits_file (Form.OptionalFile k) numbers = eqb (length numbers) k
+suits_file Form.Cycle numbers = false
+suits_file Form.List numbers = false
 
 -- What was expected
 
 abbrev pub expected : Trouble → List ℕ
 expected Trouble.TooLong = ascii "too long"
 expected Trouble.NoCommand = ascii "expected a command"
-expected (Trouble.Usage row) = ascii "expected " ++ usageAt row
+expected (Trouble.Usage row) = ascii "expected " ++ usage_at row
 
 -- `line N: ` and what was expected
-unfoldable pub troubleText : ℕ → Trouble → List ℕ
-troubleText n trouble = ascii "line " ++ (decimal n ++ (ascii ": " ++ (expected trouble ++ (10 ∷ []))))
+unfoldable pub trouble_text : ℕ → Trouble → List ℕ
+trouble_text n trouble = ascii "line " ++ (decimal n ++ (ascii ": " ++ (expected trouble ++ (10 ∷ []))))

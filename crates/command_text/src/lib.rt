@@ -1,18 +1,18 @@
 // The line that says a command of the designer's console, and the line that says what was expected. A command that is written so and parsed is the
 // command again (proofs/RoundTrip.antt). Every public function here is proved, total and without a `requires`.
 ghost use Rattle.std.specs.Prelude.{◌≡◌, ◌+◌, ◌≤◌, length};
-ghost use Rattle.text.specs.Text.{spaced, put_in, putEnd};
+ghost use Rattle.text.specs.Text.{spaced, put_in, put_end};
 ghost use Rattle.text.specs.Wrote.{Wrote};
 ghost use Rattle.command_table.specs.Commands.{name_at};
-ghost use Rattle.command_text.specs.Written.{expected, troubleText};
+ghost use Rattle.command_text.specs.Written.{expected, trouble_text};
 
 use command::Trouble;
 
 // Puts the command of a row of the table: its name, and its numbers in decimal, each after a space. The name, or the numbers, are left out where they
 // do not fit.
 pub fn put_command(out: &mut [u8], at: usize, row: usize, numbers: &[u32]) -> usize
-    ensures value { result ≡ putEnd (put_in out.old at (name_at row)) (putEnd out.old at (name_at row)) (spaced numbers.now) }
-    ensures out_after { out.new ≡ put_in (put_in out.old at (name_at row)) (putEnd out.old at (name_at row)) (spaced numbers.now) }
+    ensures value { result ≡ put_end (put_in out.old at (name_at row)) (put_end out.old at (name_at row)) (spaced numbers.now) }
+    ensures out_after { out.new ≡ put_in (put_in out.old at (name_at row)) (put_end out.old at (name_at row)) (spaced numbers.now) }
 {
     let end = command_table::put_name(out, at, row);
     text::put_words(out, end, numbers)
@@ -42,7 +42,7 @@ fn put_expected(out: &mut [u8], at: usize, trouble: Trouble) -> usize
 // The whole line, in bytes that have room for it.
 fn write_trouble(line: &mut [u8], number: u32, trouble: Trouble) -> usize
     requires { 72 ≤ length line.old }
-    ensures { Wrote line.old 0 (troubleText number trouble) line.new result }
+    ensures { Wrote line.old 0 (trouble_text number trouble) line.new result }
 {
     let after_word = text::put(line, 0, b"line ");
     let after_number = text::put_number(line, after_word, number);
@@ -53,8 +53,8 @@ fn write_trouble(line: &mut [u8], number: u32, trouble: Trouble) -> usize
 
 // Puts `line N: ` and what was expected, and the end of the line. A text that does not fit is left out.
 pub fn put_trouble(out: &mut [u8], at: usize, number: u32, trouble: Trouble) -> usize
-    ensures value { result ≡ putEnd out.old at (troubleText number trouble) }
-    ensures out_after { out.new ≡ put_in out.old at (troubleText number trouble) }
+    ensures value { result ≡ put_end out.old at (trouble_text number trouble) }
+    ensures out_after { out.new ≡ put_in out.old at (trouble_text number trouble) }
 {
     let mut line = [0u8; 72];
     let end = write_trouble(&mut line, number, trouble);

@@ -4,82 +4,82 @@ use mathlib.Core.List.{List, ◌++◌, append_assoc}
 use Prim.Native.Nat.{ℕ, ◌+◌, ◌*◌, ◌^◌, ◌≤◌, ◌<◌}
 use native.Mathlib.Omega.{arith}
 use lib.ListN.{length, get_or, take}
-use Rattle.text.specs.Text.{ascii, decimal, spaced, put_in, putEnd}
+use Rattle.text.specs.Text.{ascii, decimal, spaced, put_in, put_end}
 use Rattle.text.specs.Wrote.{Wrote}
-use Rattle.text.proofs.WroteLaws.{wrote-more, wrote_one}
-use Rattle.text.proofs.RowLaws.{wrote_as, spaced-most}
+use Rattle.text.proofs.WroteLaws.{wrote_more, wrote_one}
+use Rattle.text.proofs.RowLaws.{wrote_as, spaced_most}
 use Rattle.unit.specs.declared.Plan.{Plan}
 use Rattle.listing.specs.Lines.{newline}
-use Rattle.session.proofs.LineLaws.{decimal-most, room-left}
-use Rattle.console.specs.Turns.{planLine, bankLine}
+use Rattle.session.proofs.LineLaws.{decimal_most, room_left}
+use Rattle.console.specs.Turns.{plan_line, bank_line}
 
 -- A bank
 
 registers : (s a b c d n : List ℕ) → a ++ (s ++ b) ++ (s ++ c) ++ (s ++ d) ++ n ≡ a ++ (s ++ (b ++ (s ++ (c ++ (s ++ (d ++ n))))))
 registers s a b c d n = simp append_assoc
 
-module _ (before : List ℕ) {a : List ℕ} {i : ℕ} (r1 : ℕ) (room : 64 ≤ length before) (p : (i ≡ putEnd before 0 (decimal r1)) × (a ≡ put_in before 0 (decimal r1))) where
+module _ (before : List ℕ) {a : List ℕ} {i : ℕ} (r1 : ℕ) (room : 64 ≤ length before) (p : (i ≡ put_end before 0 (decimal r1)) × (a ≡ put_in before 0 (decimal r1))) where
   first-wrote : Wrote before 0 (decimal r1) a i
-  first-wrote = wrote_one p (omega (arith, decimal-most r1))
+  first-wrote = wrote_one p (omega (arith, decimal_most r1))
 
   pub bank-room-1 : i + 54 ≤ length a
-  bank-room-1 = room-left 10 54 first-wrote (decimal-most r1) (omega arith)
+  bank-room-1 = room_left 10 54 first-wrote (decimal_most r1) (omega arith)
 
   module _ {b : List ℕ} {j : ℕ} (r2 : ℕ) (v : Wrote a i (ascii " " ++ decimal r2) b j) where
     pub bank-room-2 : j + 43 ≤ length b
-    bank-room-2 = room-left 11 43 v (omega (arith, decimal-most r2)) (omega (arith, bank-room-1))
+    bank-room-2 = room_left 11 43 v (omega (arith, decimal_most r2)) (omega (arith, bank-room-1))
 
     module _ {c : List ℕ} {k : ℕ} (r3 : ℕ) (w : Wrote b j (ascii " " ++ decimal r3) c k) where
       pub bank-room-3 : k + 32 ≤ length c
-      bank-room-3 = room-left 11 32 w (omega (arith, decimal-most r3)) (omega (arith, bank-room-2))
+      bank-room-3 = room_left 11 32 w (omega (arith, decimal_most r3)) (omega (arith, bank-room-2))
 
       pub bank-wrote : {d : List ℕ} {l : ℕ} {after : List ℕ} {end : ℕ} (r4 : ℕ) → Wrote c k (ascii " " ++ decimal r4) d l
-          → (end ≡ putEnd d l newline) × (after ≡ put_in d l newline) → Wrote before 0 (bankLine record { r1 = r1; r2 = r2; r3 = r3; r4 = r4 }) after end
-      unfolding bankLine
+          → (end ≡ put_end d l newline) × (after ≡ put_in d l newline) → Wrote before 0 (bank_line record { r1 = r1; r2 = r2; r3 = r3; r4 = r4 }) after end
+      unfolding bank_line
       bank-wrote r4 x q =
-          let h = room-left 11 21 x (omega (arith, decimal-most r4)) (omega (arith, bank-room-3)) in
-          let all = wrote-more (wrote-more (wrote-more first-wrote v) w) x in
-          wrote_as (wrote-more all (wrote_one {text = newline} q (omega (arith, h))))
+          let h = room_left 11 21 x (omega (arith, decimal_most r4)) (omega (arith, bank-room-3)) in
+          let all = wrote_more (wrote_more (wrote_more first-wrote v) w) x in
+          wrote_as (wrote_more all (wrote_one {text = newline} q (omega (arith, h))))
           (registers (ascii " ") (decimal r1) (decimal r2) (decimal r3) (decimal r4) newline)
 
 -- A plan
 
-cycle-text : (w c s d n : List ℕ) → w ++ c ++ (s ++ d) ++ n ≡ w ++ (c ++ (s ++ (d ++ n)))
-cycle-text w c s d n = simp append_assoc
+cycle_text : (w c s d n : List ℕ) → w ++ c ++ (s ++ d) ++ n ≡ w ++ (c ++ (s ++ (d ++ n)))
+cycle_text w c s d n = simp append_assoc
 
 module _ (before : List ℕ) (at : ℕ) {a : List ℕ} {i : ℕ} {b : List ℕ} {j : ℕ} (cycle : List ℕ) (small : (i : ℕ) → i < length cycle → get_or cycle i 0 < 10 ^ 3) (room : at + 4 * length cycle + 22 ≤ length before)
-    (p : (i ≡ putEnd before at (ascii " cycle")) × (a ≡ put_in before at (ascii " cycle")))
-    (q : (j ≡ putEnd a i (spaced cycle)) × (b ≡ put_in a i (spaced cycle))) where
+    (p : (i ≡ put_end before at (ascii " cycle")) × (a ≡ put_in before at (ascii " cycle")))
+    (q : (j ≡ put_end a i (spaced cycle)) × (b ≡ put_in a i (spaced cycle))) where
   word-wrote : Wrote before at (ascii " cycle") a i
   word-wrote = wrote_one p (omega arith)
 
   cycle-most : length (spaced cycle) ≤ 4 * length cycle
-  cycle-most = spaced-most cycle 3 (omega arith) small
+  cycle-most = spaced_most cycle 3 (omega arith) small
 
   word_room : i + (4 * length cycle + 16) ≤ length a
-  word_room = room-left 6 (4 * length cycle + 16) word-wrote (omega arith) (omega arith)
+  word_room = room_left 6 (4 * length cycle + 16) word-wrote (omega arith) (omega arith)
 
   latencies-wrote : Wrote a i (spaced cycle) b j
   latencies-wrote = wrote_one q (omega (arith, word_room, cycle-most))
 
   pub cycle-room : j + 16 ≤ length b
-  cycle-room = room-left (4 * length cycle) 16 latencies-wrote cycle-most word_room
+  cycle-room = room_left (4 * length cycle) 16 latencies-wrote cycle-most word_room
 
   pub cycle-wrote : {c : List ℕ} {k : ℕ} {after : List ℕ} {end : ℕ} (sum : ℕ) → Wrote b j (ascii " sum " ++ decimal sum) c k
-      → (end ≡ putEnd c k newline) × (after ≡ put_in c k newline)
+      → (end ≡ put_end c k newline) × (after ≡ put_in c k newline)
       → Wrote before at (ascii " cycle" ++ (spaced cycle ++ (ascii " sum " ++ (decimal sum ++ newline)))) after end
   cycle-wrote sum v l =
-      let h = room-left 15 1 v (omega (arith, decimal-most sum)) cycle-room in
-      wrote_as (wrote-more (wrote-more (wrote-more word-wrote latencies-wrote) v) (wrote_one {text = newline} l (omega (arith, h))))
-      (cycle-text (ascii " cycle") (spaced cycle) (ascii " sum ") (decimal sum) newline)
+      let h = room_left 15 1 v (omega (arith, decimal_most sum)) cycle-room in
+      wrote_as (wrote_more (wrote_more (wrote_more word-wrote latencies-wrote) v) (wrote_one {text = newline} l (omega (arith, h))))
+      (cycle_text (ascii " cycle") (spaced cycle) (ascii " sum ") (decimal sum) newline)
 
 -- the room for the cycle, after the tag
-pub tag-room : {before a : List ℕ} {i n : ℕ} (tag : ℕ) → 2048 ≤ length before → n ≤ 256 → Wrote before 0 (ascii "plan " ++ decimal tag) a i
+pub tag_room : {before a : List ℕ} {i n : ℕ} (tag : ℕ) → 2048 ≤ length before → n ≤ 256 → Wrote before 0 (ascii "plan " ++ decimal tag) a i
     → i + 4 * n + 22 ≤ length a
-tag-room tag room few w = omega (arith, room-left 15 2033 w (omega (arith, decimal-most tag)) (omega arith))
+tag_room tag room few w = omega (arith, room_left 15 2033 w (omega (arith, decimal_most tag)) (omega arith))
 
-pub plan-wrote : {before a : List ℕ} {i : ℕ} {after : List ℕ} {end : ℕ} (p : Plan) → Wrote before 0 (ascii "plan " ++ decimal p.tag) a i
+pub plan_wrote : {before a : List ℕ} {i : ℕ} {after : List ℕ} {end : ℕ} (p : Plan) → Wrote before 0 (ascii "plan " ++ decimal p.tag) a i
     → Wrote a i (ascii " cycle" ++ (spaced (take p.count p.latencies) ++ (ascii " sum " ++ (decimal p.sum ++ newline)))) after end
-    → Wrote before 0 (planLine p) after end
-unfolding planLine
-plan-wrote p w v = wrote_as (wrote-more w v) (append_assoc (ascii "plan ") (decimal p.tag) _)
+    → Wrote before 0 (plan_line p) after end
+unfolding plan_line
+plan_wrote p w v = wrote_as (wrote_more w v) (append_assoc (ascii "plan ") (decimal p.tag) _)

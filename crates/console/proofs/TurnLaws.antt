@@ -4,8 +4,8 @@ use mathlib.Core.Bool.{true, false, cond}
 use mathlib.Core.List.{List, []}
 use Prim.Native.Nat.{ℕ}
 use native.Mathlib.Omega.{arith}
-use Rattle.text.specs.Text.{put_in, putEnd}
-use Rattle.text.proofs.PutLaws.{put-fits, put-fits-end, placed-none}
+use Rattle.text.specs.Text.{put_in, put_end}
+use Rattle.text.proofs.PutLaws.{put_fits, put_fits_end, placed_none}
 use Rattle.command_table.specs.declared.Act.{Act}
 use Rattle.command_table.specs.declared.Issue.{Issue}
 use Rattle.command_table.specs.declared.Share.{Share}
@@ -14,19 +14,19 @@ use Rattle.command.specs.declared.Request.{Request}
 use Rattle.session.specs.declared.Session.{Session}
 use Rattle.session.specs.declared.Reply.{Reply}
 use Rattle.session.specs.Sessions.{Line}
-use Rattle.queue_text.specs.Told.{issueReply, issueNext, Issued}
-use Rattle.caller_text.specs.Told.{shareReply, shareNext, SharedOn}
-use Rattle.console.specs.Turns.{noUnit, actReply, unitReply, turnReply, ActNext, UnitNext, Next, Turned}
+use Rattle.queue_text.specs.Told.{issue_reply, issue_next, Issued}
+use Rattle.caller_text.specs.Told.{share_reply, share_next, SharedOn}
+use Rattle.console.specs.Turns.{no_unit, act_reply, unit_reply, turn_reply, ActNext, UnitNext, Next, Turned}
 use Rattle.console.specs.Inner.{Gives}
 use Rattle.session.proofs.LineLaws.{line_as}
 
 module _ {s : Session} {r : Request} {line before after : List ℕ} where
   -- without a unit
-  pub turned_none : {end : ℕ} → s.present ≡ false → (end ≡ putEnd before 0 noUnit) × (after ≡ put_in before 0 noUnit) → Turned s r line before after record { session = s; end = end }
-  unfolding turnReply
+  pub turned_none : {end : ℕ} → s.present ≡ false → (end ≡ put_end before 0 no_unit) × (after ≡ put_in before 0 no_unit) → Turned s r line before after record { session = s; end = end }
+  unfolding turn_reply
   turned_none p q =
-      let e : noUnit ≡ turnReply s r line = ap (λ b. cond b (unitReply r.verb s r line) noUnit) (sym p) in
-      let l : Line noUnit before after _ = record { next = q.0; out = q.1 } in
+      let e : no_unit ≡ turn_reply s r line = ap (λ b. cond b (unit_reply r.verb s r line) no_unit) (sym p) in
+      let l : Line no_unit before after _ = record { next = q.0; out = q.1 } in
       record {
         out = (line_as e l).out;
         end = (line_as e l).next;
@@ -34,12 +34,12 @@ module _ {s : Session} {r : Request} {line before after : List ℕ} where
       }
 
   -- with a unit, by the verb
-  pub turned_by : {v : Verb} {t : Reply} → s.present ≡ true → r.verb ≡ v → Gives (unitReply v s r line) (UnitNext v s r) before after t
+  pub turned_by : {v : Verb} {t : Reply} → s.present ≡ true → r.verb ≡ v → Gives (unit_reply v s r line) (UnitNext v s r) before after t
       → Turned s r line before after t
-  unfolding turnReply
+  unfolding turn_reply
   turned_by {v} {t} p e g =
-      let same : unitReply v s r line ≡ turnReply s r line =
-      ap (λ x. unitReply x s r line) (sym e) ∙ ap (λ b. cond b (unitReply r.verb s r line) noUnit) (sym p)
+      let same : unit_reply v s r line ≡ turn_reply s r line =
+      ap (λ x. unit_reply x s r line) (sym e) ∙ ap (λ b. cond b (unit_reply r.verb s r line) no_unit) (sym p)
       in
       record {
         out = (line_as same g.line).out;
@@ -48,19 +48,19 @@ module _ {s : Session} {r : Request} {line before after : List ℕ} where
       }
 
 -- by what is done
-pub act_by : (s : Session) (r : Request) {what v : Act} {before after : List ℕ} {t : Reply} → what ≡ v → Gives (actReply v s r) (ActNext v s r) before after t
-    → Gives (actReply what s r) (ActNext what s r) before after t
-act_by s r {before = before} {after} {t} e g = subst (λ x. Gives (actReply x s r) (ActNext x s r) before after t) (sym e) g
+pub act_by : (s : Session) (r : Request) {what v : Act} {before after : List ℕ} {t : Reply} → what ≡ v → Gives (act_reply v s r) (ActNext v s r) before after t
+    → Gives (act_reply what s r) (ActNext what s r) before after t
+act_by s r {before = before} {after} {t} e g = subst (λ x. Gives (act_reply x s r) (ActNext x s r) before after t) (sym e) g
 
 -- at the issue port
-pub gives-issued : (s : Session) (r : Request) {what : Issue} {before after : List ℕ} {t : Reply} → Issued what s r before after t
-    → Gives (issueReply what s r) (λ x. x ≡ issueNext what s r) before after t
-gives-issued s r i = record { line = record { next = i.end; out = i.out }; next = i.next }
+pub gives_issued : (s : Session) (r : Request) {what : Issue} {before after : List ℕ} {t : Reply} → Issued what s r before after t
+    → Gives (issue_reply what s r) (λ x. x ≡ issue_next what s r) before after t
+gives_issued s r i = record { line = record { next = i.end; out = i.out }; next = i.next }
 
 -- at the port that callers share
-pub gives-shared : (s : Session) (r : Request) {what : Share} {before after : List ℕ} {t : Reply} → SharedOn what s r before after t
-    → Gives (shareReply what s r) (λ x. x ≡ shareNext what s r) before after t
-gives-shared s r i = record { line = record { next = i.end; out = i.out }; next = i.next }
+pub gives_shared : (s : Session) (r : Request) {what : Share} {before after : List ℕ} {t : Reply} → SharedOn what s r before after t
+    → Gives (share_reply what s r) (λ x. x ≡ share_next what s r) before after t
+gives_shared s r i = record { line = record { next = i.end; out = i.out }; next = i.next }
 
 -- The number of a request as a tag
 
@@ -73,7 +73,7 @@ gives_at {before = before} {after} {t} text N e g = subst (λ (k : ℕ). Gives (
 
 nothing_put : (before : List ℕ) → Line [] before before 0
 nothing_put before =
-    record { next = sym (put-fits-end before 0 [] (omega arith)); out = sym (put-fits before 0 [] (omega arith) ∙ placed-none before 0) }
+    record { next = sym (put_fits_end before 0 [] (omega arith)); out = sym (put_fits before 0 [] (omega arith) ∙ placed_none before 0) }
 
 pub gives_nothing : {s : Session} {before : List ℕ} → Gives [] (λ x. x ≡ s) before before record { session = s; end = 0 }
 gives_nothing {before = before} = record { line = nothing_put before; next = refl }

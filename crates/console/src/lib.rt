@@ -4,10 +4,10 @@ mod lines;
 
 ghost use Rattle.std.specs.Prelude.{◌≡◌};
 ghost use Rattle.controller.specs.Bank.{step_of};
-ghost use Rattle.planner.specs.Plans.{searchAnswer, readAnswer};
+ghost use Rattle.planner.specs.Plans.{search_answer, read_answer};
 ghost use Rattle.questions.specs.Replies.{answered};
-ghost use Rattle.session.specs.Sessions.{answerLine};
-ghost use Rattle.console.specs.Turns.{withBank, planLine, bankLine, eventAsked, question, questionOf, actReply, ActNext, Sought, Turned};
+ghost use Rattle.session.specs.Sessions.{answer_line};
+ghost use Rattle.console.specs.Turns.{with_bank, plan_line, bank_line, event_asked, question, question_of, act_reply, ActNext, Sought, Turned};
 ghost use Rattle.console.specs.Inner.{Gives};
 
 use command::Request;
@@ -19,7 +19,7 @@ use unit::{Answer, Segment, Tag};
 use words::byte;
 
 fn mark(session: Session, request: Request, out: &mut [u8]) -> Reply
-    ensures { Gives (actReply Act.Mark session request) (ActNext Act.Mark session request) out.old out.new result }
+    ensures { Gives (act_reply Act.Mark session request) (ActNext Act.Mark session request) out.old out.new result }
 {
     let unit = session.unit;
     let tag = Tag(byte(request.first));
@@ -29,7 +29,7 @@ fn mark(session: Session, request: Request, out: &mut [u8]) -> Reply
 }
 
 fn unmark(session: Session, request: Request, out: &mut [u8]) -> Reply
-    ensures { Gives (actReply Act.Unmark session request) (ActNext Act.Unmark session request) out.old out.new result }
+    ensures { Gives (act_reply Act.Unmark session request) (ActNext Act.Unmark session request) out.old out.new result }
 {
     let unit = session.unit;
     let tag = Tag(byte(request.first));
@@ -40,7 +40,7 @@ fn unmark(session: Session, request: Request, out: &mut [u8]) -> Reply
 
 // Searches for a best cycle, with working words of its own.
 fn seek(session: Session, tag: Tag, out: &mut [u8]) -> Reply
-    ensures { Gives (answerLine (searchAnswer session.unit tag.0 16000)) (Sought session tag.0) out.old out.new result }
+    ensures { Gives (answer_line (search_answer session.unit tag.0 16000)) (Sought session tag.0) out.old out.new result }
 {
     let unit = session.unit;
     let mut work = [0u32; 16000];
@@ -63,7 +63,7 @@ fn seek(session: Session, tag: Tag, out: &mut [u8]) -> Reply
 
 // Tells the plan.
 fn tell_plan(session: Session, out: &mut [u8]) -> Reply
-    ensures { Gives (answered (readAnswer session.unit) (planLine session.unit.plan)) (λ after. after ≡ session) out.old out.new result }
+    ensures { Gives (answered (read_answer session.unit) (plan_line session.unit.plan)) (λ after. after ≡ session) out.old out.new result }
 {
     let unit = session.unit;
     let handed = planner::read(unit);
@@ -82,7 +82,7 @@ fn tell_plan(session: Session, out: &mut [u8]) -> Reply
 
 // Tells the registers.
 fn tell_bank(session: Session, out: &mut [u8]) -> Reply
-    ensures { Gives (bankLine session.bank) (λ after. after ≡ session) out.old out.new result }
+    ensures { Gives (bank_line session.bank) (λ after. after ≡ session) out.old out.new result }
 {
     let bank = session.bank;
     let end = lines::put_bank(out, bank);
@@ -91,7 +91,7 @@ fn tell_bank(session: Session, out: &mut [u8]) -> Reply
 
 // One event of the issue controller.
 fn step(session: Session, event: Event, out: &mut [u8]) -> Reply
-    ensures { Gives (answerLine (eventAsked session event)) (λ after. after ≡ withBank session (step_of session.unit session.bank event).bank) out.old out.new result }
+    ensures { Gives (answer_line (event_asked session event)) (λ after. after ≡ with_bank session (step_of session.unit session.bank event).bank) out.old out.new result }
 {
     let unit = session.unit;
     let stepped = controller::step(unit, session.bank, event);
@@ -105,7 +105,7 @@ fn step(session: Session, event: Event, out: &mut [u8]) -> Reply
 }
 
 fn question_of(ask: Ask, request: Request) -> Question
-    ensures { result ≡ questionOf ask request }
+    ensures { result ≡ question_of ask request }
 {
     let tag = Tag(byte(request.first));
     match ask {
@@ -122,7 +122,7 @@ fn question_of(ask: Ask, request: Request) -> Question
 
 // Answers a question; a judge is asked about the latencies of the line.
 fn tell(session: Session, ask: Ask, request: Request, line: &[u8], out: &mut [u8]) -> Reply
-    ensures { Gives (question session (questionOf ask request) line.now) (λ after. after ≡ session) out.old out.new result }
+    ensures { Gives (question session (question_of ask request) line.now) (λ after. after ≡ session) out.old out.new result }
 {
     let asked = question_of(ask, request);
     let mut cycle = [0u8; 257];
@@ -134,7 +134,7 @@ fn tell(session: Session, ask: Ask, request: Request, line: &[u8], out: &mut [u8
 
 // Works on the unit and the bank.
 fn act(session: Session, what: Act, request: Request, out: &mut [u8]) -> Reply
-    ensures { Gives (actReply what session request) (ActNext what session request) out.old out.new result }
+    ensures { Gives (act_reply what session request) (ActNext what session request) out.old out.new result }
 {
     let tag = Tag(byte(request.first));
     match what {

@@ -4,7 +4,7 @@ ghost use Rattle.text.specs.Text.{ascii, decimal, spaced};
 ghost use Rattle.text.specs.Wrote.{Wrote};
 ghost use Rattle.session.specs.Sessions.{Line};
 ghost use Rattle.listing.specs.Lines.{newline};
-ghost use Rattle.console.specs.Turns.{planLine, bankLine};
+ghost use Rattle.console.specs.Turns.{plan_line, bank_line};
 
 use controller::Bank;
 use unit::Plan;
@@ -21,7 +21,7 @@ fn put_value(line: &mut [u8], at: usize, word: &[u8], number: u32) -> usize
 // The four registers.
 fn write_bank(line: &mut [u8], bank: Bank) -> usize
     requires { 64 ≤ length line.old }
-    ensures { Wrote line.old 0 (bankLine bank) line.new result }
+    ensures { Wrote line.old 0 (bank_line bank) line.new result }
 {
     let after_1 = text::put_number(line, 0, bank.r1);
     let after_2 = put_value(line, after_1, b" ", bank.r2);
@@ -44,7 +44,7 @@ fn write_cycle(line: &mut [u8], at: usize, cycle: &[u8], sum: u32) -> usize
 // The plan's tag, its cycle and its sum.
 fn write_plan(line: &mut [u8], plan: Plan) -> usize
     requires { (plan.count ≤ 256) × (2048 ≤ length line.old) }
-    ensures { Wrote line.old 0 (planLine plan) line.new result }
+    ensures { Wrote line.old 0 (plan_line plan) line.new result }
 {
     let latencies = plan.latencies;
     let count = plan.count as usize;
@@ -53,7 +53,7 @@ fn write_plan(line: &mut [u8], plan: Plan) -> usize
 }
 
 pub fn put_bank(out: &mut [u8], bank: Bank) -> usize
-    ensures { Line (bankLine bank) out.old out.new result }
+    ensures { Line (bank_line bank) out.old out.new result }
 {
     let mut line = [0u8; 64];
     let end = write_bank(&mut line, bank);
@@ -62,7 +62,7 @@ pub fn put_bank(out: &mut [u8], bank: Bank) -> usize
 
 pub fn put_plan(out: &mut [u8], plan: Plan) -> usize
     requires { plan.count ≤ 256 }
-    ensures { Line (planLine plan) out.old out.new result }
+    ensures { Line (plan_line plan) out.old out.new result }
 {
     let mut line = [0u8; 2048];
     let end = write_plan(&mut line, plan);

@@ -10,24 +10,24 @@ use mathlib.Core.List.{List, [], ◌∷◌, Memᴰ}
 use native.Mathlib.Omega.{arith}
 use borrow.Author.Tests.{eqb-true, eq-eqb}
 use Rattle.words.specs.Bits.{bit, is_set}
-use Rattle.words.proofs.Tests.{nowhere, or_cases, or-true-left, or_true_right, not-passed}
-use Rattle.words.proofs.BitLaws.{bit-zero, unset-zero}
+use Rattle.words.proofs.Tests.{nowhere, or_cases, or_true_left, or_true_right, not_passed}
+use Rattle.words.proofs.BitLaws.{bit_zero, unset_zero}
 use Rattle.unit.specs.declared.FunctionUnit.{FunctionUnit}
 use Rattle.unit.specs.declared.Answer.{Answer}
 use Rattle.unit.specs.declared.Answer.TheVariants.{Done, Refused}
 use Rattle.unit.specs.Table.{Table}
-use Rattle.unit.specs.Unit.{inside, marked, soundOf}
-use Rattle.unit.proofs.Laws.{within, sound-has}
+use Rattle.unit.specs.Unit.{inside, marked, sound_of}
+use Rattle.unit.proofs.Laws.{within, sound_has}
 use Rattle.collision.specs.Pipeline.{Task, Collides}
-use Rattle.collision.specs.Vector.{rowWord}
-use Rattle.collision.proofs.ClashLaws.{clash-collides}
+use Rattle.collision.specs.Vector.{row_word}
+use Rattle.collision.proofs.ClashLaws.{clash_collides}
 use Rattle.controller.specs.declared.Bank.{Bank}
 use Rattle.controller.specs.declared.Event.{Event}
 use Rattle.controller.specs.declared.Event.TheVariants.{Tick, Start}
-use Rattle.controller.specs.Bank.{register, shifted, started, granted, eventAnswer, moved, bankThen, step_of}
-use Rattle.controller.specs.History.{History, Course, taskNow, accepted, historyThen, outset, next, played, Free, Apart, GrantedExactly, GrantedApart}
-use Rattle.controller.proofs.StepLaws.{start-accepted, start-answered}
-use Rattle.controller.proofs.BankLaws.{empty-bit, shifted-bit, started-bit, row-says}
+use Rattle.controller.specs.Bank.{register, shifted, started, granted, event_answer, moved, bank_then, step_of}
+use Rattle.controller.specs.History.{History, Course, task_now, accepted, history_then, outset, next, played, Free, Apart, GrantedExactly, GrantedApart}
+use Rattle.controller.proofs.StepLaws.{start_accepted, start_answered}
+use Rattle.controller.proofs.BankLaws.{empty_bit, shifted_bit, started_bit, row_says}
 
 -- one of the tasks keeps r from starting at the time m
 pub record Barred (T : Table) (r m : ℕ) (tasks : List Task) : Type 0 where
@@ -39,8 +39,8 @@ pub record Barred (T : Table) (r m : ℕ) (tasks : List Task) : Type 0 where
   pub collides : Collides T r task.tag interval
 
 -- the same task in another list
-barred-in : {T : Table} {r m : ℕ} {tasks others : List Task} (x : Barred T r m tasks) → Memᴰ x.task others → Barred T r m others
-barred-in x l = record { task = x.task; listed = l; interval = x.interval; least = x.least; moment = x.moment; collides = x.collides }
+barred_in : {T : Table} {r m : ℕ} {tasks others : List Task} (x : Barred T r m tasks) → Memᴰ x.task others → Barred T r m others
+barred_in x l = record { task = x.task; listed = l; interval = x.interval; least = x.least; moment = x.moment; collides = x.collides }
 
 -- every task has started
 abbrev pub Past : History → Type 0
@@ -59,7 +59,7 @@ pub record Kept (u : FunctionUnit) (c : Course) : Type 0 where
 -- Granted starts
 
 module _ (u : FunctionUnit) (b : Bank) (h : History) (q : ℕ) (i : inside q u.functions ≡ true) (past : Past h) (notes : Notes u b h) where
-  granted-free : granted b q ≡ true → Free (marked u) (taskNow h q) h.tasks
+  granted-free : granted b q ≡ true → Free (marked u) (task_now h q) h.tasks
   granted-free e y m c =
       let d = h.time - y.start in
       let l = past y m in
@@ -70,26 +70,26 @@ module _ (u : FunctionUnit) (b : Bank) (h : History) (q : ℕ) (i : inside q u.f
         interval = d;
         least = omega arith;
         moment = omega arith;
-        collides = (clash-collides (marked u) y (taskNow h q) d s).0 c;
+        collides = (clash_collides (marked u) y (task_now h q) d s).0 c;
       } in
-      omega (arith, eqb-true (register b q % 2) 0 e, eqb-true (bit (register b q) 0) 1 x, bit-zero (register b q))
+      omega (arith, eqb-true (register b q % 2) 0 e, eqb-true (bit (register b q) 0) 1 x, bit_zero (register b q))
 
-  free-granted : Free (marked u) (taskNow h q) h.tasks → granted b q ≡ true
+  free-granted : Free (marked u) (task_now h q) h.tasks → granted b q ≡ true
   free-granted f =
       let n : is_set (register b q) 0 ≡ false =
-      not-passed (is_set (register b q) 0)
+      not_passed (is_set (register b q) 0)
       (λ e.
       let x = (notes q 0 i).0 e in
       let s : h.time ≡ x.task.start + x.interval = omega (arith, x.moment) in
-      f x.task x.listed ((clash-collides (marked u) x.task (taskNow h q) x.interval s).1 x.collides)) in
-      eq-eqb (register b q % 2) 0 (sym (bit-zero (register b q)) ∙ unset-zero (register b q) 0 n)
+      f x.task x.listed ((clash_collides (marked u) x.task (task_now h q) x.interval s).1 x.collides)) in
+      eq-eqb (register b q % 2) 0 (sym (bit_zero (register b q)) ∙ unset_zero (register b q) 0 n)
 
 -- The invariant
 
-kept-outset : (u : FunctionUnit) → Kept u outset
-kept-outset u = record {
+kept_outset : (u : FunctionUnit) → Kept u outset
+kept_outset u = record {
   past = λ y m. absurd (Memᴰ.not-nil m);
-  notes = λ r k i. (λ e. nowhere (sym (empty-bit r k) ∙ e), λ x. absurd (Memᴰ.not-nil x.listed));
+  notes = λ r k i. (λ e. nowhere (sym (empty_bit r k) ∙ e), λ x. absurd (Memᴰ.not-nil x.listed));
   apart = tt;
 }
 
@@ -106,51 +106,51 @@ module _ (u : FunctionUnit) (c : Course) (kept : Kept u c) where
   kept-tick : Kept u (record { bank = shifted c.bank; history = accepted c.history Tick })
   kept-tick = record {
     past = λ y m. omega (arith, kept.past y m);
-    notes = λ r k i. (λ e. (noted r k i).0 (sym (shifted-bit c.bank r k) ∙ e), λ x. shifted-bit c.bank r k ∙ (noted r k i).1 x);
+    notes = λ r k i. (λ e. (noted r k i).0 (sym (shifted_bit c.bank r k) ∙ e), λ x. shifted_bit c.bank r k ∙ (noted r k i).1 x);
     apart = kept.apart;
   }
 
   module _ (q : ℕ) (i : inside q u.functions ≡ true) (four : u.functions ≤ 4) (g : granted c.bank q ≡ true) where
     abbrev new : Task
-    new = taskNow c.history q
+    new = task_now c.history q
 
     past-start : (y : Task) → Memᴰ y (new ∷ c.history.tasks) → y.start < c.history.time + 1
     past-start y m = ⊎_elim (λ e. omega (arith, ap (λ (x : Task). x.start) e)) (λ n. omega (arith, kept.past y n)) (Memᴰ.cases_cons m)
 
     -- bit k after the start
     both : (r k : ℕ) → inside r u.functions ≡ true
-        → is_set (register (started u q c.bank) r) k ≡ is_set (register c.bank r) (1 + k) || is_set (rowWord (marked u) r q) k
-    both r k j = let w = within r u.functions j in started-bit u q c.bank r k w.least (omega arith) w.most
+        → is_set (register (started u q c.bank) r) k ≡ is_set (register c.bank r) (1 + k) || is_set (row_word (marked u) r q) k
+    both r k j = let w = within r u.functions j in started_bit u q c.bank r k w.least (omega arith) w.most
 
     notes-there : (r k : ℕ) → inside r u.functions ≡ true → is_set (register (started u q c.bank) r) k ≡ true
         → Barred (marked u) r (c.history.time + 1 + k) (new ∷ c.history.tasks)
     notes-there r k j e = ⊎_elim old fresh (or_cases (is_set (register c.bank r) (1 + k)) _ (sym (both r k j) ∙ e))
       where
         old : is_set (register c.bank r) (1 + k) ≡ true → Barred (marked u) r (c.history.time + 1 + k) (new ∷ c.history.tasks)
-        old e = let x = (noted r k j).0 e in barred-in x (Memᴰ.tail x.listed)
+        old e = let x = (noted r k j).0 e in barred_in x (Memᴰ.tail x.listed)
 
-        fresh : is_set (rowWord (marked u) r q) k ≡ true → Barred (marked u) r (c.history.time + 1 + k) (new ∷ c.history.tasks)
+        fresh : is_set (row_word (marked u) r q) k ≡ true → Barred (marked u) r (c.history.time + 1 + k) (new ∷ c.history.tasks)
         fresh e = record {
           task = new;
           listed = Memᴰ.head refl;
           interval = k + 1;
           least = omega arith;
           moment = omega arith;
-          collides = (row-says u r q k).0 e;
+          collides = (row_says u r q k).0 e;
         }
 
     notes-back : (r k : ℕ) → inside r u.functions ≡ true → Barred (marked u) r (c.history.time + 1 + k) (new ∷ c.history.tasks)
         → is_set (register (started u q c.bank) r) k ≡ true
     notes-back r k j x = both r k j ∙ ⊎_elim fresh old (Memᴰ.cases_cons x.listed)
       where
-        fresh : x.task ≡ new → is_set (register c.bank r) (1 + k) || is_set (rowWord (marked u) r q) k ≡ true
+        fresh : x.task ≡ new → is_set (register c.bank r) (1 + k) || is_set (row_word (marked u) r q) k ≡ true
         fresh e =
             let d : x.interval ≡ k + 1 = omega (arith, x.moment, ap (λ (y : Task). y.start) e) in
             let l : Collides (marked u) r q x.interval = subst (λ (y : Task). Collides (marked u) r y.tag x.interval) e x.collides in
-            or_true_right (is_set (register c.bank r) (1 + k)) _ ((row-says u r q k).1 (rw d at l))
+            or_true_right (is_set (register c.bank r) (1 + k)) _ ((row_says u r q k).1 (rw d at l))
 
-        old : Memᴰ x.task c.history.tasks → is_set (register c.bank r) (1 + k) || is_set (rowWord (marked u) r q) k ≡ true
-        old m = or-true-left (is_set (register c.bank r) (1 + k)) _ ((noted r k j).1 (barred-in x m))
+        old : Memᴰ x.task c.history.tasks → is_set (register c.bank r) (1 + k) || is_set (row_word (marked u) r q) k ≡ true
+        old m = or_true_left (is_set (register c.bank r) (1 + k)) _ ((noted r k j).1 (barred_in x m))
 
     kept-start : Kept u (record { bank = started u q c.bank; history = record { time = c.history.time + 1; tasks = new ∷ c.history.tasks } })
     kept-start = record {
@@ -161,18 +161,18 @@ module _ (u : FunctionUnit) (c : Course) (kept : Kept u c) where
 
 -- A list of events
 
-module _ (u : FunctionUnit) (sound : soundOf u ≡ true) where
+module _ (u : FunctionUnit) (sound : sound_of u ≡ true) where
   kept_next : (c : Course) (e : Event) → Kept u c → Kept u (next u c e)
   unfolding step_of moved
-  kept_next c e kept = go e (eventAnswer u c.bank e) refl
+  kept_next c e kept = go e (event_answer u c.bank e) refl
     where
-      go : (e : Event) (a : Answer) → eventAnswer u c.bank e ≡ a
-          → Kept u (record { bank = bankThen a c.bank (moved u c.bank e); history = historyThen a c.history e })
+      go : (e : Event) (a : Answer) → event_answer u c.bank e ≡ a
+          → Kept u (record { bank = bank_then a c.bank (moved u c.bank e); history = history_then a c.history e })
       go e (Refused why) p = kept
       go Tick Done p = kept-tick u c kept
       go (Start q) Done p =
-          let s = start-accepted u c.bank q p in
-          kept-start u c kept q.0 s.tag (within u.functions 4 (sound-has u sound).functions).most s.granted
+          let s = start_accepted u c.bank q p in
+          kept-start u c kept q.0 s.tag (within u.functions 4 (sound_has u sound).functions).most s.granted
 
   kept-played : (events : List Event) (c : Course) → Kept u c → Kept u (played u c events)
   unfolding played
@@ -180,15 +180,15 @@ module _ (u : FunctionUnit) (sound : soundOf u ≡ true) where
   kept-played (e ∷ events) c kept = kept-played events (next u c e) (kept_next c e kept)
 
   kept-after : (events : List Event) → Kept u (played u outset events)
-  kept-after events = kept-played events outset (kept-outset u)
+  kept-after events = kept-played events outset (kept_outset u)
 
-pub granted-exactly : GrantedExactly
-granted-exactly u sound events q i =
+pub granted_exactly : GrantedExactly
+granted_exactly u sound events q i =
     let c = played u outset events in
     let kept = kept-after u sound events in (
-      λ e. granted-free u c.bank c.history q.0 i kept.past kept.notes (start-accepted u c.bank q e).granted,
-      λ f. start-answered u c.bank q sound i (free-granted u c.bank c.history q.0 i kept.past kept.notes f),
+      λ e. granted-free u c.bank c.history q.0 i kept.past kept.notes (start_accepted u c.bank q e).granted,
+      λ f. start_answered u c.bank q sound i (free-granted u c.bank c.history q.0 i kept.past kept.notes f),
     )
 
-pub granted-apart : GrantedApart
-granted-apart u sound events = (kept-after u sound events).apart
+pub granted_apart : GrantedApart
+granted_apart u sound events = (kept-after u sound events).apart

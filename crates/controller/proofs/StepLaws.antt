@@ -10,39 +10,39 @@ use Rattle.unit.specs.declared.Refusal.{Refusal}
 use Rattle.unit.specs.declared.Refusal.TheVariants.{NotSound, NoSuchTag, NotGranted}
 use Rattle.unit.specs.declared.Answer.{Answer}
 use Rattle.unit.specs.declared.Answer.TheVariants.{Done, Refused}
-use Rattle.unit.specs.Unit.{inside, soundOf}
-use Rattle.unit.specs.Calls.{check, tagAnswer}
-use Rattle.unit.proofs.Laws.{never_done, check-ok, check-next, tag-accepted}
+use Rattle.unit.specs.Unit.{inside, sound_of}
+use Rattle.unit.specs.Calls.{check, tag_answer}
+use Rattle.unit.proofs.Laws.{never_done, check_ok, check_next, tag_accepted}
 use Rattle.controller.specs.declared.Bank.{Bank}
 use Rattle.controller.specs.declared.Event.{Event}
 use Rattle.controller.specs.declared.Event.TheVariants.{Start}
 use Rattle.controller.specs.declared.Stepped.{Stepped}
-use Rattle.controller.specs.Bank.{register, granted, eventAnswer, moved, bankThen, step_of}
+use Rattle.controller.specs.Bank.{register, granted, event_answer, moved, bank_then, step_of}
 
 -- the bank that an event leaves, given its answer
 
-pub step-refused : (u : FunctionUnit) (b : Bank) (e : Event) {why : Refusal} → eventAnswer u b e ≡ Refused why
+pub step_refused : (u : FunctionUnit) (b : Bank) (e : Event) {why : Refusal} → event_answer u b e ≡ Refused why
     → record { answer = Refused why; bank = b } ≡ step_of u b e
 unfolding step_of
-step-refused u b e a = ap (λ (x : Answer). record { answer = x; bank = bankThen x b (moved u b e) }) (sym a)
+step_refused u b e a = ap (λ (x : Answer). record { answer = x; bank = bank_then x b (moved u b e) }) (sym a)
 
-pub step-done : (u : FunctionUnit) (b : Bank) (e : Event) → eventAnswer u b e ≡ Done
+pub step_done : (u : FunctionUnit) (b : Bank) (e : Event) → event_answer u b e ≡ Done
     → record { answer = Done; bank = moved u b e } ≡ step_of u b e
 unfolding step_of
-step-done u b e a = ap (λ (x : Answer). record { answer = x; bank = bankThen x b (moved u b e) }) (sym a)
+step_done u b e a = ap (λ (x : Answer). record { answer = x; bank = bank_then x b (moved u b e) }) (sym a)
 
 -- an answer and a bank, each as it should be
-pub step_both : (u : FunctionUnit) (b : Bank) (e : Event) (s : Stepped) → s.answer ≡ eventAnswer u b e → s.bank ≡ (step_of u b e).bank
+pub step_both : (u : FunctionUnit) (b : Bank) (e : Event) (s : Stepped) → s.answer ≡ event_answer u b e → s.bank ≡ (step_of u b e).bank
     → s ≡ step_of u b e
 unfolding step_of
 step_both u b e s p q = λ i. record { answer = p i; bank = q i }
 
 -- a start tries the unit and the tag first, as every question does
 
-pub start-refused : (u : FunctionUnit) (b : Bank) (q : Tag) (why : Refusal) → tagAnswer u q.0 ≡ Refused why
-    → eventAnswer u b (Start q) ≡ Refused why
-unfolding tagAnswer eventAnswer
-start-refused u b q why e = go (soundOf u) (inside q.0 u.functions) e
+pub start_refused : (u : FunctionUnit) (b : Bank) (q : Tag) (why : Refusal) → tag_answer u q.0 ≡ Refused why
+    → event_answer u b (Start q) ≡ Refused why
+unfolding tag_answer event_answer
+start_refused u b q why e = go (sound_of u) (inside q.0 u.functions) e
   where
     go : (s i : Bool) → check s NotSound (check i NoSuchTag Done) ≡ Refused why
         → check s NotSound (check i NoSuchTag (check (granted b q.0) NotGranted Done)) ≡ Refused why
@@ -50,22 +50,22 @@ start-refused u b q why e = go (soundOf u) (inside q.0 u.functions) e
     go true false e = e
     go false i e = e
 
-pub start-tried : (u : FunctionUnit) (b : Bank) (q : Tag) → tagAnswer u q.0 ≡ Done
-    → eventAnswer u b (Start q) ≡ check (granted b q.0) NotGranted Done
-unfolding eventAnswer
-start-tried u b q e = let a = tag-accepted u q.0 e in simp (a.sound, a.tag)
+pub start_tried : (u : FunctionUnit) (b : Bank) (q : Tag) → tag_answer u q.0 ≡ Done
+    → event_answer u b (Start q) ≡ check (granted b q.0) NotGranted Done
+unfolding event_answer
+start_tried u b q e = let a = tag_accepted u q.0 e in simp (a.sound, a.tag)
 
 -- then the lowest bit of the register
 
-pub start-held : (u : FunctionUnit) (b : Bank) (q : Tag) {x : ℕ} → tagAnswer u q.0 ≡ Done → x ≡ register b q.0 → x % 2 ≡ 1
-    → eventAnswer u b (Start q) ≡ Refused NotGranted
-start-held u b q t e h =
-    start-tried u b q t ∙ ap (λ ok. check ok NotGranted Done) (ne_eqb (register b q.0 % 2) 0 (λ z. omega (arith, ap (λ n. n % 2) e)))
+pub start_held : (u : FunctionUnit) (b : Bank) (q : Tag) {x : ℕ} → tag_answer u q.0 ≡ Done → x ≡ register b q.0 → x % 2 ≡ 1
+    → event_answer u b (Start q) ≡ Refused NotGranted
+start_held u b q t e h =
+    start_tried u b q t ∙ ap (λ ok. check ok NotGranted Done) (ne_eqb (register b q.0 % 2) 0 (λ z. omega (arith, ap (λ n. n % 2) e)))
 
-pub start-granted : (u : FunctionUnit) (b : Bank) (q : Tag) {x : ℕ} → tagAnswer u q.0 ≡ Done → x ≡ register b q.0 → (x % 2 ≡ 1 → ⊥)
-    → eventAnswer u b (Start q) ≡ Done
-start-granted u b q t e h =
-    start-tried u b q t ∙ ap (λ ok. check ok NotGranted Done) (eq-eqb (register b q.0 % 2) 0 (omega (arith, ap (λ n. n % 2) e)))
+pub start_granted : (u : FunctionUnit) (b : Bank) (q : Tag) {x : ℕ} → tag_answer u q.0 ≡ Done → x ≡ register b q.0 → (x % 2 ≡ 1 → ⊥)
+    → event_answer u b (Start q) ≡ Done
+start_granted u b q t e h =
+    start_tried u b q t ∙ ap (λ ok. check ok NotGranted Done) (eq-eqb (register b q.0 % 2) 0 (omega (arith, ap (λ n. n % 2) e)))
 
 -- an accepted start, and what accepts it
 
@@ -73,16 +73,16 @@ pub record StartAccepted (u : FunctionUnit) (b : Bank) (q : Tag) : Type 0 where
   pub tag : inside q.0 u.functions ≡ true
   pub granted : granted b q.0 ≡ true
 
-pub start-accepted : (u : FunctionUnit) (b : Bank) (q : Tag) → eventAnswer u b (Start q) ≡ Done → StartAccepted u b q
-unfolding eventAnswer
-start-accepted u b q e =
-    let e1 = check-next (soundOf u) NotSound _ e in
+pub start_accepted : (u : FunctionUnit) (b : Bank) (q : Tag) → event_answer u b (Start q) ≡ Done → StartAccepted u b q
+unfolding event_answer
+start_accepted u b q e =
+    let e1 = check_next (sound_of u) NotSound _ e in
     record {
-      tag = check-ok (inside q.0 u.functions) NoSuchTag _ e1;
-      granted = check-ok (granted b q.0) NotGranted _ (check-next (inside q.0 u.functions) NoSuchTag _ e1);
+      tag = check_ok (inside q.0 u.functions) NoSuchTag _ e1;
+      granted = check_ok (granted b q.0) NotGranted _ (check_next (inside q.0 u.functions) NoSuchTag _ e1);
     }
 
-pub start-answered : (u : FunctionUnit) (b : Bank) (q : Tag) → soundOf u ≡ true → inside q.0 u.functions ≡ true → granted b q.0 ≡ true
-    → eventAnswer u b (Start q) ≡ Done
-unfolding eventAnswer
-start-answered u b q s i g = simp (s, i, g)
+pub start_answered : (u : FunctionUnit) (b : Bank) (q : Tag) → sound_of u ≡ true → inside q.0 u.functions ≡ true → granted b q.0 ≡ true
+    → event_answer u b (Start q) ≡ Done
+unfolding event_answer
+start_answered u b q s i g = simp (s, i, g)

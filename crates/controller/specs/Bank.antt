@@ -5,9 +5,9 @@ use Rattle.unit.specs.declared.FunctionUnit.{FunctionUnit}
 use Rattle.unit.specs.declared.Refusal.TheVariants.{NotSound, NoSuchTag, NotGranted}
 use Rattle.unit.specs.declared.Answer.{Answer}
 use Rattle.unit.specs.declared.Answer.TheVariants.{Done, Refused}
-use Rattle.unit.specs.Unit.{inside, marked, soundOf}
+use Rattle.unit.specs.Unit.{inside, marked, sound_of}
 use Rattle.unit.specs.Calls.{check}
-use Rattle.collision.specs.Vector.{rowWord}
+use Rattle.collision.specs.Vector.{row_word}
 use Rattle.controller.specs.declared.Bank.{Bank}
 use Rattle.controller.specs.declared.Event.{Event}
 use Rattle.controller.specs.declared.Event.TheVariants.{Tick, Start}
@@ -35,16 +35,16 @@ ticked zero b = b
 ticked (suc m) b = shifted (ticked m b)
 
 -- row r of M_q, for each tag r of the unit
-unfoldable pub rowFor : FunctionUnit → ℕ → ℕ → ℕ
-rowFor u q r = cond (leb r u.functions) (rowWord (marked u) r q) 0
+unfoldable pub row_for : FunctionUnit → ℕ → ℕ → ℕ
+row_for u q r = cond (leb r u.functions) (row_word (marked u) r q) 0
 
 -- a start of q shifts all registers right by one, and ORs row r of M_q into register r
 abbrev pub started : FunctionUnit → ℕ → Bank → Bank
 started u q b = record {
-  r1 = bit_or (b.r1 / 2) (rowFor u q 1);
-  r2 = bit_or (b.r2 / 2) (rowFor u q 2);
-  r3 = bit_or (b.r3 / 2) (rowFor u q 3);
-  r4 = bit_or (b.r4 / 2) (rowFor u q 4);
+  r1 = bit_or (b.r1 / 2) (row_for u q 1);
+  r2 = bit_or (b.r2 / 2) (row_for u q 2);
+  r3 = bit_or (b.r3 / 2) (row_for u q 3);
+  r4 = bit_or (b.r4 / 2) (row_for u q 4);
 }
 
 -- a start of q is granted when the lowest bit of register q is 0
@@ -52,10 +52,10 @@ abbrev pub granted : Bank → ℕ → Bool
 granted b q = eqb (register b q % 2) 0
 
 -- the answer to an event: the lowest number that applies, of 1 for a tick, of 1, 2 and 10 for a start, or done
-unfoldable pub eventAnswer : FunctionUnit → Bank → Event → Answer
-eventAnswer u b Tick = check (soundOf u) NotSound Done
-eventAnswer u b (Start q) =
-    check (soundOf u) NotSound
+unfoldable pub event_answer : FunctionUnit → Bank → Event → Answer
+event_answer u b Tick = check (sound_of u) NotSound Done
+event_answer u b (Start q) =
+    check (sound_of u) NotSound
     (check (inside q.0 u.functions) NoSuchTag
     (check (granted b q.0) NotGranted Done))
 
@@ -65,10 +65,10 @@ moved u b Tick = shifted b
 moved u b (Start q) = started u q.0 b
 
 -- a refused event leaves the bank as it was
-abbrev pub bankThen : Answer → Bank → Bank → Bank
-bankThen Done old new = new
-bankThen (Refused why) old new = old
+abbrev pub bank_then : Answer → Bank → Bank → Bank
+bank_then Done old new = new
+bank_then (Refused why) old new = old
 
 -- one event, on any bank
 unfoldable pub step_of : FunctionUnit → Bank → Event → Stepped
-step_of u b e = record { answer = eventAnswer u b e; bank = bankThen (eventAnswer u b e) b (moved u b e) }
+step_of u b e = record { answer = event_answer u b e; bank = bank_then (event_answer u b e) b (moved u b e) }

@@ -3,7 +3,7 @@
 // Every function here is proved, total and without a `requires`; the crate assumes nothing of its own.
 ghost use Rattle.std.specs.Prelude.{◌≡◌, ◌/◌};
 ghost use Rattle.std.specs.Int.Bits.{bit_or};
-ghost use Rattle.controller.specs.Bank.{register, shifted, rowFor, started, eventAnswer, step_of};
+ghost use Rattle.controller.specs.Bank.{register, shifted, row_for, started, event_answer, step_of};
 
 use unit::{Answer, FunctionUnit, Refusal, Tag};
 
@@ -57,7 +57,7 @@ fn shifted_bank(bank: Bank) -> Bank
 
 // Row r of the matrix M_q: where r would collide with a task of q that starts now. A tag that the unit does not have has none.
 pub fn row_for(u: FunctionUnit, q: Tag, r: Tag) -> u32
-    ensures { result ≡ rowFor u q.0 r.0 }
+    ensures { result ≡ row_for u q.0 r.0 }
 {
     if u.functions < r.0 {
         return 0;
@@ -92,7 +92,7 @@ fn started_bank(u: FunctionUnit, q: Tag, bank: Bank) -> Bank
 
 // A tick by value. It builds no row.
 fn ticked(u: FunctionUnit, bank: Bank) -> Stepped
-    ensures { (result.answer ≡ eventAnswer u bank Event.Tick) × (result.bank ≡ (step_of u bank Event.Tick).bank) }
+    ensures { (result.answer ≡ event_answer u bank Event.Tick) × (result.bank ≡ (step_of u bank Event.Tick).bank) }
 {
     if !unit::sound(u) {
         return Stepped {
@@ -109,7 +109,7 @@ fn ticked(u: FunctionUnit, bank: Bank) -> Stepped
 
 // Whether a function can start now: the unit, then the tag, then the lowest bit of its register.
 fn check_start(u: FunctionUnit, bank: Bank, q: Tag) -> Answer
-    ensures { result ≡ eventAnswer u bank (Event.Start q) }
+    ensures { result ≡ event_answer u bank (Event.Start q) }
 {
     let first = unit::check_tag(u, q);
     match first {
@@ -156,7 +156,7 @@ pub fn step(u: FunctionUnit, bank: Bank, event: Event) -> Stepped
 
 // A tick on a lent bank.
 pub fn tick(u: FunctionUnit, bank: &mut Bank) -> Answer
-    ensures { (result ≡ eventAnswer u bank.old Event.Tick) × (bank.new ≡ (step_of u bank.old Event.Tick).bank) }
+    ensures { (result ≡ event_answer u bank.old Event.Tick) × (bank.new ≡ (step_of u bank.old Event.Tick).bank) }
 {
     let after = ticked(u, *bank);
     *bank = after.bank;

@@ -6,32 +6,32 @@ use native.Mathlib.Nat.{le_of_suc-le-suc, not-suc-le-zero}
 use lib.ListN.{length, get_or, take, drop}
 use Rattle.diagram.specs.Diagram.{next, Walk, stay, step, Reachable}
 use Rattle.diagram.proofs.Walks.{run}
-use Rattle.diagram.specs.Cycles.{statesAlong}
+use Rattle.diagram.specs.Cycles.{states_along}
 
 -- The states along latencies
 
-pub along-length : (cv s : ℕ) (l : List ℕ) → length (statesAlong cv s l) ≡ length l
-along-length cv s [] = refl
-along-length cv s (t ∷ l) = ap suc (along-length cv (next cv s t) l)
+pub along_length : (cv s : ℕ) (l : List ℕ) → length (states_along cv s l) ≡ length l
+along_length cv s [] = refl
+along_length cv s (t ∷ l) = ap suc (along_length cv (next cv s t) l)
 
-pub along-at : (cv s : ℕ) (l : List ℕ) (i : ℕ) → i < length l → get_or (statesAlong cv s l) i 0 ≡ run cv s (take i l)
-along-at cv s [] i h = absurd (not-suc-le-zero h)
-along-at cv s (t ∷ l) zero h = refl
-along-at cv s (t ∷ l) (suc i) h = along-at cv (next cv s t) l i (le_of_suc-le-suc h)
+pub along_at : (cv s : ℕ) (l : List ℕ) (i : ℕ) → i < length l → get_or (states_along cv s l) i 0 ≡ run cv s (take i l)
+along_at cv s [] i h = absurd (not-suc-le-zero h)
+along_at cv s (t ∷ l) zero h = refl
+along_at cv s (t ∷ l) (suc i) h = along_at cv (next cv s t) l i (le_of_suc-le-suc h)
 
-pub along-append : (cv s : ℕ) (a b : List ℕ) → statesAlong cv s (a ++ b) ≡ statesAlong cv s a ++ statesAlong cv (run cv s a) b
-along-append cv s [] b = refl
-along-append cv s (t ∷ a) b = ap (λ l. s ∷ l) (along-append cv (next cv s t) a b)
+pub along_append : (cv s : ℕ) (a b : List ℕ) → states_along cv s (a ++ b) ≡ states_along cv s a ++ states_along cv (run cv s a) b
+along_append cv s [] b = refl
+along_append cv s (t ∷ a) b = ap (λ l. s ∷ l) (along_append cv (next cv s t) a b)
 
-pub along-take : (cv s r : ℕ) (l : List ℕ) → statesAlong cv s (take r l) ≡ take r (statesAlong cv s l)
-along-take cv s zero l = refl
-along-take cv s (suc r) [] = refl
-along-take cv s (suc r) (t ∷ l) = ap (λ k. s ∷ k) (along-take cv (next cv s t) r l)
+pub along_take : (cv s r : ℕ) (l : List ℕ) → states_along cv s (take r l) ≡ take r (states_along cv s l)
+along_take cv s zero l = refl
+along_take cv s (suc r) [] = refl
+along_take cv s (suc r) (t ∷ l) = ap (λ k. s ∷ k) (along_take cv (next cv s t) r l)
 
-pub along-drop : (cv s r : ℕ) (l : List ℕ) → statesAlong cv (run cv s (take r l)) (drop r l) ≡ drop r (statesAlong cv s l)
-along-drop cv s zero l = refl
-along-drop cv s (suc r) [] = refl
-along-drop cv s (suc r) (t ∷ l) = along-drop cv (next cv s t) r l
+pub along_drop : (cv s r : ℕ) (l : List ℕ) → states_along cv (run cv s (take r l)) (drop r l) ≡ drop r (states_along cv s l)
+along_drop cv s zero l = refl
+along_drop cv s (suc r) [] = refl
+along_drop cv s (suc r) (t ∷ l) = along_drop cv (next cv s t) r l
 
 -- Walks
 

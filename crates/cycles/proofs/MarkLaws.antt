@@ -18,8 +18,8 @@ pub record Clearing (before w : List ℕ) (slot : ℕ) : Type 0 where
   pub below : (i : ℕ) → i < 768 → get_or w i 0 ≡ get_or before i 0
   pub above : (i : ℕ) → 1024 ≤ i → get_or w i 0 ≡ get_or before i 0
 
-pub clear-start : (w : List ℕ) → 2048 ≤ length w → Clearing w w 768
-clear-start w h = record {
+pub clear_start : (w : List ℕ) → 2048 ≤ length w → Clearing w w 768
+clear_start w h = record {
   room = h;
   least = omega arith;
   most = omega arith;
@@ -29,8 +29,8 @@ clear-start w h = record {
   above = λ i l. refl;
 }
 
-pub clear-more : {before w : List ℕ} {slot : ℕ} → Clearing before w slot → slot < 1024 → Clearing before (set w slot 0) (slot + 1)
-clear-more {before} {w} {slot} r h = record {
+pub clear_more : {before w : List ℕ} {slot : ℕ} → Clearing before w slot → slot < 1024 → Clearing before (set w slot 0) (slot + 1)
+clear_more {before} {w} {slot} r h = record {
   room = r.room;
   least = omega (arith, r.least);
   most = omega arith;
@@ -44,8 +44,8 @@ clear-more {before} {w} {slot} r h = record {
     go i l m (yes e) = rw e (get_or-set_same w slot 0 0 (omega (arith, r.size, r.room)))
     go i l m (no e) = get_or-set_other w slot i 0 0 e ∙ r.none i l (omega arith)
 
-pub clear-end : {before w : List ℕ} {slot : ℕ} → Clearing before w slot → 1024 ≤ slot → Unmarked before w
-clear-end r h = record {
+pub clear_end : {before w : List ℕ} {slot : ℕ} → Clearing before w slot → 1024 ≤ slot → Unmarked before w
+clear_end r h = record {
   size = r.size;
   none = λ v l. r.none (768 + v) (omega arith) (omega arith);
   below = r.below;

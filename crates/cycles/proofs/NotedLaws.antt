@@ -7,7 +7,7 @@ use lib.ListN.{length, get_or, set, take, drop, length-drop}
 use lib.Seq.{get_or-take, get_or-drop, length-take-le, take-length}
 use Rattle.collision.specs.Pipeline.{total}
 use Rattle.collision.proofs.StartLaws.{sum_more}
-use Rattle.diagram.proofs.CopyLaws.{front, front_length, front-more}
+use Rattle.diagram.proofs.CopyLaws.{front, front_length, front_more}
 use Rattle.cycles.specs.Inner.{noted_in, Copyable}
 
 -- i latencies are copied, and this is their sum
@@ -39,13 +39,13 @@ module _ (w : List ℕ) (from count : ℕ) (before : List ℕ) (h : Copyable w f
       bytes =
           ap (λ x. set x i (get_or w (from + i) 0)) r.bytes
           ∙ ap (set (front (noted_in w from count) before i) i) (sym (noted-at i l))
-          ∙ front-more (noted_in w from count) before i (omega (arith, long)) (omega (arith, h.fits));
+          ∙ front_more (noted_in w from count) before i (omega (arith, long)) (omega (arith, h.fits));
       adds = ap (λ x. sum + x) (sym (noted-at i l)) ∙ sum_more (noted_in w from count) i sum (omega (arith, long)) r.adds;
       small = omega (arith, r.small, h.low i l);
     }
 
-    pub copy-end : count ≤ i → (sum ≡ total (noted_in w from count)) × (out ≡ noted_in w from count ++ drop count before)
-    copy-end l =
+    pub copy_end : count ≤ i → (sum ≡ total (noted_in w from count)) × (out ≡ noted_in w from count ++ drop count before)
+    copy_end l =
         let e : i ≡ count = omega (arith, r.most) in
         let all : take i (noted_in w from count) ≡ noted_in w from count = ap (λ x. take x (noted_in w from count)) (e ∙ sym long) ∙ take-length (noted_in w from count) in
         (r.adds ∙ ap total all, r.bytes ∙ ap (λ x. take i (noted_in w from count) ++ drop x before) e ∙ ap (λ x. x ++ drop count before) all)

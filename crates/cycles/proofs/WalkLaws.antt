@@ -14,14 +14,14 @@ use borrow.Author.Tests.{ne_eqb}
 use Rattle.words.proofs.Tests.{T_true}
 use Rattle.diagram.specs.Diagram.{width, next, Permits}
 use Rattle.diagram.specs.States.{has}
-use Rattle.diagram.specs.Work.{stateIn, place_in}
+use Rattle.diagram.specs.Work.{state_in, place_in}
 use Rattle.diagram.proofs.ListLaws.{listed_has}
-use Rattle.diagram.proofs.WidthLaws.{width-le}
+use Rattle.diagram.proofs.WidthLaws.{width_le}
 use Rattle.diagram.proofs.Walks.{walk-permits}
-use Rattle.cycles.specs.Greedy.{leastLatency, greedyFrom, greedyCycle}
-use Rattle.cycles.specs.Inner.{markIn, stepIn, noted_in, Unmarked, Ready, Stepped, Walkable, Walked}
-use Rattle.cycles.proofs.GreedyLaws.{least-permits, place-only, Trail, trail-start, trail-length, trail_more, trail-few, greedy-more, greedy-end}
-use Rattle.cycles.proofs.ListingLaws.{walkable-kept, listed-number, listed-few, listed-first, listed-apart, Landed, arc-lands}
+use Rattle.cycles.specs.Greedy.{least_latency, greedy_from, greedy_cycle}
+use Rattle.cycles.specs.Inner.{mark_in, step_in, noted_in, Unmarked, Ready, Stepped, Walkable, Walked}
+use Rattle.cycles.proofs.GreedyLaws.{least_permits, place_only, Trail, trail_start, trail-length, trail_more, trail-few, greedy_more, greedy_end}
+use Rattle.cycles.proofs.ListingLaws.{walkable_kept, listed-number, listed-few, listed-first, listed-apart, Landed, arc-lands}
 
 -- Words that changed only where the walk writes: from 768 to 1279
 
@@ -45,18 +45,18 @@ module _ (w : List ℕ) (at i t : ℕ) (room : 2048 ≤ length w) (inside : at <
     high = λ j l. other j (λ e. omega arith) (λ e. omega arith);
   }
 
-  mark-here : markIn (stepped w at i t) at ≡ i + 1
+  mark-here : mark_in (stepped w at i t) at ≡ i + 1
   mark-here =
       get_or-set_other (set w (768 + at) (i + 1)) (1024 + i) (768 + at) t 0 (λ e. omega arith)
       ∙ get_or-set_same w (768 + at) (i + 1) 0 (omega arith)
 
-  mark-other : (v : ℕ) → v < 256 → (v ≡ at → ⊥) → markIn (stepped w at i t) v ≡ markIn w v
+  mark-other : (v : ℕ) → v < 256 → (v ≡ at → ⊥) → mark_in (stepped w at i t) v ≡ mark_in w v
   mark-other v l ne = other (768 + v) (λ e. ne (omega arith)) (λ e. omega arith)
 
-  step-here : stepIn (stepped w at i t) i ≡ t
+  step-here : step_in (stepped w at i t) i ≡ t
   step-here = get_or-set_same (set w (768 + at) (i + 1)) (1024 + i) t 0 (simp length-set (omega arith))
 
-  step_other : (j : ℕ) → j < i → stepIn (stepped w at i t) j ≡ stepIn w j
+  step_other : (j : ℕ) → j < i → step_in (stepped w at i t) j ≡ step_in w j
   step_other j l = other (1024 + j) (λ e. omega arith) (λ e. omega arith)
 
 -- a number that is not in a list, nor the next at its end
@@ -70,8 +70,8 @@ has_more x y (z ∷ l) e ne = go (eqb z x) e (λ f. has_more x y l f ne)
 
 -- the mark of state v tells the step at which the walk left it
 pub record Left (before w seen : List ℕ) (i v : ℕ) : Type 0 where
-  pub most : markIn w v ≤ i
-  pub state : get_or seen (markIn w v - 1) 0 ≡ stateIn before v
+  pub most : mark_in w v ≤ i
+  pub state : get_or seen (mark_in w v - 1) 0 ≡ state_in before v
 
 -- i steps from the first state to the state at a place. The calculation goes on from here to the same cycle.
 pub record Walking (before w : List ℕ) (cv k at i : ℕ) : Type 0 where
@@ -80,46 +80,46 @@ pub record Walking (before w : List ℕ) (cv k at i : ℕ) : Type 0 where
   pub inside : at < k
   pub seen : List ℕ
   pub latencies : List ℕ
-  pub trail : Trail 1 (width cv) cv seen latencies (stateIn before at)
+  pub trail : Trail 1 (width cv) cv seen latencies (state_in before at)
   pub count : length latencies ≡ i
-  pub noted : (j : ℕ) → j < i → stepIn w j ≡ get_or latencies j 0
-  pub unmarked : (v : ℕ) → v < k → markIn w v ≡ 0 → has (stateIn before v) seen ≡ false
-  pub marked : (v : ℕ) → v < k → 0 < markIn w v → Left before w seen i v
-  pub rest : greedyFrom 1 (width cv) cv (257 - i) seen latencies (stateIn before at) ≡ greedyCycle 1 (width cv) cv
+  pub noted : (j : ℕ) → j < i → step_in w j ≡ get_or latencies j 0
+  pub unmarked : (v : ℕ) → v < k → mark_in w v ≡ 0 → has (state_in before v) seen ≡ false
+  pub marked : (v : ℕ) → v < k → 0 < mark_in w v → Left before w seen i v
+  pub rest : greedy_from 1 (width cv) cv (257 - i) seen latencies (state_in before at) ≡ greedy_cycle 1 (width cv) cv
 
 -- the least latency of the state at a place, and the words after a step by it
 abbrev least : ℕ → List ℕ → ℕ → ℕ
-least cv w at = leastLatency 1 (width cv) (stateIn w at)
+least cv w at = least_latency 1 (width cv) (state_in w at)
 
 abbrev onward : ℕ → List ℕ → List ℕ → ℕ → ℕ → List ℕ
 onward cv before w at i = stepped w at i (least cv before at)
 
 pub walk_start : {before w : List ℕ} {cv k : ℕ} → Walkable before cv k → Unmarked before w → Walking w w cv k 0 0
-unfolding greedyCycle
+unfolding greedy_cycle
 walk_start {before} {w} {cv} {k} h c =
-    let kept : Walkable w cv k = walkable-kept c.size c.below h in
+    let kept : Walkable w cv k = walkable_kept c.size c.below h in
     let few = h.index.few in
-    let first : stateIn w 0 ≡ cv = listed-first kept in
+    let first : state_in w 0 ≡ cv = listed-first kept in
     record {
       listing = kept;
       frame = record { size = refl; low = λ i l. refl; high = λ i l. refl };
       inside = h.some;
       seen = [];
       latencies = [];
-      trail = subst (Trail 1 (width cv) cv [] []) (sym first) (trail-start 1 (width cv) cv);
+      trail = subst (Trail 1 (width cv) cv [] []) (sym first) (trail_start 1 (width cv) cv);
       count = refl;
       noted = λ j l. absurd (not-suc-le-zero l);
       unmarked = λ v l e. refl;
       marked = λ v l p. absurd (omega (arith, c.none v (omega arith)));
-      rest = ap (greedyFrom 1 (width cv) cv 257 [] []) first;
+      rest = ap (greedy_from 1 (width cv) cv 257 [] []) first;
     }
 
 module _ {before w : List ℕ} {cv k at i : ℕ} (r : Walking before w cv k at i) where
   seen-length : length r.seen ≡ i
   seen-length = trail-length r.trail ∙ r.count
 
-  pub walk-few : i ≤ k
-  walk-few = omega (arith, seen-length, trail-few r.trail (listed-few r.listing), listed-number r.listing)
+  pub walk_few : i ≤ k
+  walk_few = omega (arith, seen-length, trail-few r.trail (listed-few r.listing), listed-number r.listing)
 
   pub walk-room : 2048 ≤ length w
   walk-room = omega (arith, r.frame.size, r.listing.room)
@@ -127,19 +127,19 @@ module _ {before w : List ℕ} {cv k at i : ℕ} (r : Walking before w cv k at i
   pub walk-place : at < 256
   walk-place = omega (arith, r.inside, r.listing.index.few)
 
-  module _ (new : markIn w at ≡ 0) where
-    fresh : has (stateIn before at) r.seen ≡ false
+  module _ (new : mark_in w at ≡ 0) where
+    fresh : has (state_in before at) r.seen ≡ false
     fresh = r.unmarked at r.inside new
 
-    next-trail : Trail 1 (width cv) cv (r.seen ++ (stateIn before at ∷ [])) (r.latencies ++ (least cv before at ∷ [])) (next cv (stateIn before at) (least cv before at))
-    next-trail = trail_more r.trail _ fresh (least-permits 1 (width cv) (stateIn before at))
+    next-trail : Trail 1 (width cv) cv (r.seen ++ (state_in before at ∷ [])) (r.latencies ++ (least cv before at ∷ [])) (next cv (state_in before at) (least cv before at))
+    next-trail = trail_more r.trail _ fresh (least_permits 1 (width cv) (state_in before at))
 
-    pub walk-fewer : i < k
-    walk-fewer =
+    pub walk_fewer : i < k
+    walk_fewer =
         omega (
           arith,
           seen-length,
-          length-append r.seen (stateIn before at ∷ []),
+          length-append r.seen (state_in before at ∷ []),
           trail-few next-trail (listed-few r.listing),
           listed-number r.listing,
         )
@@ -147,71 +147,71 @@ module _ {before w : List ℕ} {cv k at i : ℕ} (r : Walking before w cv k at i
     pub walk-ready : Ready w (width cv) at i
     walk-ready = record {
       room = walk-room;
-      narrow = width-le cv;
+      narrow = width_le cv;
       inside = walk-place;
-      few = omega (arith, walk-fewer, r.listing.index.few);
+      few = omega (arith, walk_fewer, r.listing.index.few);
     }
 
     module _ {after : List ℕ} {n to : ℕ} (wide : n ≡ width cv) (p : Stepped w after cv n k at i to) where
-      state-kept : stateIn w at ≡ stateIn before at
-      state-kept = r.frame.low at (omega (arith, walk-place))
+      state_kept : state_in w at ≡ state_in before at
+      state_kept = r.frame.low at (omega (arith, walk-place))
 
-      least_kept : leastLatency 1 n (stateIn w at) ≡ least cv before at
-      least_kept = ap₂ (leastLatency 1) wide state-kept
+      least_kept : least_latency 1 n (state_in w at) ≡ least cv before at
+      least_kept = ap₂ (least_latency 1) wide state_kept
 
       words : after ≡ onward cv before w at i
       words = p.words ∙ ap (stepped w at i) least_kept
 
       few : i < 256
-      few = omega (arith, walk-fewer, r.listing.index.few)
+      few = omega (arith, walk_fewer, r.listing.index.few)
 
       landed : Landed before cv k at (least cv before at) to
       landed =
           let l : Landed w cv k at (least cv before at) to =
-          arc-lands (walkable-kept r.frame.size r.frame.low r.listing) at (least cv before at) to r.inside
-          (subst (λ s. Permits 1 (width cv) s (least cv before at)) (sym state-kept) (least-permits 1 (width cv) (stateIn before at)))
-          (p.place ∙ ap (λ t. place_in w k (next cv (stateIn w at) t)) least_kept) in
+          arc-lands (walkable_kept r.frame.size r.frame.low r.listing) at (least cv before at) to r.inside
+          (subst (λ s. Permits 1 (width cv) s (least cv before at)) (sym state_kept) (least_permits 1 (width cv) (state_in before at)))
+          (p.place ∙ ap (λ t. place_in w k (next cv (state_in w at) t)) least_kept) in
           record {
             inside = l.inside;
-            state = sym (r.frame.low to (omega (arith, l.inside, r.listing.index.few))) ∙ l.state ∙ ap (λ s. next cv s (least cv before at)) state-kept;
+            state = sym (r.frame.low to (omega (arith, l.inside, r.listing.index.few))) ∙ l.state ∙ ap (λ s. next cv s (least cv before at)) state_kept;
           }
 
-      next-marked : (v : ℕ) → v < k → 0 < markIn (onward cv before w at i) v
-          → Left before (onward cv before w at i) (r.seen ++ (stateIn before at ∷ [])) (i + 1) v
+      next-marked : (v : ℕ) → v < k → 0 < mark_in (onward cv before w at i) v
+          → Left before (onward cv before w at i) (r.seen ++ (state_in before at ∷ [])) (i + 1) v
       next-marked v l pos = go (ℕ_discrete v at)
         where
-          go : Dec (v ≡ at) → Left before (onward cv before w at i) (r.seen ++ (stateIn before at ∷ [])) (i + 1) v
+          go : Dec (v ≡ at) → Left before (onward cv before w at i) (r.seen ++ (state_in before at ∷ [])) (i + 1) v
           go (yes e) =
-              let m : markIn (onward cv before w at i) v ≡ i + 1 =
-              ap (markIn (onward cv before w at i)) e ∙ mark-here w at i (least cv before at) walk-room walk-place few in
+              let m : mark_in (onward cv before w at i) v ≡ i + 1 =
+              ap (mark_in (onward cv before w at i)) e ∙ mark-here w at i (least cv before at) walk-room walk-place few in
               record {
                 most = omega arith;
-                state = get_or_at r.seen (stateIn before at) [] 0 _ (omega (arith, seen-length)) ∙ ap (stateIn before) (sym e);
+                state = get_or_at r.seen (state_in before at) [] 0 _ (omega (arith, seen-length)) ∙ ap (state_in before) (sym e);
               }
           go (no e) =
-              let m : markIn (onward cv before w at i) v ≡ markIn w v =
+              let m : mark_in (onward cv before w at i) v ≡ mark_in w v =
               mark-other w at i (least cv before at) walk-room walk-place few v (omega (arith, r.listing.index.few)) e in
               let q = r.marked v l (omega arith) in
               let top = q.most in
               record {
                 most = omega arith;
                 state =
-                    ap (λ x. get_or (r.seen ++ (stateIn before at ∷ [])) (x - 1) 0) m
-                    ∙ get_or-append r.seen (stateIn before at ∷ []) 0 (markIn w v - 1) (omega (arith, seen-length)) ∙ q.state;
+                    ap (λ x. get_or (r.seen ++ (state_in before at ∷ [])) (x - 1) 0) m
+                    ∙ get_or-append r.seen (state_in before at ∷ []) 0 (mark_in w v - 1) (omega (arith, seen-length)) ∙ q.state;
               }
 
-      next-unmarked : (v : ℕ) → v < k → markIn (onward cv before w at i) v ≡ 0 → has (stateIn before v) (r.seen ++ (stateIn before at ∷ [])) ≡ false
+      next-unmarked : (v : ℕ) → v < k → mark_in (onward cv before w at i) v ≡ 0 → has (state_in before v) (r.seen ++ (state_in before at ∷ [])) ≡ false
       next-unmarked v l z = go (ℕ_discrete v at)
         where
-          go : Dec (v ≡ at) → has (stateIn before v) (r.seen ++ (stateIn before at ∷ [])) ≡ false
+          go : Dec (v ≡ at) → has (state_in before v) (r.seen ++ (state_in before at ∷ [])) ≡ false
           go (yes e) =
-              let m : markIn (onward cv before w at i) v ≡ i + 1 =
-              ap (markIn (onward cv before w at i)) e ∙ mark-here w at i (least cv before at) walk-room walk-place few in
+              let m : mark_in (onward cv before w at i) v ≡ i + 1 =
+              ap (mark_in (onward cv before w at i)) e ∙ mark-here w at i (least cv before at) walk-room walk-place few in
               absurd (omega arith)
           go (no e) =
-              let m : markIn (onward cv before w at i) v ≡ markIn w v =
+              let m : mark_in (onward cv before w at i) v ≡ mark_in w v =
               mark-other w at i (least cv before at) walk-room walk-place few v (omega (arith, r.listing.index.few)) e in
-              has_more (stateIn before v) (stateIn before at) r.seen (r.unmarked v l (omega arith))
+              has_more (state_in before v) (state_in before at) r.seen (r.unmarked v l (omega arith))
               (λ q. e (listed-apart r.listing v at l r.inside (sym q)))
 
       walk-next : Walking before (onward cv before w at i) cv k to (i + 1)
@@ -228,21 +228,21 @@ module _ {before w : List ℕ} {cv k at i : ℕ} (r : Walking before w cv k at i
               high = λ j l. f.high j l ∙ r.frame.high j l;
             };
             inside = landed.inside;
-            seen = r.seen ++ (stateIn before at ∷ []);
+            seen = r.seen ++ (state_in before at ∷ []);
             latencies = r.latencies ++ (t ∷ []);
-            trail = subst (Trail 1 (width cv) cv (r.seen ++ (stateIn before at ∷ [])) (r.latencies ++ (t ∷ []))) (sym landed.state) next-trail;
+            trail = subst (Trail 1 (width cv) cv (r.seen ++ (state_in before at ∷ [])) (r.latencies ++ (t ∷ []))) (sym landed.state) next-trail;
             count = omega (arith, length-append r.latencies (t ∷ []), r.count);
-            noted = below_more (λ j. stepIn (stepped w at i t) j ≡ get_or (r.latencies ++ (t ∷ [])) j 0) i
+            noted = below_more (λ j. step_in (stepped w at i t) j ≡ get_or (r.latencies ++ (t ∷ [])) j 0) i
                 (λ j l. step_other w at i t walk-room walk-place few j l ∙ r.noted j l
                 ∙ sym (get_or-append r.latencies (t ∷ []) 0 j (omega (arith, r.count))))
                 (step-here w at i t walk-room walk-place few ∙ sym (get_or_at r.latencies t [] 0 i r.count));
             unmarked = next-unmarked;
             marked = next-marked;
             rest =
-                ap (λ x. greedyFrom 1 (width cv) cv x (r.seen ++ (stateIn before at ∷ [])) (r.latencies ++ (t ∷ [])) (stateIn before to)) fuel
-                ∙ ap (greedyFrom 1 (width cv) cv (256 - i) (r.seen ++ (stateIn before at ∷ [])) (r.latencies ++ (t ∷ []))) landed.state
-                ∙ sym (greedy-more 1 (width cv) cv (256 - i) r.seen r.latencies (stateIn before at) fresh)
-                ∙ ap (λ x. greedyFrom 1 (width cv) cv x r.seen r.latencies (stateIn before at)) more
+                ap (λ x. greedy_from 1 (width cv) cv x (r.seen ++ (state_in before at ∷ [])) (r.latencies ++ (t ∷ [])) (state_in before to)) fuel
+                ∙ ap (greedy_from 1 (width cv) cv (256 - i) (r.seen ++ (state_in before at ∷ [])) (r.latencies ++ (t ∷ []))) landed.state
+                ∙ sym (greedy_more 1 (width cv) cv (256 - i) r.seen r.latencies (state_in before at) fresh)
+                ∙ ap (λ x. greedy_from 1 (width cv) cv x r.seen r.latencies (state_in before at)) more
                 ∙ r.rest;
           }
 
@@ -250,51 +250,51 @@ module _ {before w : List ℕ} {cv k at i : ℕ} (r : Walking before w cv k at i
       walk_more = subst (λ x. Walking before x cv k to (i + 1)) (sym words) walk-next
 
   -- the state at the place has a mark: it was left at that step, and the latencies from there on are the cycle
-  module _ (old : markIn w at ≡ 0 → ⊥) where
-    pub walk-back : (0 < markIn w at) × (markIn w at ≤ i)
-    walk-back = let p : 0 < markIn w at = omega arith in (p, (r.marked at r.inside p).most)
+  module _ (old : mark_in w at ≡ 0 → ⊥) where
+    pub walk-back : (0 < mark_in w at) × (mark_in w at ≤ i)
+    walk-back = let p : 0 < mark_in w at = omega arith in (p, (r.marked at r.inside p).most)
 
-    again : get_or r.seen (markIn w at - 1) 0 ≡ stateIn before at
+    again : get_or r.seen (mark_in w at - 1) 0 ≡ state_in before at
     again = (r.marked at r.inside walk-back.0).state
 
-    cycle : drop (markIn w at - 1) r.latencies ≡ greedyCycle 1 (width cv) cv
+    cycle : drop (mark_in w at - 1) r.latencies ≡ greedy_cycle 1 (width cv) cv
     cycle =
         let p = walk-back.0 in
         let q = walk-back.1 in
-        let inside : markIn w at - 1 < length r.seen = omega (arith, seen-length) in
-        let more : 257 - i ≡ suc (256 - i) = omega (arith, walk-few, r.listing.index.few) in
-        ap (λ j. drop j r.latencies) (sym (place-only (stateIn before at) r.seen (markIn w at - 1) r.trail.apart inside again))
-        ∙ sym (greedy-end 1 (width cv) cv (256 - i) r.seen r.latencies (stateIn before at)
-        (T_true (has (stateIn before at) r.seen) (listed_has (stateIn before at) r.seen (markIn w at - 1) inside again)))
-        ∙ ap (λ x. greedyFrom 1 (width cv) cv x r.seen r.latencies (stateIn before at)) (sym more)
+        let inside : mark_in w at - 1 < length r.seen = omega (arith, seen-length) in
+        let more : 257 - i ≡ suc (256 - i) = omega (arith, walk_few, r.listing.index.few) in
+        ap (λ j. drop j r.latencies) (sym (place_only (state_in before at) r.seen (mark_in w at - 1) r.trail.apart inside again))
+        ∙ sym (greedy_end 1 (width cv) cv (256 - i) r.seen r.latencies (state_in before at)
+        (T_true (has (state_in before at) r.seen) (listed_has (state_in before at) r.seen (mark_in w at - 1) inside again)))
+        ∙ ap (λ x. greedy_from 1 (width cv) cv x r.seen r.latencies (state_in before at)) (sym more)
         ∙ r.rest
 
-    noted-at : (j : ℕ) → j < i - (markIn w at - 1) → get_or w (1024 + (markIn w at - 1) + j) 0 ≡ get_or r.latencies (markIn w at - 1 + j) 0
+    noted-at : (j : ℕ) → j < i - (mark_in w at - 1) → get_or w (1024 + (mark_in w at - 1) + j) 0 ≡ get_or r.latencies (mark_in w at - 1 + j) 0
     noted-at j l =
-        let e : 1024 + (markIn w at - 1) + j ≡ 1024 + (markIn w at - 1 + j) = omega arith in
-        ap (λ x. get_or w x 0) e ∙ r.noted (markIn w at - 1 + j) (omega arith)
+        let e : 1024 + (mark_in w at - 1) + j ≡ 1024 + (mark_in w at - 1 + j) = omega arith in
+        ap (λ x. get_or w x 0) e ∙ r.noted (mark_in w at - 1 + j) (omega arith)
 
-    noted-cycle : noted_in w (1024 + (markIn w at - 1)) (i - (markIn w at - 1)) ≡ greedyCycle 1 (width cv) cv
+    noted-cycle : noted_in w (1024 + (mark_in w at - 1)) (i - (mark_in w at - 1)) ≡ greedy_cycle 1 (width cv) cv
     noted-cycle =
-        let from : ℕ = 1024 + (markIn w at - 1) in
-        let count : ℕ = i - (markIn w at - 1) in
+        let from : ℕ = 1024 + (mark_in w at - 1) in
+        let count : ℕ = i - (mark_in w at - 1) in
         let long : length (noted_in w from count) ≡ count =
-        length-take-le count (drop from w) (omega (arith, length-drop from w, walk-room, walk-few, r.listing.index.few, walk-back.1)) in
-        ext_get_or 0 (noted_in w from count) (drop (markIn w at - 1) r.latencies)
-        (long ∙ sym (length-drop (markIn w at - 1) r.latencies ∙ ap (λ x. x - (markIn w at - 1)) r.count))
+        length-take-le count (drop from w) (omega (arith, length-drop from w, walk-room, walk_few, r.listing.index.few, walk-back.1)) in
+        ext_get_or 0 (noted_in w from count) (drop (mark_in w at - 1) r.latencies)
+        (long ∙ sym (length-drop (mark_in w at - 1) r.latencies ∙ ap (λ x. x - (mark_in w at - 1)) r.count))
         (λ j l.
         let low : j < count = omega arith in
-        get_or-take count (drop from w) j 0 low ∙ get_or-drop from w j 0 ∙ noted-at j low ∙ sym (get_or-drop (markIn w at - 1) r.latencies j 0))
+        get_or-take count (drop from w) j 0 low ∙ get_or-drop from w j 0 ∙ noted-at j low ∙ sym (get_or-drop (mark_in w at - 1) r.latencies j 0))
         ∙ cycle
 
-    pub walk_end : {entry : List ℕ} → Unmarked entry before → Walked entry w cv (record { from = 1024 + (markIn w at - 1); count = i - (markIn w at - 1) })
+    pub walk_end : {entry : List ℕ} → Unmarked entry before → Walked entry w cv (record { from = 1024 + (mark_in w at - 1); count = i - (mark_in w at - 1) })
     walk_end c = record {
       size = r.frame.size ∙ c.size;
       beyond = λ j l. r.frame.high j (omega arith) ∙ c.above j (omega arith);
-      inside = omega (arith, walk-back.1, walk-few, r.listing.index.few);
-      few = omega (arith, walk-few, r.listing.index.few);
+      inside = omega (arith, walk-back.1, walk_few, r.listing.index.few);
+      few = omega (arith, walk_few, r.listing.index.few);
       cycle = noted-cycle;
       low = λ j l.
-          let p = walk-permits r.trail.walk (markIn w at - 1 + j) (omega (arith, r.count)) in
-          omega (arith, noted-at j l, p.small, width-le cv);
+          let p = walk-permits r.trail.walk (mark_in w at - 1 + j) (omega (arith, r.count)) in
+          omega (arith, noted-at j l, p.small, width_le cv);
     }

@@ -2,17 +2,17 @@
 use Rattle.std.specs.Prelude.{◌≡◌, List, ℕ, ◌+◌, ◌≤◌, ◌<◌, length, get_or, set, take, drop}
 use Rattle.diagram.specs.Diagram.{width, next}
 use Rattle.diagram.specs.States.{states}
-use Rattle.diagram.specs.Work.{stateIn, place_in, Indexed}
+use Rattle.diagram.specs.Work.{state_in, place_in, Indexed}
 use Rattle.cycles.specs.declared.Noted.{Noted}
-use Rattle.cycles.specs.Greedy.{leastLatency, greedyCycle}
+use Rattle.cycles.specs.Greedy.{least_latency, greedy_cycle}
 
 -- The words after the listing: the mark of state v at 768 + v, 0 or one more than the step at which the walk left the state; the latency of
 -- step i at 1024 + i.
-abbrev pub markIn : List ℕ → ℕ → ℕ
-markIn w v = get_or w (768 + v) 0
+abbrev pub mark_in : List ℕ → ℕ → ℕ
+mark_in w v = get_or w (768 + v) 0
 
-abbrev pub stepIn : List ℕ → ℕ → ℕ
-stepIn w i = get_or w (1024 + i) 0
+abbrev pub step_in : List ℕ → ℕ → ℕ
+step_in w i = get_or w (1024 + i) 0
 
 -- the latencies that stand in the words
 abbrev pub noted_in : List ℕ → ℕ → ℕ → List ℕ
@@ -21,7 +21,7 @@ noted_in w from count = take count (drop from w)
 -- no state has a mark, and the other words are as before
 pub record Unmarked (before after : List ℕ) : Type 0 where
   pub size : length after ≡ length before
-  pub none : (v : ℕ) → v < 256 → markIn after v ≡ 0
+  pub none : (v : ℕ) → v < 256 → mark_in after v ≡ 0
   pub below : (i : ℕ) → i < 768 → get_or after i 0 ≡ get_or before i 0
   pub above : (i : ℕ) → 1024 ≤ i → get_or after i 0 ≡ get_or before i 0
 
@@ -34,8 +34,8 @@ pub record Ready (w : List ℕ) (n at i : ℕ) : Type 0 where
 
 -- step i leaves the state at a place by its least latency: the state is marked, the latency is noted, and the answer is the place of the next
 pub record Stepped (w after : List ℕ) (cv n k at i r : ℕ) : Type 0 where
-  pub words : after ≡ set (set w (768 + at) (i + 1)) (1024 + i) (leastLatency 1 n (stateIn w at))
-  pub place : r ≡ place_in w k (next cv (stateIn w at) (leastLatency 1 n (stateIn w at)))
+  pub words : after ≡ set (set w (768 + at) (i + 1)) (1024 + i) (least_latency 1 n (state_in w at))
+  pub place : r ≡ place_in w k (next cv (state_in w at) (least_latency 1 n (state_in w at)))
 
 -- the diagram of cv is listed in the words, with its index
 pub record Walkable (w : List ℕ) (cv k : ℕ) : Type 0 where
@@ -50,7 +50,7 @@ pub record Walked (before after : List ℕ) (cv : ℕ) (r : Noted) : Type 0 wher
   pub beyond : (i : ℕ) → 2048 ≤ i → get_or after i 0 ≡ get_or before i 0
   pub inside : r.from + r.count ≤ 2048
   pub few : r.count ≤ 256
-  pub cycle : noted_in after r.from r.count ≡ greedyCycle 1 (width cv) cv
+  pub cycle : noted_in after r.from r.count ≡ greedy_cycle 1 (width cv) cv
   pub low : (i : ℕ) → i < r.count → get_or after (r.from + i) 0 ≤ 33
 
 -- what copying asks: latencies of at most 33, and room for them

@@ -2,9 +2,9 @@
 // Every function here is proved, and the crate assumes nothing of its own. No public function has a `requires`.
 ghost use Rattle.std.specs.Prelude.{◌≡◌, ◌++◌, ◌≤◌, ◌<◌, length, drop};
 ghost use Rattle.collision.specs.Pipeline.{total};
-ghost use Rattle.cycles.specs.Greedy.{leastLatency, greedyRefusal, greedyAnswer, greedyOut, WorkAfter};
+ghost use Rattle.cycles.specs.Greedy.{least_latency, greedy_refusal, greedy_answer, greedy_out, WorkAfter};
 ghost use Rattle.graphs.specs.Rotation.{rotate};
-ghost use Rattle.cycles.specs.Rotation.{comesFirst, firstRotation};
+ghost use Rattle.cycles.specs.Rotation.{comes_first, first_rotation};
 ghost use Rattle.cycles.specs.Inner.{noted_in, Unmarked, Ready, Stepped, Walkable, Walked, Copyable};
 
 use collision::Number;
@@ -46,7 +46,7 @@ fn clear_marks(work: &mut [u32])
 // The least latency that a state permits. Every state permits the one after the last column.
 fn least_latency(state: u32, columns: u32) -> u32
     requires { columns ≤ 32 }
-    ensures { result ≡ leastLatency 1 columns state }
+    ensures { result ≡ least_latency 1 columns state }
 {
     let mut latency = 1;
     while latency <= columns {
@@ -116,9 +116,9 @@ fn copy_latencies(work: &[u32], from: usize, count: usize, out: &mut [u8]) -> u3
 // The greedy cycle of a function: from the first state always by the least latency. The cycle starts at the first state of that walk that
 // occurs again, and is written to the front of the lent bytes. It works over the listed diagram, in the first 2,048 working words.
 pub fn greedy(u: FunctionUnit, tag: Tag, work: &mut [u32], out: &mut [u8]) -> GreedyAnswer
-    ensures { (result ≡ greedyAnswer u tag.0 (length work.old) (length out.old))
-        × (out.new ≡ greedyOut u tag.0 (length work.old) out.old)
-        × WorkAfter (greedyRefusal u tag.0 (length work.old) (length out.old)) work.old work.new }
+    ensures { (result ≡ greedy_answer u tag.0 (length work.old) (length out.old))
+        × (out.new ≡ greedy_out u tag.0 (length work.old) out.old)
+        × WorkAfter (greedy_refusal u tag.0 (length work.old) (length out.old)) work.old work.new }
 {
     let vector = collision::vector(u, tag);
     match vector {
@@ -150,7 +150,7 @@ pub fn greedy(u: FunctionUnit, tag: Tag, work: &mut [u32], out: &mut [u8]) -> Gr
 // Whether one rotation of a cycle comes before another, or is the same list of numbers.
 fn comes_first(cycle: &[u8], one: usize, other: usize) -> bool
     requires { (one < length cycle.now) × (other < length cycle.now) }
-    ensures { result ≡ comesFirst (rotate cycle.now one) (rotate cycle.now other) }
+    ensures { result ≡ comes_first (rotate cycle.now one) (rotate cycle.now other) }
 {
     let mut i = 0;
     while i < cycle.len() {
@@ -170,7 +170,7 @@ fn comes_first(cycle: &[u8], one: usize, other: usize) -> bool
 // The rotation of a cycle that comes first when read as a list of numbers: by how many latencies the cycle is rotated. Of rotations that are
 // the same list it is the least.
 pub fn first_rotation(cycle: &[u8]) -> usize
-    ensures { result ≡ firstRotation cycle.now }
+    ensures { result ≡ first_rotation cycle.now }
 {
     let mut first = 0;
     let mut rotation = 1;

@@ -11,80 +11,80 @@ use Rattle.unit.specs.declared.FunctionUnit.{FunctionUnit}
 use Rattle.unit.specs.declared.Outcome.{Outcome}
 use Rattle.unit.specs.declared.Answer.{Answer}
 use Rattle.unit.specs.declared.Answer.TheVariants.{Done, Refused}
-use Rattle.unit.specs.Unit.{marked, soundOf}
-use Rattle.unit.specs.Calls.{andThen, tagAnswer, unit_of, outcome}
-use Rattle.unit.proofs.Laws.{within, sound-has}
-use Rattle.unit.proofs.TableLaws.{unit-of-words, unit-of-same}
-use Rattle.unit_file.specs.File.{fileLength}
+use Rattle.unit.specs.Unit.{marked, sound_of}
+use Rattle.unit.specs.Calls.{and_then, tag_answer, unit_of, outcome}
+use Rattle.unit.proofs.Laws.{within, sound_has}
+use Rattle.unit.proofs.TableLaws.{unit-of-words, unit_of_same}
+use Rattle.unit_file.specs.File.{file_length}
 use Rattle.unit_file.specs.Read.{read_of}
-use Rattle.unit_file.specs.Write.{unitFile, writeRefusal}
+use Rattle.unit_file.specs.Write.{unit_file, write_refusal}
 use Rattle.unit_file.proofs.FileLaws.{file-length}
-use Rattle.unit_file.proofs.RoundTrips.{unit-read}
-use Rattle.drawing.specs.Answers.{unitTable, tableRefusal}
+use Rattle.unit_file.proofs.RoundTrips.{unit_read}
+use Rattle.drawing.specs.Answers.{unit_table, table_refusal}
 use Rattle.drawing.proofs.AnswerLaws.{table-suffices}
-use Rattle.delays.specs.Delays.{delaysAnswer, delayedUnit, delaysOf}
-use Rattle.delays.proofs.Claims.{delays-permit}
-use Rattle.delay_text.specs.Shown.{delayedTableRefusal, delayedFileRefusal, delayedFileOut}
+use Rattle.delays.specs.Delays.{delays_answer, delayed_unit, delays_of}
+use Rattle.delays.proofs.Claims.{delays_permit}
+use Rattle.delay_text.specs.Shown.{delayed_table_refusal, delayed_file_refusal, delayed_file_out}
 use Rattle.delay_text.specs.Claims.{TableFits, FileFits, SavedRead}
 
 -- tests that pass where others did leave those
-only-these : (a next : Answer) → (a ≡ Done → next ≡ Done) → andThen a next ≡ a
-only-these Done next e = e refl
-only-these (Refused why) next e = refl
+only_these : (a next : Answer) → (a ≡ Done → next ≡ Done) → and_then a next ≡ a
+only_these Done next e = e refl
+only_these (Refused why) next e = refl
 
-module _ (u : FunctionUnit) (q m : ℕ) (d : delaysAnswer u q m ≡ Done) where
+module _ (u : FunctionUnit) (q m : ℕ) (d : delays_answer u q m ≡ Done) where
   abbrev v : FunctionUnit
-  v = delayedUnit u q m
+  v = delayed_unit u q m
 
-  pub made : delaysOf u q m ≡ record { answer = Done; unit = v }
-  unfolding delaysOf
+  pub made : delays_of u q m ≡ record { answer = Done; unit = v }
+  unfolding delays_of
   made = ap (λ (a : Answer). outcome a u v) d
 
-  unit-is : (delaysOf u q m).unit ≡ v
+  unit-is : (delays_of u q m).unit ≡ v
   unit-is = ap (λ (o : Outcome). o.unit) made
 
-  sound : soundOf v ≡ true
-  sound = ap soundOf (sym unit-is) ∙ (delays-permit u q m d).sound
+  sound : sound_of v ≡ true
+  sound = ap sound_of (sym unit-is) ∙ (delays_permit u q m d).sound
 
-  tag : tagAnswer v 1 ≡ Done
-  unfolding tagAnswer unit_of
+  tag : tag_answer v 1 ≡ Done
+  unfolding tag_answer unit_of
   tag = rw sound
 
-  table_taken : (room : ℕ) → 1700 ≤ room → tableRefusal v 1 room ≡ Done
-  unfolding tableRefusal
-  table_taken room h = rw (tag, le-leb (length (unitTable v 1)) room (omega (arith, table-suffices v 1 tag)))
+  table_taken : (room : ℕ) → 1700 ≤ room → table_refusal v 1 room ≡ Done
+  unfolding table_refusal
+  table_taken room h = rw (tag, le-leb (length (unit_table v 1)) room (omega (arith, table-suffices v 1 tag)))
 
-  short : fileLength 1 u.segments ≤ 70
+  short : file_length 1 u.segments ≤ 70
   unfolding unit_of
-  short = omega (arith, (within u.segments 16 (sound-has v sound).segments).most)
+  short = omega (arith, (within u.segments 16 (sound_has v sound).segments).most)
 
-  file-taken : (room : ℕ) → 70 ≤ room → writeRefusal v room ≡ Done
-  unfolding writeRefusal unit_of
-  file-taken room h = rw (sound, le-leb (fileLength 1 u.segments) room (omega (arith, short)))
+  file-taken : (room : ℕ) → 70 ≤ room → write_refusal v room ≡ Done
+  unfolding write_refusal unit_of
+  file-taken room h = rw (sound, le-leb (file_length 1 u.segments) room (omega (arith, short)))
 
   -- the file, read
-  back : read_of (unitFile v) ≡ delaysOf u q m
+  back : read_of (unit_file v) ≡ delays_of u q m
   back =
-      let same = unit-of-same v (marked v) (unit-of-words 1 u.segments _ _) (ap (λ (w : FunctionUnit). w.plan) (sym unit-is) ∙ (delays-permit u q m d).plan) refl in
-      unit-read v sound ∙ ap (λ (w : FunctionUnit). record { answer = Done; unit = w }) (sym same) ∙ sym made
+      let same = unit_of_same v (marked v) (unit-of-words 1 u.segments _ _) (ap (λ (w : FunctionUnit). w.plan) (sym unit-is) ∙ (delays_permit u q m d).plan) refl in
+      unit_read v sound ∙ ap (λ (w : FunctionUnit). record { answer = Done; unit = w }) (sym same) ∙ sym made
 
   -- its length
-  size : length (unitFile v) ≡ fileLength 1 u.segments
+  size : length (unit_file v) ≡ file_length 1 u.segments
   unfolding unit_of
   size = file-length 1 u.segments v.columns (marked v)
 
-  front : (bytes : List ℕ) → 70 ≤ length bytes → take (fileLength 1 u.segments) (delayedFileOut u q m bytes) ≡ unitFile v
-  unfolding delayedFileOut delayedFileRefusal
+  front : (bytes : List ℕ) → 70 ≤ length bytes → take (file_length 1 u.segments) (delayed_file_out u q m bytes) ≡ unit_file v
+  unfolding delayed_file_out delayed_file_refusal
   front bytes h =
-      rw (d, file-taken (length bytes) h) (take_at (unitFile v) (drop (length (unitFile v)) bytes) (fileLength 1 u.segments) size)
+      rw (d, file-taken (length bytes) h) (take_at (unit_file v) (drop (length (unit_file v)) bytes) (file_length 1 u.segments) size)
 
 pub table_fits : TableFits
-unfolding delayedTableRefusal
-table_fits u q m room h = only-these (delaysAnswer u q m) _ (λ d. table_taken u q m d room h)
+unfolding delayed_table_refusal
+table_fits u q m room h = only_these (delays_answer u q m) _ (λ d. table_taken u q m d room h)
 
-pub file-fits : FileFits
-unfolding delayedFileRefusal
-file-fits u q m room h = only-these (delaysAnswer u q m) _ (λ d. file-taken u q m d room h)
+pub file_fits : FileFits
+unfolding delayed_file_refusal
+file_fits u q m room h = only_these (delays_answer u q m) _ (λ d. file-taken u q m d room h)
 
 pub saved_read : SavedRead
 saved_read u q m bytes h d = ap read_of (front u q m d bytes h) ∙ back u q m d

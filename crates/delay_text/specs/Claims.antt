@@ -2,21 +2,21 @@
 use Rattle.std.specs.Prelude.{◌≡◌, List, ℕ, ◌≤◌, length, take}
 use Rattle.unit.specs.declared.FunctionUnit.{FunctionUnit}
 use Rattle.unit.specs.declared.Answer.TheVariants.{Done}
-use Rattle.unit_file.specs.File.{fileLength}
+use Rattle.unit_file.specs.File.{file_length}
 use Rattle.unit_file.specs.Read.{read_of}
-use Rattle.delays.specs.Delays.{delaysAnswer, delaysOf}
-use Rattle.delay_text.specs.Shown.{delayedTableRefusal, delayedFileRefusal, delayedFileOut}
+use Rattle.delays.specs.Delays.{delays_answer, delays_of}
+use Rattle.delay_text.specs.Shown.{delayed_table_refusal, delayed_file_refusal, delayed_file_out}
 
 -- 1,700 bytes have room for every table
 abbrev pub TableFits : Type 0
-TableFits = (u : FunctionUnit) (q m room : ℕ) → 1700 ≤ room → delayedTableRefusal u q m room ≡ delaysAnswer u q m
+TableFits = (u : FunctionUnit) (q m room : ℕ) → 1700 ≤ room → delayed_table_refusal u q m room ≡ delays_answer u q m
 
 -- 70 bytes have room for every file of a one-function unit
 abbrev pub FileFits : Type 0
-FileFits = (u : FunctionUnit) (q m room : ℕ) → 70 ≤ room → delayedFileRefusal u q m room ≡ delaysAnswer u q m
+FileFits = (u : FunctionUnit) (q m room : ℕ) → 70 ≤ room → delayed_file_refusal u q m room ≡ delays_answer u q m
 
 -- the front that is written, read as a unit file, is what the call makes
 abbrev pub SavedRead : Type 0
 SavedRead =
-    (u : FunctionUnit) (q m : ℕ) (bytes : List ℕ) → 70 ≤ length bytes → delaysAnswer u q m ≡ Done
-    → read_of (take (fileLength 1 u.segments) (delayedFileOut u q m bytes)) ≡ delaysOf u q m
+    (u : FunctionUnit) (q m : ℕ) (bytes : List ℕ) → 70 ≤ length bytes → delays_answer u q m ≡ Done
+    → read_of (take (file_length 1 u.segments) (delayed_file_out u q m bytes)) ≡ delays_of u q m

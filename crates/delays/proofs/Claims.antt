@@ -10,59 +10,59 @@ use native.Mathlib.Omega.{arith}
 use borrow.Author.Tests.{leb-true, not-true}
 use lib.Dec.{leb}
 use lib.ListN.{length}
-use Rattle.words.specs.Below.{someBelow}
-use Rattle.words.proofs.Tests.{and_left, and_right, and-true, same_test}
-use Rattle.words.proofs.BelowLaws.{some-intro, some-elim}
+use Rattle.words.specs.Below.{some_below}
+use Rattle.words.proofs.Tests.{and_left, and_right, and_true, same_test}
+use Rattle.words.proofs.BelowLaws.{some_intro, some_elim}
 use Rattle.unit.specs.declared.FunctionUnit.{FunctionUnit}
 use Rattle.unit.specs.declared.Refusal.TheVariants.{TwoMarks, BadInterval, PlaceBeyond}
 use Rattle.unit.specs.declared.Answer.{Answer}
 use Rattle.unit.specs.declared.Answer.TheVariants.{Done, Refused}
 use Rattle.unit.specs.Table.{Table}
-use Rattle.unit.specs.Unit.{inside, somewhere, goodCounts, marked, soundOf, SoundUnit}
-use Rattle.unit.specs.Calls.{andThen, tagAnswer, unit_of, outcome}
-use Rattle.unit.proofs.Laws.{within, inside_of, never_done, check-ok, check-next, tag-accepted}
-use Rattle.unit.proofs.SoundLaws.{sound-means, marked-place}
+use Rattle.unit.specs.Unit.{inside, somewhere, good_counts, marked, sound_of, SoundUnit}
+use Rattle.unit.specs.Calls.{and_then, tag_answer, unit_of, outcome}
+use Rattle.unit.proofs.Laws.{within, inside_of, never_done, check_ok, check_next, tag_accepted}
+use Rattle.unit.proofs.SoundLaws.{sound_means, marked_place}
 use Rattle.unit.proofs.TableLaws.{unit-of-table, unit-of-sound}
 use Rattle.collision.specs.Pipeline.{start_at, NeverCollides}
-use Rattle.collision.specs.Vector.{marksOf}
-use Rattle.collision.proofs.VectorLaws.{marked-bounded}
-use Rattle.collision.proofs.StartLaws.{startAt-turns}
-use Rattle.delays.specs.Delays.{Marks, place_of, last_of, places, width_of, movedTable, crowded, delaysAnswer, delayedUnit, delaysOf}
+use Rattle.collision.specs.Vector.{marks_of}
+use Rattle.collision.proofs.VectorLaws.{marked_bounded}
+use Rattle.collision.proofs.StartLaws.{start_at_turns}
+use Rattle.delays.specs.Delays.{Marks, place_of, last_of, places, width_of, moved_table, crowded, delays_answer, delayed_unit, delays_of}
 use Rattle.delays.specs.Claims.{ByRule, From, Delayed, DelaysPermit, OneUnit, TwoIn, CrowdedExactly, Beyond, BeyondExactly}
 use Rattle.delays.proofs.PlaceLaws.{places-length, placeAt, place_at, last-is, place-before, last-most, place-first, place-order, place-one, place-apart}
-use Rattle.delays.proofs.MovedLaws.{Old, moved-has, moved-of, moved_inside}
-use Rattle.delays.proofs.RuleLaws.{by-rule, one_way}
+use Rattle.delays.proofs.MovedLaws.{Old, moved_has, moved_of, moved_inside}
+use Rattle.delays.proofs.RuleLaws.{by_rule, one_way}
 
 -- What an accepted call has passed
 
 pub record Accepted (u : FunctionUnit) (q m : ℕ) : Type 0 where
-  pub sound : soundOf u ≡ true
+  pub sound : sound_of u ≡ true
   pub tag : inside q u.functions ≡ true
   pub single : crowded (marked u q) ≡ false
   pub latency : inside m 32 ≡ true
-  pub room : marksOf (marked u) q ≤ m
+  pub room : marks_of (marked u) q ≤ m
   pub near : width_of (marked u q) m u.columns ≤ 32
 
-then-first : (a next : Answer) → andThen a next ≡ Done → (a ≡ Done) × (next ≡ Done)
-then-first Done next e = (refl, e)
-then-first (Refused why) next e = never_done e
+then_first : (a next : Answer) → and_then a next ≡ Done → (a ≡ Done) × (next ≡ Done)
+then_first Done next e = (refl, e)
+then_first (Refused why) next e = never_done e
 
-pub accepted : (u : FunctionUnit) (q m : ℕ) → delaysAnswer u q m ≡ Done → Accepted u q m
-unfolding delaysAnswer
+pub accepted : (u : FunctionUnit) (q m : ℕ) → delays_answer u q m ≡ Done → Accepted u q m
+unfolding delays_answer
 accepted u q m e =
-    let t = then-first (tagAnswer u q) _ e in
-    let a = tag-accepted u q t.0 in
+    let t = then_first (tag_answer u q) _ e in
+    let a = tag_accepted u q t.0 in
     let e1 = t.1 in
-    let e2 = check-next (not (crowded (marked u q))) TwoMarks _ e1 in
-    let e3 = check-next (inside m 32 && leb (marksOf (marked u) q) m) BadInterval _ e2 in
-    let i = check-ok (inside m 32 && leb (marksOf (marked u) q) m) BadInterval _ e2 in
+    let e2 = check_next (not (crowded (marked u q))) TwoMarks _ e1 in
+    let e3 = check_next (inside m 32 && leb (marks_of (marked u) q) m) BadInterval _ e2 in
+    let i = check_ok (inside m 32 && leb (marks_of (marked u) q) m) BadInterval _ e2 in
     record {
       sound = a.sound;
       tag = a.tag;
-      single = not-true (crowded (marked u q)) (check-ok (not (crowded (marked u q))) TwoMarks _ e1);
+      single = not-true (crowded (marked u q)) (check_ok (not (crowded (marked u q))) TwoMarks _ e1);
       latency = and_left (inside m 32) _ i;
-      room = leb-true (marksOf (marked u) q) m (and_right (inside m 32) _ i);
-      near = leb-true (width_of (marked u q) m u.columns) 32 (check-ok (leb (width_of (marked u q) m u.columns) 32) PlaceBeyond _ e3);
+      room = leb-true (marks_of (marked u) q) m (and_right (inside m 32) _ i);
+      near = leb-true (width_of (marked u q) m u.columns) 32 (check_ok (leb (width_of (marked u q) m u.columns) 32) PlaceBeyond _ e3);
     }
 
 -- The marks
@@ -81,13 +81,13 @@ module _ (u : FunctionUnit) (q m : ℕ) (a : Accepted u q m) where
   l = places R m n
 
   abbrev moved : Table
-  moved = movedTable R l
+  moved = moved_table R l
 
   abbrev width : ℕ
   width = width_of R m n
 
   means : SoundUnit u
-  means = (sound-means u).0 a.sound
+  means = (sound_means u).0 a.sound
 
   size : length l ≡ n
   size = places-length R m n
@@ -110,14 +110,14 @@ module _ (u : FunctionUnit) (q m : ℕ) (a : Accepted u q m) where
   inside-counts : (x s z : ℕ) → moved x s z ≡ true → (somewhere x s z ≡ true) × (x ≤ 1) × (s ≤ u.segments) × (z ≤ width)
   inside-counts =
       moved_inside R m n u.segments width means.segments.1 a.near
-      (λ s i h e. ((marked-place u q s (i + 1) e).segment1, (means.marks q s (i + 1) e).1)) within-width
+      (λ s i h e. ((marked_place u q s (i + 1) e).segment1, (means.marks q s (i + 1) e).1)) within-width
 
-  table_is : marked (delayedUnit u q m) ≡ moved
+  table_is : marked (delayed_unit u q m) ≡ moved
   table_is = unit-of-table 1 u.segments width moved (λ x s z e. (inside-counts x s z e).0)
 
-  counts : goodCounts 1 u.segments width ≡ true
+  counts : good_counts 1 u.segments width ≡ true
   counts =
-      and-true (inside_of u.segments 16 means.segments.0 means.segments.1)
+      and_true (inside_of u.segments 16 means.segments.0 means.segments.1)
       (inside_of width 32 (omega (arith, width_is, place-first R m (n - 1))) a.near)
 
   -- marks of one segment
@@ -127,10 +127,10 @@ module _ (u : FunctionUnit) (q m : ℕ) (a : Accepted u q m) where
     where
       go : Dec (j.index < i.index) → j.index < i.index
       go (yes o) = o
-      go (no k) = absurd (other (eq-or-lt_of_le (not-below k)))
+      go (no k) = absurd (other (eq-or-lt_of_le (not_below k)))
         where
-          not-below : (j.index < i.index → ⊥) → i.index ≤ j.index
-          not-below f = omega arith
+          not_below : (j.index < i.index → ⊥) → i.index ≤ j.index
+          not_below f = omega arith
 
           other : (i.index ≡ j.index) ⊎ (i.index < j.index) → ⊥
           other (inl e) = omega (arith, j.place, i.place, ap (placeAt R m) e)
@@ -138,16 +138,16 @@ module _ (u : FunctionUnit) (q m : ℕ) (a : Accepted u q m) where
 
   apart : (s x y : ℕ) → moved 1 s x ≡ true → moved 1 s y ≡ true → x < y → x % m ≡ y % m → ⊥
   apart s x y e f h r =
-      let j = (moved-has R m n 1 s x e).1 in
-      let i = (moved-has R m n 1 s y f).1 in
-      place-apart T q m (marked-bounded u) a.single a.room s j.index i.index (old-order s x y j i h) j.mark i.mark
+      let j = (moved_has R m n 1 s x e).1 in
+      let i = (moved_has R m n 1 s y f).1 in
+      place-apart T q m (marked_bounded u) a.single a.room s j.index i.index (old-order s x y j i h) j.mark i.mark
       (ap (λ k. k % m) j.place ∙ r ∙ ap (λ k. k % m) (sym i.place))
 
   starts : (i : ℕ) → start_at (m ∷ []) i ≡ i * m
   starts i =
       let e : i * 1 ≡ i = mul-one i in
       let t : m + 0 ≡ m = omega arith in
-      ap (start_at (m ∷ [])) (sym e) ∙ startAt-turns (m ∷ []) i ∙ ap (λ k. i * k) t
+      ap (start_at (m ∷ [])) (sym e) ∙ start_at_turns (m ∷ []) i ∙ ap (λ k. i * k) t
 
   pub free : NeverCollides moved 1 (m ∷ [])
   free i j h x =
@@ -165,7 +165,7 @@ module _ (u : FunctionUnit) (q m : ℕ) (a : Accepted u q m) where
 
   from : (s z : ℕ) → moved 1 s z ≡ true → From u q l s z
   from s z e =
-      let o = (moved-has R m n 1 s z e).1 in
+      let o = (moved_has R m n 1 s z e).1 in
       record {
         column = o.index + 1;
         least = omega arith;
@@ -180,12 +180,12 @@ module _ (u : FunctionUnit) (q m : ℕ) (a : Accepted u q m) where
       let here : place_of l c ≡ placeAt R m (c - 1) = ap (place_of l) (sym e) ∙ place_at R m n (c - 1) (omega arith) in
       same_test (moved 1 s (place_of l c)) (marked u q s c)
       (λ t.
-      let o = (moved-has R m n 1 s (place_of l c) t).1 in
+      let o = (moved_has R m n 1 s (place_of l c) t).1 in
       let same : o.index ≡ c - 1 = place-one R m o.index (c - 1) (o.place ∙ here) in
       ap (marked u q s) (sym e ∙ ap (λ k. k + 1) (sym same)) ∙ o.mark)
-      (λ t. subst (λ (z : ℕ). moved 1 s (place_of l z) ≡ true) e (moved-of R m n s (place_of l (c - 1 + 1)) (record { index = c - 1; inside = omega arith; place = sym (place_at R m n (c - 1) (omega arith)); mark = ap (marked u q s) e ∙ t })))
+      (λ t. subst (λ (z : ℕ). moved 1 s (place_of l z) ≡ true) e (moved_of R m n s (place_of l (c - 1 + 1)) (record { index = c - 1; inside = omega arith; place = sym (place_at R m n (c - 1) (omega arith)); mark = ap (marked u q s) e ∙ t })))
 
-  delayed : Delayed u q m (delayedUnit u q m)
+  delayed : Delayed u q m (delayed_unit u q m)
   unfolding unit_of
   delayed = record {
     sound = unit-of-sound 1 u.segments width moved counts inside-counts;
@@ -193,16 +193,16 @@ module _ (u : FunctionUnit) (q m : ℕ) (a : Accepted u q m) where
     segments = refl;
     plan = refl;
     places = l;
-    rule = by-rule T q m n (marked-bounded u) a.single a.room;
+    rule = by_rule T q m n (marked_bounded u) a.single a.room;
     width = ap (place_of l) size;
     marks = λ s c h k. ap (λ (t : Table). t 1 s (place_of l c)) table_is ∙ marks-moved s c h k;
     only = λ s z e. from s z (sym (ap (λ (t : Table). t 1 s z) table_is) ∙ e);
     never = subst (λ (t : Table). NeverCollides t 1 (m ∷ [])) (sym table_is) free;
   }
 
-pub delays-permit : DelaysPermit
-unfolding delaysOf
-delays-permit u q m e = subst (λ (x : Answer). Delayed u q m (outcome x u (delayedUnit u q m)).unit) (sym e) (delayed u q m (accepted u q m e))
+pub delays_permit : DelaysPermit
+unfolding delays_of
+delays_permit u q m e = subst (λ (x : Answer). Delayed u q m (outcome x u (delayed_unit u q m)).unit) (sym e) (delayed u q m (accepted u q m e))
 
 -- No other unit is one with delays
 
@@ -213,8 +213,8 @@ module _ (u v w : FunctionUnit) (q m : ℕ) (a : Delayed u q m v) (b : Delayed u
   -- a mark of one is a mark of the other
   mark-too : (x s z : ℕ) → marked v x s z ≡ true → marked w x s z ≡ true
   mark-too x s z e =
-      let n = (((sound-means v).0 a.sound).marks x s z e).0 in
-      let p = marked-place v x s z e in
+      let n = (((sound_means v).0 a.sound).marks x s z e).0 in
+      let p = marked_place v x s z e in
       let one : x ≡ 1 = omega (arith, n, p.tag1, a.functions) in
       let k = a.only s z (ap (λ t. marked v t s z) (sym one) ∙ e) in
       ap (λ t. marked w t s z) one
@@ -231,18 +231,18 @@ one_unit u v w q m a b = record {
 
 -- The refusals
 
-pub crowded-exactly : CrowdedExactly
+pub crowded_exactly : CrowdedExactly
 unfolding crowded
-crowded-exactly u q = (there, back)
+crowded_exactly u q = (there, back)
   where
     R : Marks
     R = marked u q
 
     there : crowded R ≡ true → TwoIn R
     there e =
-        let c = some-elim 33 (λ c. someBelow 17 (λ s. someBelow s (λ r. R r c && R s c))) e in
-        let s = some-elim 17 (λ s. someBelow s (λ r. R r c.at && R s c.at)) c.passed in
-        let r = some-elim s.at (λ r. R r c.at && R s.at c.at) s.passed in
+        let c = some_elim 33 (λ c. some_below 17 (λ s. some_below s (λ r. R r c && R s c))) e in
+        let s = some_elim 17 (λ s. some_below s (λ r. R r c.at && R s c.at)) c.passed in
+        let r = some_elim s.at (λ r. R r c.at && R s.at c.at) s.passed in
         record {
           column = c.at;
           segment = s.at;
@@ -254,13 +254,13 @@ crowded-exactly u q = (there, back)
 
     back : TwoIn R → crowded R ≡ true
     back t =
-        let b = marked-bounded u in
-        some-intro 33 (λ c. someBelow 17 (λ s. someBelow s (λ r. R r c && R s c))) t.column (b.column-lt q t.segment t.column t.mark)
-        (some-intro 17 (λ s. someBelow s (λ r. R r t.column && R s t.column)) t.segment (b.segment-lt q t.segment t.column t.mark)
-        (some-intro t.segment (λ r. R r t.column && R t.segment t.column) t.other t.order (and-true t.second t.mark)))
+        let b = marked_bounded u in
+        some_intro 33 (λ c. some_below 17 (λ s. some_below s (λ r. R r c && R s c))) t.column (b.column_lt q t.segment t.column t.mark)
+        (some_intro 17 (λ s. some_below s (λ r. R r t.column && R s t.column)) t.segment (b.segment_lt q t.segment t.column t.mark)
+        (some_intro t.segment (λ r. R r t.column && R t.segment t.column) t.other t.order (and_true t.second t.mark)))
 
-pub beyond-exactly : BeyondExactly
-beyond-exactly u q m single room = (there, back)
+pub beyond_exactly : BeyondExactly
+beyond_exactly u q m single room = (there, back)
   where
     R : Marks
     R = marked u q
@@ -272,7 +272,7 @@ beyond-exactly u q m single room = (there, back)
     l = places R m n
 
     rule : ByRule R m n l
-    rule = by-rule (marked u) q m n (marked-bounded u) single room
+    rule = by_rule (marked u) q m n (marked_bounded u) single room
 
     there : 32 < width_of R m n → Beyond R m n
     there h = record {

@@ -10,7 +10,7 @@ use borrow.Author.Tests.{le-leb, lt-leb}
 use lib.Dec.{leb}
 use lib.ListN.{get_or}
 use lib.Pow.{pow_mono}
-use Rattle.words.specs.Below.{someBelow}
+use Rattle.words.specs.Below.{some_below}
 use Rattle.words.proofs.Tests.{and_left}
 use Rattle.unit.specs.declared.FunctionUnit.{FunctionUnit}
 use Rattle.unit.specs.declared.Outcome.{Outcome}
@@ -18,60 +18,60 @@ use Rattle.unit.specs.declared.Refusal.{Refusal}
 use Rattle.unit.specs.declared.Refusal.TheVariants.{TwoMarks, BadInterval, PlaceBeyond}
 use Rattle.unit.specs.declared.Answer.{Answer}
 use Rattle.unit.specs.declared.Answer.TheVariants.{Done, Refused}
-use Rattle.unit.specs.Unit.{inside, place, word_at, marked, columnsOf, SoundUnit}
-use Rattle.unit.specs.Calls.{check, tagAnswer, unit_of, outcome}
-use Rattle.unit.proofs.Laws.{within, tag-accepted, tag-range}
-use Rattle.unit.proofs.SoundLaws.{Words, sound-means, sound-word}
-use Rattle.unit.proofs.ColumnLaws.{columns-word}
+use Rattle.unit.specs.Unit.{inside, place, word_at, marked, columns_of, SoundUnit}
+use Rattle.unit.specs.Calls.{check, tag_answer, unit_of, outcome}
+use Rattle.unit.proofs.Laws.{within, tag_accepted, tag_range}
+use Rattle.unit.proofs.SoundLaws.{Words, sound_means, sound_word}
+use Rattle.unit.proofs.ColumnLaws.{columns_word_lem}
 use Rattle.collision.specs.declared.Number.{Number}
 use Rattle.collision.specs.declared.Number.TheVariants as Number
-use Rattle.collision.specs.Vector.{marksOf}
-use Rattle.collision.specs.Answers.{answering, marksAnswer}
-use Rattle.delays.specs.Delays.{Marks, place_of, places, width_of, movedTable, crowded, delaysAnswer, delaysOf}
-use Rattle.delays.specs.Inner.{columnMarks, twoIn, Placed, Movable, left, Suited, placed_of}
+use Rattle.collision.specs.Vector.{marks_of}
+use Rattle.collision.specs.Answers.{answering, marks_answer}
+use Rattle.delays.specs.Delays.{Marks, place_of, places, width_of, moved_table, crowded, delays_answer, delays_of}
+use Rattle.delays.specs.Inner.{column_marks, two_in, Placed, Movable, left, Suited, placed_of}
 use Rattle.delays.proofs.PlaceLaws.{places-length, placeAt, place_at, place-first, place-order}
-use Rattle.delays.proofs.WordLaws.{columns-say, crowded-words}
+use Rattle.delays.proofs.WordLaws.{columns_say, crowded_words}
 
 -- The number of marks
 
-module _ (u : FunctionUnit) (q : ℕ) (t : tagAnswer u q ≡ Done) (n : Number) (e : n ≡ marksAnswer u q) where
-  value : n ≡ Number.Value (marksOf (marked u) q)
-  unfolding marksAnswer
-  value = e ∙ ap (λ (a : Answer). answering a (marksOf (marked u) q)) t
+module _ (u : FunctionUnit) (q : ℕ) (t : tag_answer u q ≡ Done) (n : Number) (e : n ≡ marks_answer u q) where
+  value : n ≡ Number.Value (marks_of (marked u) q)
+  unfolding marks_answer
+  value = e ∙ ap (λ (a : Answer). answering a (marks_of (marked u) q)) t
 
-  pub marks-given : (w : ℕ) → n ≡ Number.Value w → w ≡ marksOf (marked u) q
-  marks-given w g = let same : Number.Value w ≡ Number.Value (marksOf (marked u) q) = sym g ∙ value in cc
+  pub marks-given : (w : ℕ) → n ≡ Number.Value w → w ≡ marks_of (marked u) q
+  marks-given w g = let same : Number.Value w ≡ Number.Value (marks_of (marked u) q) = sym g ∙ value in cc
 
   pub marks-never : (why : Refusal) → n ≡ Number.Refused why → ⊥
-  marks-never why g = let never : Number.Refused why ≡ Number.Value (marksOf (marked u) q) = sym g ∙ value in let z : ◌≡◌ {A = ℕ} 0 1 = cc in omega arith
+  marks-never why g = let never : Number.Refused why ≡ Number.Value (marks_of (marked u) q) = sym g ∙ value in let z : ◌≡◌ {A = ℕ} 0 1 = cc in omega arith
 
 -- The words of a sound unit
 
-pub words_small : (u : FunctionUnit) (q : ℕ) → Words u → tagAnswer u q ≡ Done → (i : ℕ) → i < 32 → get_or (columnsOf u q) i 0 < 2 ^ u.segments
+pub words_small : (u : FunctionUnit) (q : ℕ) → Words u → tag_answer u q ≡ Done → (i : ℕ) → i < 32 → get_or (columns_of u q) i 0 < 2 ^ u.segments
 words_small u q n t i h =
-    let w = tag-range u q t in
+    let w = tag_range u q t in
     let e : i + 1 - 1 ≡ i = omega arith in
-    let word : get_or (columnsOf u q) i 0 ≡ word_at u q (i + 1) =
-    ap (λ k. get_or (columnsOf u q) k 0) (sym e) ∙ columns-word u q (i + 1) w.least w.most (omega arith) (omega arith) in
+    let word : get_or (columns_of u q) i 0 ≡ word_at u q (i + 1) =
+    ap (λ k. get_or (columns_of u q) k 0) (sym e) ∙ columns_word_lem u q (i + 1) w.least w.most (omega arith) (omega arith) in
     let below : place q (i + 1) < 128 = omega (arith, w.least, w.most) in
-    subst (λ (k : ℕ). k < 2 ^ u.segments) (sym word) (sound-word u (place q (i + 1)) n (tag-accepted u q t).sound below)
+    subst (λ (k : ℕ). k < 2 ^ u.segments) (sym word) (sound_word u (place q (i + 1)) n (tag_accepted u q t).sound below)
 
-pub words-16 : (u : FunctionUnit) (q : ℕ) → Words u → tagAnswer u q ≡ Done → (i : ℕ) → i < 32 → get_or (columnsOf u q) i 0 < 2 ^ 16
-words-16 u q n t i h =
-    lt_of_lt_of_le (words_small u q n t i h) (pow_mono ((sound-means u).0 (tag-accepted u q t).sound).segments.1)
+pub words_16 : (u : FunctionUnit) (q : ℕ) → Words u → tag_answer u q ≡ Done → (i : ℕ) → i < 32 → get_or (columns_of u q) i 0 < 2 ^ 16
+words_16 u q n t i h =
+    lt_of_lt_of_le (words_small u q n t i h) (pow_mono ((sound_means u).0 (tag_accepted u q t).sound).segments.1)
 
-pub crowded-is : (u : FunctionUnit) (q : ℕ) (columns : List ℕ) → Words u → tagAnswer u q ≡ Done → columns ≡ columnsOf u q
-    → someBelow 32 (λ i. twoIn (get_or columns i 0)) ≡ crowded (marked u q)
-crowded-is u q columns n t e =
-    ap (λ (l : List ℕ). someBelow 32 (λ i. twoIn (get_or l i 0))) e ∙ crowded-words (columnsOf u q) (words-16 u q n t)
-    ∙ ap crowded (columns-say u q (tag-range u q t))
+pub crowded_is : (u : FunctionUnit) (q : ℕ) (columns : List ℕ) → Words u → tag_answer u q ≡ Done → columns ≡ columns_of u q
+    → some_below 32 (λ i. two_in (get_or columns i 0)) ≡ crowded (marked u q)
+crowded_is u q columns n t e =
+    ap (λ (l : List ℕ). some_below 32 (λ i. two_in (get_or l i 0))) e ∙ crowded_words (columns_of u q) (words_16 u q n t)
+    ∙ ap crowded (columns_say u q (tag_range u q t))
 
-pub suited : (u : FunctionUnit) (q m : ℕ) (columns : List ℕ) → Words u → tagAnswer u q ≡ Done → columns ≡ columnsOf u q
-    → inside m 32 && leb (marksOf (marked u) q) m ≡ true → Suited u columns m
+pub suited : (u : FunctionUnit) (q m : ℕ) (columns : List ℕ) → Words u → tag_answer u q ≡ Done → columns ≡ columns_of u q
+    → inside m 32 && leb (marks_of (marked u) q) m ≡ true → Suited u columns m
 suited u q m columns n t e l =
     let w = within m 32 (and_left (inside m 32) _ l) in
     record {
-      sound = (tag-accepted u q t).sound;
+      sound = (tag_accepted u q t).sound;
       least = w.least;
       most = w.most;
       small = λ i h. subst (λ (c : List ℕ). get_or c i 0 < 2 ^ u.segments) (sym e) (words_small u q n t i h);
@@ -81,10 +81,10 @@ suited u q m columns n t e l =
 
 module _ (u : FunctionUnit) (columns : List ℕ) (m : ℕ) (s : Suited u columns m) where
   abbrev R : Marks
-  R = columnMarks columns
+  R = column_marks columns
 
   pub counts : SoundUnit u
-  counts = (sound-means u).0 s.sound
+  counts = (sound_means u).0 s.sound
 
   module _ (spots : List ℕ) (p : Placed R m u.columns spots) where
     pub width_is : get_or spots (u.columns - 1) 0 ≡ width_of R m u.columns
@@ -122,33 +122,33 @@ module _ (u : FunctionUnit) (columns : List ℕ) (m : ℕ) (s : Suited u columns
     ends-beyond h = rw (lt-leb (width_of R m u.columns) 32 (omega (arith, width_is)))
 
     pub ends-placed : (r : FunctionUnit) → get_or spots (u.columns - 1) 0 ≤ 32
-        → r ≡ unit_of 1 u.segments (get_or spots (u.columns - 1) 0) (movedTable R (places R m u.columns))
+        → r ≡ unit_of 1 u.segments (get_or spots (u.columns - 1) 0) (moved_table R (places R m u.columns))
         → ◌≡◌ {A = Outcome} (record { answer = Done; unit = r }) (placed_of u columns m)
     unfolding placed_of
     ends-placed r h e =
         rw (le-leb (width_of R m u.columns) 32 (omega (arith, width_is)))
-        (ap (λ (x : FunctionUnit). record { answer = Done; unit = x }) (e ∙ ap (λ w. unit_of 1 u.segments w (movedTable R (places R m u.columns))) width_is))
+        (ap (λ (x : FunctionUnit). record { answer = Done; unit = x }) (e ∙ ap (λ w. unit_of 1 u.segments w (moved_table R (places R m u.columns))) width_is))
 
 -- The call
 
 module _ (u : FunctionUnit) (q m : ℕ) where
-  pub tag-left : (why : Refusal) → tagAnswer u q ≡ Refused why → left u why ≡ delaysOf u q m
-  unfolding delaysOf delaysAnswer
+  pub tag-left : (why : Refusal) → tag_answer u q ≡ Refused why → left u why ≡ delays_of u q m
+  unfolding delays_of delays_answer
   tag-left why e = rw e
 
-  module _ (t : tagAnswer u q ≡ Done) where
-    pub crowded-left : crowded (marked u q) ≡ true → left u TwoMarks ≡ delaysOf u q m
-    unfolding delaysOf delaysAnswer
+  module _ (t : tag_answer u q ≡ Done) where
+    pub crowded-left : crowded (marked u q) ≡ true → left u TwoMarks ≡ delays_of u q m
+    unfolding delays_of delays_answer
     crowded-left e = rw (t, e)
 
     module _ (single : crowded (marked u q) ≡ false) where
-      pub latency-left : inside m 32 && leb (marksOf (marked u) q) m ≡ false → left u BadInterval ≡ delaysOf u q m
-      unfolding delaysOf delaysAnswer
+      pub latency-left : inside m 32 && leb (marks_of (marked u) q) m ≡ false → left u BadInterval ≡ delays_of u q m
+      unfolding delays_of delays_answer
       latency-left e = rw (t, single, e)
 
-      pub all_placed : (columns : List ℕ) → columns ≡ columnsOf u q → inside m 32 && leb (marksOf (marked u) q) m ≡ true → placed_of u columns m ≡ delaysOf u q m
-      unfolding delaysOf delaysAnswer placed_of
+      pub all_placed : (columns : List ℕ) → columns ≡ columns_of u q → inside m 32 && leb (marks_of (marked u) q) m ≡ true → placed_of u columns m ≡ delays_of u q m
+      unfolding delays_of delays_answer placed_of
       all_placed columns c e =
-          ap (λ (R : Marks). outcome (check (leb (width_of R m u.columns) 32) PlaceBeyond Done) u (unit_of 1 u.segments (width_of R m u.columns) (movedTable R (places R m u.columns))))
-          (ap columnMarks c ∙ columns-say u q (tag-range u q t))
+          ap (λ (R : Marks). outcome (check (leb (width_of R m u.columns) 32) PlaceBeyond Done) u (unit_of 1 u.segments (width_of R m u.columns) (moved_table R (places R m u.columns))))
+          (ap column_marks c ∙ columns_say u q (tag_range u q t))
           ∙ rw (t, single, e)

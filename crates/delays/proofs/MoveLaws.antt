@@ -10,30 +10,30 @@ use borrow.Author.Tests.{eqb-true, eq-eqb}
 use lib.Dec.{eqb}
 use lib.ListN.{get_or}
 use Rattle.words.specs.Bits.{is_set}
-use Rattle.words.specs.Below.{someBelow}
-use Rattle.words.proofs.Tests.{nowhere, and_left, and_right, and-true, same_test}
+use Rattle.words.specs.Below.{some_below}
+use Rattle.words.proofs.Tests.{nowhere, and_left, and_right, and_true, same_test}
 use Rattle.words.proofs.BitLaws.{set_below}
 use Rattle.unit.specs.declared.FunctionUnit.{FunctionUnit}
 use Rattle.unit.specs.Table.{Table, empty}
-use Rattle.unit.specs.Unit.{inside, goodCounts}
-use Rattle.unit.specs.Calls.{blank, unit_of, fresh_of, columnOf}
+use Rattle.unit.specs.Unit.{inside, good_counts}
+use Rattle.unit.specs.Calls.{blank, unit_of, fresh_of, column_of}
 use Rattle.unit.proofs.Laws.{inside_of}
-use Rattle.unit.proofs.TableLaws.{columnChanged, InCounts, unit-of-none, unit-of-column}
-use Rattle.delays.specs.Delays.{Marks, places, movedTable}
-use Rattle.delays.specs.Inner.{columnMarks, Movable}
+use Rattle.unit.proofs.TableLaws.{column_changed, InCounts, unit_of_none, unit_of_column}
+use Rattle.delays.specs.Delays.{Marks, places, moved_table}
+use Rattle.delays.specs.Inner.{column_marks, Movable}
 use Rattle.delays.proofs.PlaceLaws.{placeAt, place_at, place-first, place-one}
-use Rattle.delays.proofs.MovedLaws.{Old, moved-has, moved-of, moved_inside}
-use Rattle.delays.proofs.WordLaws.{mark-has}
+use Rattle.delays.proofs.MovedLaws.{Old, moved_has, moved_of, moved_inside}
+use Rattle.delays.proofs.WordLaws.{mark_has}
 
 module _ (R : Marks) (m : ℕ) where
   abbrev spot : ℕ → ℕ
   spot = placeAt R m
 
   abbrev moved_to : ℕ → Table
-  moved_to n = movedTable R (places R m n)
+  moved_to n = moved_table R (places R m n)
 
   moved-one : (n x s z : ℕ) → x ≡ 1 → Old R m n s z → moved_to n x s z ≡ true
-  moved-one n x s z e o = ap (λ k. moved_to n k s z) e ∙ moved-of R m n s z o
+  moved-one n x s z e o = ap (λ k. moved_to n k s z) e ∙ moved_of R m n s z o
 
   -- one column more
   old-more : (n s z : ℕ) → Old R m n s z → Old R m (n + 1) s z
@@ -48,10 +48,10 @@ module _ (R : Marks) (m : ℕ) where
       below : o.index < n + 1 → o.index ≤ n
       below h = omega arith
 
-  table_more : (n w : ℕ) → ((s : ℕ) → inside s 16 && is_set w (s - 1) ≡ R s (n + 1)) → columnChanged (moved_to n) 1 (spot n) w ≡ moved_to (n + 1)
+  table_more : (n w : ℕ) → ((s : ℕ) → inside s 16 && is_set w (s - 1) ≡ R s (n + 1)) → column_changed (moved_to n) 1 (spot n) w ≡ moved_to (n + 1)
   table_more n w word = λ i x y z. at x y z i
     where
-      at : (x y z : ℕ) → columnChanged (moved_to n) 1 (spot n) w x y z ≡ moved_to (n + 1) x y z
+      at : (x y z : ℕ) → column_changed (moved_to n) 1 (spot n) w x y z ≡ moved_to (n + 1) x y z
       at x y z = go (eqb x 1 && eqb z (spot n)) refl
         where
           go : (b : Bool) → eqb x 1 && eqb z (spot n) ≡ b → cond b (inside y 16 && is_set w (y - 1)) (moved_to n x y z) ≡ moved_to (n + 1) x y z
@@ -62,17 +62,17 @@ module _ (R : Marks) (m : ℕ) where
               ∙ same_test (R y (n + 1)) (moved_to (n + 1) x y z)
               (λ h. moved-one (n + 1) x y z p (record { index = n; inside = omega arith; place = sym q; mark = h }))
               (λ h.
-              let o = (moved-has R m (n + 1) x y z h).1 in
+              let o = (moved_has R m (n + 1) x y z h).1 in
               ap (λ k. R y (k + 1)) (sym (place-one R m o.index n (o.place ∙ q))) ∙ o.mark)
           go false e =
               same_test (moved_to n x y z) (moved_to (n + 1) x y z)
-              (λ h. let k = moved-has R m n x y z h in moved-one (n + 1) x y z k.0 (old-more n y z k.1))
+              (λ h. let k = moved_has R m n x y z h in moved-one (n + 1) x y z k.0 (old-more n y z k.1))
               (λ h.
-              let k = moved-has R m (n + 1) x y z h in
-              moved-one n x y z k.0 (old-less n y z k.1 (λ q. nowhere (sym e ∙ and-true (eq-eqb x 1 k.0) (eq-eqb z (spot n) q)))))
+              let k = moved_has R m (n + 1) x y z h in
+              moved-one n x y z k.0 (old-less n y z k.1 (λ q. nowhere (sym e ∙ and_true (eq-eqb x 1 k.0) (eq-eqb z (spot n) q)))))
 
   table_none : empty ≡ moved_to 0
-  unfolding movedTable places someBelow
+  unfolding moved_table places some_below
   table_none = λ i x y z. at x i
     where
       at : (x : ℕ) → false ≡ eqb x 1 && false
@@ -84,23 +84,23 @@ module _ (R : Marks) (m : ℕ) where
 
 module _ (columns spots : List ℕ) (m n segments width : ℕ) (a : Movable columns spots m n segments width) where
   abbrev M : Marks
-  M = columnMarks columns
+  M = column_marks columns
 
   abbrev unit_at : ℕ → FunctionUnit
   unit_at i = unit_of 1 segments width (moved_to M m i)
 
   pub unit-none : blank 1 segments width ≡ unit_at 0
-  unit-none = unit-of-none 1 segments width (moved_to M m 0) (table_none M m)
+  unit-none = unit_of_none 1 segments width (moved_to M m 0) (table_none M m)
 
   spot_is : (i : ℕ) → i < n → get_or spots i 0 ≡ spot M m i
   spot_is i h = a.placed.each i h ∙ place_at M m n i h
 
-  counts : goodCounts 1 segments width ≡ true
-  counts = and-true (inside_of segments 16 a.segment1 a.segment16) (inside_of width 32 a.width1 a.width32)
+  counts : good_counts 1 segments width ≡ true
+  counts = and_true (inside_of segments 16 a.segment1 a.segment16) (inside_of width 32 a.width1 a.width32)
 
   segment-most : (s i : ℕ) → M s (i + 1) ≡ true → (1 ≤ s) × (s ≤ segments)
   segment-most s i e =
-      let w = mark-has columns s (i + 1) e in
+      let w = mark_has columns s (i + 1) e in
       let b : i + 1 - 1 < 32 = omega (arith, w.column.most) in
       let l : s - 1 < segments = set_below (get_or columns (i + 1 - 1) 0) segments (s - 1) (a.small (i + 1 - 1) b) w.bit in
       (w.segment.least, omega (arith, w.segment.least))
@@ -111,20 +111,20 @@ module _ (columns spots : List ℕ) (m n segments width : ℕ) (a : Movable colu
       (λ k l. omega (arith, spot_is k (omega arith), a.within k (omega arith)))
 
   word-says : (i : ℕ) → i < 32 → (s : ℕ) → inside s 16 && is_set (get_or columns i 0) (s - 1) ≡ M s (i + 1)
-  unfolding columnMarks
+  unfolding column_marks
   word-says i h s =
       let b : i ≡ i + 1 - 1 = omega arith in
       ap (λ k. inside s 16 && is_set (get_or columns k 0) (s - 1)) b
       ∙ ap (λ t. inside s 16 && (t && is_set (get_or columns (i + 1 - 1) 0) (s - 1))) (sym (inside_of (i + 1) 32 (omega arith) (omega arith)))
 
-  pub unit-more : (i : ℕ) → i < n → (columnOf (unit_at i) 1 (get_or spots i 0) (get_or columns i 0)).unit ≡ unit_at (i + 1)
+  pub unit-more : (i : ℕ) → i < n → (column_of (unit_at i) 1 (get_or spots i 0) (get_or columns i 0)).unit ≡ unit_at (i + 1)
   unit-more i h =
       let w = get_or columns i 0 in
       let c = get_or spots i 0 in
-      unit-of-column 1 segments width (moved_to M m i) (moved_to M m (i + 1)) 1 c w counts (inside-counts i (omega arith)) (inside_of 1 1 (omega arith) (omega arith))
+      unit_of_column 1 segments width (moved_to M m i) (moved_to M m (i + 1)) 1 c w counts (inside-counts i (omega arith)) (inside_of 1 1 (omega arith) (omega arith))
       (inside_of c width (omega (arith, spot_is i h, place-first M m i)) (a.within i h)) (a.small i (omega (arith, a.few)))
-      (ap (λ (k : ℕ). columnChanged (moved_to M m i) 1 k w) (spot_is i h) ∙ table_more M m i w (word-says i (omega (arith, a.few))))
+      (ap (λ (k : ℕ). column_changed (moved_to M m i) 1 k w) (spot_is i h) ∙ table_more M m i w (word-says i (omega (arith, a.few))))
 
-pub fresh-is : (s w : ℕ) → (fresh_of 1 s w).unit ≡ blank 1 s w
+pub fresh_is : (s w : ℕ) → (fresh_of 1 s w).unit ≡ blank 1 s w
 unfolding fresh_of
-fresh-is s w = refl
+fresh_is s w = refl

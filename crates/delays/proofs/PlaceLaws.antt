@@ -12,42 +12,42 @@ use borrow.Author.Tests.{eq-eqb, not-true, not-false}
 use lib.Dec.{eqb}
 use lib.ListN.{length, get_or, length-append, get_or-append}
 use lib.Seq.{get_or_at}
-use Rattle.words.specs.Below.{someBelow, countBelow}
-use Rattle.words.proofs.Tests.{nowhere, and_left, and_right, and-true}
-use Rattle.words.proofs.BelowLaws.{some-intro, some-elim, count-start, count-more, least_first, least-skips, least-passes, max-above}
-use Rattle.words.proofs.CountLaws.{count-le, count-longer, some_left}
+use Rattle.words.specs.Below.{some_below, count_below}
+use Rattle.words.proofs.Tests.{nowhere, and_left, and_right, and_true}
+use Rattle.words.proofs.BelowLaws.{some_intro, some_elim, count_start, count_more, least_first, least_skips, least_passes, max_above}
+use Rattle.words.proofs.CountLaws.{count_le, count_longer, some_left}
 use Rattle.unit.specs.Table.{Table}
 use Rattle.collision.specs.Meaning.{Bounded}
-use Rattle.collision.specs.Vector.{marksOf}
-use Rattle.delays.specs.Delays.{Marks, place_of, last_of, sharing, taken, nextPlace, places, crowded}
-use Rattle.delays.proofs.RemainderLaws.{count-taken, one-remainder}
+use Rattle.collision.specs.Vector.{marks_of}
+use Rattle.delays.specs.Delays.{Marks, place_of, last_of, sharing, taken, next_place, places, crowded}
+use Rattle.delays.proofs.RemainderLaws.{count_taken, one_remainder}
 
 -- column i + 1 has place i of the list
-pub place-of : (l : List ℕ) (i : ℕ) → place_of l (i + 1) ≡ get_or l i 0
-place-of l i = ap (place_of l) (add-one i)
+pub place_of_lem : (l : List ℕ) (i : ℕ) → place_of l (i + 1) ≡ get_or l i 0
+place_of_lem l i = ap (place_of l) (add-one i)
 
 module _ (R : Marks) (m : ℕ) where
   pub places-length : (n : ℕ) → length (places R m n) ≡ n
   unfolding places
   places-length zero = refl
-  places-length (suc n) = length-append (places R m n) (nextPlace R m (places R m n) ∷ []) ∙ omega (arith, places-length n)
+  places-length (suc n) = length-append (places R m n) (next_place R m (places R m n) ∷ []) ∙ omega (arith, places-length n)
 
   -- the place of the column after the first i
   unfoldable pub placeAt : ℕ → ℕ
-  placeAt i = nextPlace R m (places R m i)
+  placeAt i = next_place R m (places R m i)
 
   found_at : (n i : ℕ) → i < n → get_or (places R m n) i 0 ≡ placeAt i
   unfolding places placeAt
   found_at zero i h = absurd (not-suc-le-zero h)
   found_at (suc n) i h = pick (eq-or-lt_of_le (le_of_suc-le-suc h)) (found_at n i)
     where
-      pick : (i ≡ n) ⊎ (i < n) → (i < n → get_or (places R m n) i 0 ≡ nextPlace R m (places R m i))
-          → get_or (places R m n ++ (nextPlace R m (places R m n) ∷ [])) i 0 ≡ nextPlace R m (places R m i)
-      pick (inl e) r = rw e (get_or_at (places R m n) (nextPlace R m (places R m n)) [] 0 n (places-length n))
-      pick (inr o) r = get_or-append (places R m n) (nextPlace R m (places R m n) ∷ []) 0 i (rw (places-length n) o) ∙ r o
+      pick : (i ≡ n) ⊎ (i < n) → (i < n → get_or (places R m n) i 0 ≡ next_place R m (places R m i))
+          → get_or (places R m n ++ (next_place R m (places R m n) ∷ [])) i 0 ≡ next_place R m (places R m i)
+      pick (inl e) r = rw e (get_or_at (places R m n) (next_place R m (places R m n)) [] 0 n (places-length n))
+      pick (inr o) r = get_or-append (places R m n) (next_place R m (places R m n) ∷ []) 0 i (rw (places-length n) o) ∙ r o
 
   pub place_at : (n i : ℕ) → i < n → place_of (places R m n) (i + 1) ≡ placeAt i
-  place_at n i h = place-of (places R m n) i ∙ found_at n i h
+  place_at n i h = place_of_lem (places R m n) i ∙ found_at n i h
 
   -- the last of n + 1 places
   pub last-is : (n : ℕ) → last_of (places R m (suc n)) ≡ placeAt n
@@ -62,7 +62,7 @@ module _ (R : Marks) (m : ℕ) where
   -- They rise
 
   pub place_after : (i : ℕ) → last_of (places R m i) < placeAt i
-  unfolding placeAt nextPlace
+  unfolding placeAt next_place
   place_after i = omega (arith, least_first m (last_of (places R m i) + 1) (λ p. not (taken R m (places R m i) p)))
 
   pub place-first : (i : ℕ) → 1 ≤ placeAt i
@@ -97,28 +97,28 @@ module _ (R : Marks) (m : ℕ) where
 
   -- all places before it are taken
   pub place-skips : (i p : ℕ) → last_of (places R m i) < p → p < placeAt i → taken R m (places R m i) p ≡ true
-  unfolding placeAt nextPlace
+  unfolding placeAt next_place
   place-skips i p h l =
       not-false (taken R m (places R m i) p)
-      (least-skips m (last_of (places R m i) + 1) (λ p. not (taken R m (places R m i) p)) p (omega arith) l)
+      (least_skips m (last_of (places R m i) + 1) (λ p. not (taken R m (places R m i) p)) p (omega arith) l)
 
 -- Remainders
 
-module _ (T : Table) (q m : ℕ) (b : Bounded T) (single : crowded (T q) ≡ false) (room : marksOf T q ≤ m) where
+module _ (T : Table) (q m : ℕ) (b : Bounded T) (single : crowded (T q) ≡ false) (room : marks_of T q ≤ m) where
   -- a column has marks in one segment only
   same-segment : (c r s : ℕ) → r < s → T q r c ≡ true → T q s c ≡ true → ⊥
   unfolding crowded
   same-segment c r s h x y =
       nowhere (sym single
-      ∙ some-intro 33 (λ c. someBelow 17 (λ s. someBelow s (λ r. T q r c && T q s c))) c (b.column-lt q s c y)
-      (some-intro 17 (λ s. someBelow s (λ r. T q r c && T q s c)) s (b.segment-lt q s c y)
-      (some-intro s (λ r. T q r c && T q s c) r h (and-true x y))))
+      ∙ some_intro 33 (λ c. some_below 17 (λ s. some_below s (λ r. T q r c && T q s c))) c (b.column_lt q s c y)
+      (some_intro 17 (λ s. some_below s (λ r. T q r c && T q s c)) s (b.segment_lt q s c y)
+      (some_intro s (λ r. T q r c && T q s c) r h (and_true x y))))
 
   -- an earlier column that shares a segment with a column marked in s is marked in s
   shares-mark : (s c d : ℕ) → T q s c ≡ true → sharing (T q) d c ≡ true → T q s d ≡ true
   unfolding sharing
   shares-mark s c d x e =
-      let p = some-elim 17 (λ s. T q s d && T q s c) e in
+      let p = some_elim 17 (λ s. T q s d && T q s c) e in
       let one = and_left (T q p.at d) _ p.passed in
       let two = and_right (T q p.at d) _ p.passed in
       subst (λ (r : ℕ). T q r d ≡ true) (equal p.at s (λ o. same-segment c p.at s o two x) (λ o. same-segment c s p.at o x two)) one
@@ -127,33 +127,33 @@ module _ (T : Table) (q m : ℕ) (b : Bounded T) (single : crowded (T q) ≡ fal
       equal x y f g = omega arith
 
   -- fewer than m earlier marks
-  few-earlier : (s i : ℕ) → T q s (i + 1) ≡ true → countBelow i (λ k. T q s (k + 1)) < m
-  unfolding marksOf
+  few-earlier : (s i : ℕ) → T q s (i + 1) ≡ true → count_below i (λ k. T q s (k + 1)) < m
+  unfolding marks_of
   few-earlier s i x =
-      let one : countBelow (i + 1) (λ k. T q s (k + 1)) ≡ 1 + countBelow i (λ k. T q s (k + 1)) =
-      count-more i (λ k. T q s (k + 1)) ∙ ap (λ a. cond a 1 0 + countBelow i (λ k. T q s (k + 1))) x in
-      let two : countBelow (i + 1 + 1) (λ c. T q s c) ≡ cond (T q s 0) 1 0 + countBelow (i + 1) (λ k. T q s (k + 1)) = count-start (i + 1) (λ c. T q s c) in
-      let three : countBelow (i + 1 + 1) (λ c. T q s c) ≤ countBelow 33 (λ c. T q s c) = count-longer (i + 1 + 1) 33 (λ c. T q s c) (omega (arith, b.column-lt q s (i + 1) x)) in
-      let four : countBelow 33 (λ c. T q s c) ≤ marksOf T q = max-above 17 (λ s. countBelow 33 (λ c. T q s c)) s (b.segment-lt q s (i + 1) x) in
+      let one : count_below (i + 1) (λ k. T q s (k + 1)) ≡ 1 + count_below i (λ k. T q s (k + 1)) =
+      count_more i (λ k. T q s (k + 1)) ∙ ap (λ a. cond a 1 0 + count_below i (λ k. T q s (k + 1))) x in
+      let two : count_below (i + 1 + 1) (λ c. T q s c) ≡ cond (T q s 0) 1 0 + count_below (i + 1) (λ k. T q s (k + 1)) = count_start (i + 1) (λ c. T q s c) in
+      let three : count_below (i + 1 + 1) (λ c. T q s c) ≤ count_below 33 (λ c. T q s c) = count_longer (i + 1 + 1) 33 (λ c. T q s c) (omega (arith, b.column_lt q s (i + 1) x)) in
+      let four : count_below 33 (λ c. T q s c) ≤ marks_of T q = max_above 17 (λ s. count_below 33 (λ c. T q s c)) s (b.segment_lt q s (i + 1) x) in
       omega (arith, room)
 
   -- the place of a marked column has a remainder that none of them has
   free-place : (s i : ℕ) → T q s (i + 1) ≡ true → taken (T q) m (places (T q) m i) (placeAt (T q) m i) ≡ false
-  unfolding placeAt nextPlace taken
+  unfolding placeAt next_place taken
   free-place s i x =
       let l = places (T q) m i in
       let start = last_of l + 1 in
       let n : length l ≡ i = places-length (T q) m i in
-      let few : countBelow m (λ k. someBelow (length l) (λ j. sharing (T q) (j + 1) (length l + 1) && eqb (place_of l (j + 1) % m) ((start + k) % m)))
-      ≤ countBelow (length l) (λ j. sharing (T q) (j + 1) (length l + 1)) =
-      count-taken m (length l) (λ j. sharing (T q) (j + 1) (length l + 1)) (λ j k. eqb (place_of l (j + 1) % m) ((start + k) % m)) (λ j h. one-remainder m start (place_of l (j + 1) % m)) in
-      let marks : countBelow (length l) (λ j. sharing (T q) (j + 1) (length l + 1)) ≤ countBelow (length l) (λ j. T q s (j + 1)) =
-      count-le (length l) (λ j. sharing (T q) (j + 1) (length l + 1)) (λ j. T q s (j + 1))
+      let few : count_below m (λ k. some_below (length l) (λ j. sharing (T q) (j + 1) (length l + 1) && eqb (place_of l (j + 1) % m) ((start + k) % m)))
+      ≤ count_below (length l) (λ j. sharing (T q) (j + 1) (length l + 1)) =
+      count_taken m (length l) (λ j. sharing (T q) (j + 1) (length l + 1)) (λ j k. eqb (place_of l (j + 1) % m) ((start + k) % m)) (λ j h. one_remainder m start (place_of l (j + 1) % m)) in
+      let marks : count_below (length l) (λ j. sharing (T q) (j + 1) (length l + 1)) ≤ count_below (length l) (λ j. T q s (j + 1)) =
+      count_le (length l) (λ j. sharing (T q) (j + 1) (length l + 1)) (λ j. T q s (j + 1))
       (λ j h e. shares-mark s (length l + 1) (j + 1) (subst (λ (k : ℕ). T q s (k + 1) ≡ true) (sym n) x) e) in
-      let below : countBelow (length l) (λ j. T q s (j + 1)) < m = subst (λ (k : ℕ). countBelow k (λ j. T q s (j + 1)) < m) (sym n) (few-earlier s i x) in
+      let below : count_below (length l) (λ j. T q s (j + 1)) < m = subst (λ (k : ℕ). count_below k (λ j. T q s (j + 1)) < m) (sym n) (few-earlier s i x) in
       let p = some_left m (λ k. taken (T q) m l (start + k)) (omega (arith, few)) in
       not-true (taken (T q) m l (placeAt (T q) m i))
-      (least-passes m start (λ p. not (taken (T q) m l p)) (start + p.at) (omega arith) (omega (arith, p.inside)) p.passed)
+      (least_passes m start (λ p. not (taken (T q) m l p)) (start + p.at) (omega arith) (omega (arith, p.inside)) p.passed)
 
   pub place-apart : (s j i : ℕ) → j < i → T q s (j + 1) ≡ true → T q s (i + 1) ≡ true → placeAt (T q) m j % m ≡ placeAt (T q) m i % m → ⊥
   unfolding taken sharing
@@ -162,6 +162,6 @@ module _ (T : Table) (q m : ℕ) (b : Bounded T) (single : crowded (T q) ≡ fal
       let n : length l ≡ i = places-length (T q) m i in
       let z : T q s (length l + 1) ≡ true = subst (λ (k : ℕ). T q s (k + 1) ≡ true) (sym n) x in
       nowhere (sym (free-place s i x)
-      ∙ some-intro (length l) (λ j. sharing (T q) (j + 1) (length l + 1) && eqb (place_of l (j + 1) % m) (placeAt (T q) m i % m)) j (omega (arith, n))
-      (and-true (some-intro 17 (λ s. T q s (j + 1) && T q s (length l + 1)) s (b.segment-lt q s (i + 1) x) (and-true y z))
+      ∙ some_intro (length l) (λ j. sharing (T q) (j + 1) (length l + 1) && eqb (place_of l (j + 1) % m) (placeAt (T q) m i % m)) j (omega (arith, n))
+      (and_true (some_intro 17 (λ s. T q s (j + 1) && T q s (length l + 1)) s (b.segment_lt q s (i + 1) x) (and_true y z))
       (eq-eqb (place_of l (j + 1) % m) (placeAt (T q) m i % m) (ap (λ k. k % m) (place_at (T q) m i j h) ∙ e))))

@@ -11,10 +11,10 @@ use lib.Dec.{eqb}
 use lib.ListN.{length}
 use lib.Seq.{ext_get_or}
 use Rattle.words.proofs.Tests.{and_left, and_right}
-use Rattle.words.proofs.BelowLaws.{some-elim}
+use Rattle.words.proofs.BelowLaws.{some_elim}
 use Rattle.unit.specs.Table.{Table}
 use Rattle.collision.specs.Meaning.{Bounded}
-use Rattle.collision.specs.Vector.{marksOf}
+use Rattle.collision.specs.Vector.{marks_of}
 use Rattle.delays.specs.Delays.{Marks, place_of, sharing, taken, places, crowded}
 use Rattle.delays.specs.Claims.{Barred, ByRule, OneWay}
 use Rattle.delays.proofs.PlaceLaws.{places-length, placeAt, place_at, place-before, place_after, place-skips, place-apart}
@@ -31,8 +31,8 @@ module _ (R : Marks) (m n : ℕ) where
   taken-barred i p h e =
       let k = places R m i in
       let size = places-length R m i in
-      let j = some-elim (length k) (λ j. sharing R (j + 1) (length k + 1) && eqb (place_of k (j + 1) % m) (p % m)) e in
-      let s = some-elim 17 (λ s. R s (j.at + 1) && R s (length k + 1)) (and_left (sharing R (j.at + 1) (length k + 1)) _ j.passed) in
+      let j = some_elim (length k) (λ j. sharing R (j + 1) (length k + 1) && eqb (place_of k (j + 1) % m) (p % m)) e in
+      let s = some_elim 17 (λ s. R s (j.at + 1) && R s (length k + 1)) (and_left (sharing R (j.at + 1) (length k + 1)) _ j.passed) in
       let o : j.at < i = omega (arith, j.inside, size) in
       record {
         segment = s.at;
@@ -64,8 +64,8 @@ module _ (R : Marks) (m n : ℕ) where
         (place-skips R m (c - 1) p (omega (arith, place-before R m n (c - 1) (omega arith))) (omega (arith, here))))
 
 -- where no column has two marks and no segment more than m, the places are by the rule
-pub by-rule : (T : Table) (q m n : ℕ) → Bounded T → crowded (T q) ≡ false → marksOf T q ≤ m → ByRule (T q) m n (places (T q) m n)
-by-rule T q m n b single room = record {
+pub by_rule : (T : Table) (q m n : ℕ) → Bounded T → crowded (T q) ≡ false → marks_of T q ≤ m → ByRule (T q) m n (places (T q) m n)
+by_rule T q m n b single room = record {
   count = places-length R m n;
   after = rule-after R m n;
   allowed = allowed;
@@ -89,8 +89,8 @@ by-rule T q m n b single room = record {
 -- No others
 
 -- earlier columns at the same places bar the same places
-barred-same : (R : Marks) (m : ℕ) (l k : List ℕ) (c p : ℕ) → ((d : ℕ) → d < c → place_of l d ≡ place_of k d) → Barred R m k c p → Barred R m l c p
-barred-same R m l k c p same b = record {
+barred_same : (R : Marks) (m : ℕ) (l k : List ℕ) (c p : ℕ) → ((d : ℕ) → d < c → place_of l d ≡ place_of k d) → Barred R m k c p → Barred R m l c p
+barred_same R m l k c p same b = record {
   segment = b.segment;
   earlier = b.earlier;
   least = b.least;
@@ -106,7 +106,7 @@ module _ (R : Marks) (m n : ℕ) (l k : List ℕ) (a : ByRule R m n l) (b : ByRu
       → place_of l c < place_of k c → ⊥
   not_earlier l k a b c h most same less =
       a.allowed c h most
-      (barred-same R m l k c (place_of l c) same
+      (barred_same R m l k c (place_of l c) same
       (b.first c (place_of l c) h most (omega (arith, same (c - 1) (omega arith), a.after c h most)) less))
 
   same_place : (c : ℕ) → c ≤ n → (d : ℕ) → d ≤ c → place_of l d ≡ place_of k d

@@ -3,11 +3,11 @@
 use Rattle.std.specs.Prelude.{ℕ, ◌-◌, ◌%◌, ◌≤◌, ◌<◌, ◌≡◌, true, false, ◌↔◌, List, [], ◌∷◌, length}
 use Rattle.unit.specs.declared.FunctionUnit.{FunctionUnit}
 use Rattle.unit.specs.declared.Answer.TheVariants.{Done}
-use Rattle.unit.specs.Unit.{marked, soundOf}
-use Rattle.unit.specs.Calls.{noPlan}
+use Rattle.unit.specs.Unit.{marked, sound_of}
+use Rattle.unit.specs.Calls.{no_plan}
 use Rattle.collision.specs.Pipeline.{NeverCollides}
-use Rattle.collision.specs.Vector.{marksOf}
-use Rattle.delays.specs.Delays.{Marks, place_of, width_of, crowded, delaysAnswer, delaysOf}
+use Rattle.collision.specs.Vector.{marks_of}
+use Rattle.delays.specs.Delays.{Marks, place_of, width_of, crowded, delays_answer, delays_of}
 
 -- The rule
 
@@ -44,10 +44,10 @@ pub record From (u : FunctionUnit) (q : ℕ) (places : List ℕ) (s z : ℕ) : T
 
 -- v is the unit of q with delay columns for m
 pub record Delayed (u : FunctionUnit) (q m : ℕ) (v : FunctionUnit) : Type 0 where
-  pub sound : soundOf v ≡ true
+  pub sound : sound_of v ≡ true
   pub functions : v.functions ≡ 1
   pub segments : v.segments ≡ u.segments
-  pub plan : v.plan ≡ noPlan
+  pub plan : v.plan ≡ no_plan
   pub places : List ℕ
   pub rule : ByRule (marked u q) m u.columns places
   pub width : v.columns ≡ place_of places u.columns
@@ -57,7 +57,7 @@ pub record Delayed (u : FunctionUnit) (q m : ℕ) (v : FunctionUnit) : Type 0 wh
 
 -- what an accepted call makes
 abbrev pub DelaysPermit : Type 0
-DelaysPermit = (u : FunctionUnit) (q m : ℕ) → delaysAnswer u q m ≡ Done → Delayed u q m (delaysOf u q m).unit
+DelaysPermit = (u : FunctionUnit) (q m : ℕ) → delays_answer u q m ≡ Done → Delayed u q m (delays_of u q m).unit
 
 -- that says all of it: no two units with delays differ in their counts or marks
 pub record Alike (v w : FunctionUnit) : Type 0 where
@@ -93,5 +93,5 @@ pub record Beyond (R : Marks) (m n : ℕ) : Type 0 where
 
 abbrev pub BeyondExactly : Type 0
 BeyondExactly =
-    (u : FunctionUnit) (q m : ℕ) → crowded (marked u q) ≡ false → marksOf (marked u) q ≤ m
+    (u : FunctionUnit) (q m : ℕ) → crowded (marked u q) ≡ false → marks_of (marked u) q ≤ m
     → (32 < width_of (marked u q) m u.columns) ↔ Beyond (marked u q) m u.columns

@@ -1,27 +1,27 @@
 // Delay columns for a wanted constant latency: the columns of a function are placed further apart, so that the latency never collides.
 // Every function here is proved, and every public one is total and without a `requires`; the crate assumes nothing of its own.
 ghost use Rattle.std.specs.Prelude.{◌≡◌, ◌&&◌, ◌||◌, ◌+◌, ◌*◌, ◌%◌, ◌≤◌, ◌<◌, leb, eqb, get_or};
-ghost use Rattle.words.specs.Below.{someBelow};
+ghost use Rattle.words.specs.Below.{some_below};
 ghost use Rattle.unit.specs.declared.Answer.TheVariants.{Done};
 ghost use Rattle.unit.specs.Unit.{inside, marked};
-ghost use Rattle.unit.specs.Calls.{tagAnswer, unit_of};
-ghost use Rattle.collision.specs.Vector.{meet, marksOf};
-ghost use Rattle.delays.specs.Delays.{places, movedTable, delaysOf};
-ghost use Rattle.delays.specs.Inner.{columnMarks, twoIn, takenAt, firstFor, placeFor, Placing, Placed, Movable, left, Suited, placed_of};
+ghost use Rattle.unit.specs.Calls.{tag_answer, unit_of};
+ghost use Rattle.collision.specs.Vector.{meet, marks_of};
+ghost use Rattle.delays.specs.Delays.{places, moved_table, delays_of};
+ghost use Rattle.delays.specs.Inner.{column_marks, two_in, taken_at, first_for, place_for, Placing, Placed, Movable, left, Suited, placed_of};
 
 use collision::Number;
 use unit::{Answer, FunctionUnit, Outcome, Refusal, Tag};
 
 // Whether a column has two marks.
 fn has_two(word: u16) -> bool
-    ensures { result ≡ twoIn word }
+    ensures { result ≡ two_in word }
 {
     1 < words::ones(word as u32)
 }
 
 // Whether some column has two marks.
 fn is_crowded(columns: [u16; 32]) -> bool
-    ensures { result ≡ someBelow 32 (λ i. twoIn (get_or columns i 0)) }
+    ensures { result ≡ some_below 32 (λ i. two_in (get_or columns i 0)) }
 {
     let mut i: usize = 0;
     while i < 32 {
@@ -51,7 +51,7 @@ fn is_taken_more(before: bool, one: u16, word: u16, spot: u16, rest: u16, latenc
 // Whether an earlier mark of the segment of the column after the first `count` has a place's remainder.
 fn is_taken(columns: [u16; 32], spots: [u16; 32], count: usize, place: u16, latency: u16) -> bool
     requires { (count < 32) × (1 ≤ latency) }
-    ensures { result ≡ takenAt columns spots count latency place }
+    ensures { result ≡ taken_at columns spots count latency place }
 {
     let word = columns[count];
     let rest = place % latency;
@@ -66,8 +66,8 @@ fn is_taken(columns: [u16; 32], spots: [u16; 32], count: usize, place: u16, late
 
 // The first place after the predecessor's.
 fn first_for(spots: [u16; 32], count: usize) -> u16
-    requires { (count < 32) × (firstFor spots count ≤ 33 * count + 1) }
-    ensures { result ≡ firstFor spots count }
+    requires { (count < 32) × (first_for spots count ≤ 33 * count + 1) }
+    ensures { result ≡ first_for spots count }
 {
     if count == 0 {
         return 1;
@@ -78,7 +78,7 @@ fn first_for(spots: [u16; 32], count: usize) -> u16
 // The place of the column after the first `count`: the first, or, where its segment bars it, a later one.
 fn place_for(columns: [u16; 32], spots: [u16; 32], count: usize, latency: u16) -> u16
     requires { Placing spots count latency }
-    ensures { (result ≡ placeFor columns spots count latency) × (result ≤ 33 * count + 33) }
+    ensures { (result ≡ place_for columns spots count latency) × (result ≤ 33 * count + 33) }
 {
     let first = first_for(spots, count);
     let mut place = first;
@@ -96,7 +96,7 @@ fn place_for(columns: [u16; 32], spots: [u16; 32], count: usize, latency: u16) -
 // The places of the first `count` columns.
 fn places_of(columns: [u16; 32], count: usize, latency: u16) -> [u16; 32]
     requires { (count ≤ 32) × (1 ≤ latency) × (latency ≤ 32) }
-    ensures { Placed (columnMarks columns) latency count result }
+    ensures { Placed (column_marks columns) latency count result }
 {
     let mut spots = [0u16; 32];
     let mut i: usize = 0;
@@ -118,7 +118,7 @@ fn moved_unit(
     width: u8,
 ) -> FunctionUnit
     requires { Movable columns spots latency count segments width }
-    ensures { result ≡ unit_of 1 segments width (movedTable (columnMarks columns) (places (columnMarks columns) latency count)) }
+    ensures { result ≡ unit_of 1 segments width (moved_table (column_marks columns) (places (column_marks columns) latency count)) }
 {
     let made = unit::fresh(1, segments, width);
     let mut unit = made.unit;
@@ -134,8 +134,8 @@ fn moved_unit(
 
 // Whether a latency can be wanted of a function: it is 1 to 32, and no less than the largest number of marks in a segment.
 fn is_latency(u: FunctionUnit, tag: Tag, latency: u8) -> bool
-    requires { tagAnswer u tag.0 ≡ Done }
-    ensures { result ≡ inside latency 32 && leb (marksOf (marked u) tag.0) latency }
+    requires { tag_answer u tag.0 ≡ Done }
+    ensures { result ≡ inside latency 32 && leb (marks_of (marked u) tag.0) latency }
 {
     if !words::is_inside(latency, 32) {
         return false;
@@ -177,7 +177,7 @@ fn place_all(u: FunctionUnit, columns: [u16; 32], latency: u16) -> Outcome
 
 // The one-function unit in which a function's columns are placed so that the latency never collides; the unit itself where that is refused.
 pub fn delays(u: FunctionUnit, tag: Tag, latency: u8) -> Outcome
-    ensures { result ≡ delaysOf u tag.0 latency }
+    ensures { result ≡ delays_of u tag.0 latency }
 {
     let checked = unit::check_tag(u, tag);
     match checked {

@@ -9,18 +9,18 @@ use lib.ListN.{length, get_or}
 use Rattle.words.specs.Bits.{is_set}
 use Rattle.unit.specs.declared.FunctionUnit.{FunctionUnit}
 use Rattle.unit.specs.Table.{Table}
-use Rattle.unit.specs.Unit.{inside, marked, soundOf}
+use Rattle.unit.specs.Unit.{inside, marked, sound_of}
 use Rattle.unit.specs.Lent.{mostStates}
 use Rattle.collision.specs.declared.Number.{Number}
 use Rattle.collision.specs.declared.Number.TheVariants as Number
 use Rattle.collision.specs.Pipeline.{Forbidden, NeverCollides}
 use Rattle.collision.specs.Meaning.{IsLargest, IsConstant, IsMostMarks}
-use Rattle.collision.specs.Answers.{vectorAnswer, boundAnswer, marksAnswer, upperAnswer, constantAnswer}
+use Rattle.collision.specs.Answers.{vector_answer, bound_answer, marks_answer, upper_answer, constant_answer}
 use Rattle.diagram.specs.Diagram.{width}
 use Rattle.diagram.specs.States.{Listed, Each, Distinct}
 use Rattle.clique.specs.Sets.{IsLargestClique}
 use Rattle.judge.specs.declared.Verdict.TheVariants as Verdict
-use Rattle.judge.specs.Judge.{judgeAnswer}
+use Rattle.judge.specs.Judge.{judge_answer}
 
 -- column t of the vector is 1 exactly for forbidden t, and n is the largest of them, or 0
 pub record VectorMeans (T : Table) (q word : ℕ) : Type 0 where
@@ -38,27 +38,27 @@ pub record IsUpper (T : Table) (q n : ℕ) : Type 0 where
 -- a question is answered for every unit and each of its tags, by a number that means this
 abbrev pub Answered : (FunctionUnit → ℕ → Number) → (Table → ℕ → ℕ → Type 0) → Type 0
 Answered asked Means =
-    (u : FunctionUnit) (q : ℕ) → soundOf u ≡ true → inside q u.functions ≡ true → (n : ℕ) × (asked u q ≡ Number.Value n) × Means (marked u) q n
+    (u : FunctionUnit) (q : ℕ) → sound_of u ≡ true → inside q u.functions ≡ true → (n : ℕ) × (asked u q ≡ Number.Value n) × Means (marked u) q n
 
 abbrev pub EveryVector : Type 0
-EveryVector = Answered vectorAnswer VectorMeans
+EveryVector = Answered vector_answer VectorMeans
 
 abbrev pub EveryLargestSet : Type 0
-EveryLargestSet = Answered boundAnswer IsLargestClique
+EveryLargestSet = Answered bound_answer IsLargestClique
 
 abbrev pub EveryUpper : Type 0
-EveryUpper = Answered upperAnswer IsUpper
+EveryUpper = Answered upper_answer IsUpper
 
 abbrev pub EveryConstant : Type 0
-EveryConstant = Answered constantAnswer IsConstant
+EveryConstant = Answered constant_answer IsConstant
 
 abbrev pub EveryMostMarks : Type 0
-EveryMostMarks = Answered marksAnswer IsMostMarks
+EveryMostMarks = Answered marks_answer IsMostMarks
 
 -- of 1 to 256 latencies, none of them 0, the judge says yes exactly when repeating them without end never collides, and else no
 abbrev pub JudgedExactly : Type 0
 JudgedExactly =
-    (u : FunctionUnit) (q : ℕ) (cycle : List ℕ) → soundOf u ≡ true → inside q u.functions ≡ true
+    (u : FunctionUnit) (q : ℕ) (cycle : List ℕ) → sound_of u ≡ true → inside q u.functions ≡ true
     → 1 ≤ length cycle → length cycle ≤ mostStates → ((i : ℕ) → i < length cycle → 1 ≤ get_or cycle i 0)
-    → ((judgeAnswer u q cycle ≡ Verdict.Yes) × NeverCollides (marked u) q cycle)
-    ⊎ ((judgeAnswer u q cycle ≡ Verdict.No) × (NeverCollides (marked u) q cycle → ⊥))
+    → ((judge_answer u q cycle ≡ Verdict.Yes) × NeverCollides (marked u) q cycle)
+    ⊎ ((judge_answer u q cycle ≡ Verdict.No) × (NeverCollides (marked u) q cycle → ⊥))

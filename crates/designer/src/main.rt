@@ -175,7 +175,7 @@ fn load_front(session: Session, file: &[u8], count: usize) -> Answered {
     conclude(reply, &area)
 }
 
-// No unit file has more than 268 bytes, and the answer to a longer one depends on its first 269 alone (`read-cut`, crate unit_file).
+// No unit file has more than 268 bytes, and the answer to a longer one depends on its first 269 alone (`read_cut`, crate unit_file).
 fn load(session: Session, name: &[u8]) -> Answered {
     let mut file = [0u8; 512];
     let found = files::load(name, &mut file);

@@ -18,8 +18,8 @@ pub record Clearing (before w : List ℕ) (slot : ℕ) : Type 0 where
   pub confined : Confined before w
   pub empty : (i : ℕ) → 256 ≤ i → i < slot → get_or w i 0 ≡ 0
 
-pub clear-start : (w : List ℕ) → 768 ≤ length w → Clearing w w 256
-clear-start w h = record {
+pub clear_start : (w : List ℕ) → 768 ≤ length w → Clearing w w 256
+clear_start w h = record {
   room = h;
   least = omega arith;
   most = omega arith;
@@ -27,8 +27,8 @@ clear-start w h = record {
   empty = λ i l m. absurd (omega arith);
 }
 
-pub clear-more : (before w : List ℕ) (slot : ℕ) → Clearing before w slot → slot < 512 → Clearing before (set w slot 0) (slot + 1)
-clear-more before w slot r h = record {
+pub clear_more : (before w : List ℕ) (slot : ℕ) → Clearing before w slot → slot < 512 → Clearing before (set w slot 0) (slot + 1)
+clear_more before w slot r h = record {
   room = r.room;
   least = omega arith;
   most = omega arith;
@@ -43,18 +43,18 @@ clear-more before w slot r h = record {
     go i l m (yes e) = rw e (get_or-set_same w slot 0 0 (omega arith))
     go i l m (no e) = get_or-set_other w slot i 0 0 e ∙ r.empty i l (omega arith)
 
-pub clear-end : (before w : List ℕ) (slot : ℕ) → Clearing before w slot → 512 ≤ slot → Cleared before w
-clear-end before w slot r h = record { confined = r.confined; empty = λ b l. r.empty (256 + b) (omega arith) (omega arith) }
+pub clear_end : (before w : List ℕ) (slot : ℕ) → Clearing before w slot → 512 ≤ slot → Cleared before w
+clear_end before w slot r h = record { confined = r.confined; empty = λ b l. r.empty (256 + b) (omega arith) (omega arith) }
 
 -- the index of no states
-pub clear-indexed : {before after : List ℕ} → 768 ≤ length before → Cleared before after → Indexed after 0
-clear-indexed h r = record {
+pub clear_indexed : {before after : List ℕ} → 768 ≤ length before → Cleared before after → Indexed after 0
+clear_indexed h r = record {
   room = omega arith;
   few = omega arith;
-  head-low = λ b l. omega (arith, r.empty b l);
+  head_low = λ b l. omega (arith, r.empty b l);
   head_in = λ b l p. absurd (omega (arith, r.empty b l));
-  head-last = λ b l j m o. absurd (not-suc-le-zero o);
-  link-low = λ i l. absurd (not-suc-le-zero l);
-  link-in = λ i l. absurd (not-suc-le-zero l);
-  link-last = λ i l. absurd (not-suc-le-zero l);
+  head_last = λ b l j m o. absurd (not-suc-le-zero o);
+  link_low = λ i l. absurd (not-suc-le-zero l);
+  link_in = λ i l. absurd (not-suc-le-zero l);
+  link_last = λ i l. absurd (not-suc-le-zero l);
 }

@@ -16,8 +16,8 @@ pub front_length : (new old : List ℕ) (i : ℕ) → i ≤ length new → i ≤
 front_length new old i h l = rw (length-append (take i new) (drop i old), length-take-le i new h, length-drop i old) (omega arith)
 
 -- the next element is written
-pub front-more : (new old : List ℕ) (i : ℕ) → i < length new → i < length old → set (front new old i) i (get_or new i 0) ≡ front new old (i + 1)
-front-more new old i h l =
+pub front_more : (new old : List ℕ) (i : ℕ) → i < length new → i < length old → set (front new old i) i (get_or new i 0) ≡ front new old (i + 1)
+front_more new old i h l =
     ap (λ x. set (take i new ++ x) i (get_or new i 0)) (drop-cons old i 0 l)
     ∙ set_at (take i new) (get_or old i 0) (drop (suc i) old) (get_or new i 0) i (length-take-le i new (le_of_lt h))
     ∙ sym (append_assoc (take i new) (get_or new i 0 ∷ []) (drop (suc i) old))

@@ -8,43 +8,43 @@ use native.Mathlib.Omega.{arith}
 use lib.ListN.{length, get_or, take}
 use lib.Seq.{get_or-take, length-take-le}
 use Rattle.diagram.specs.States.{Distinct}
-use Rattle.diagram.specs.Work.{stateIn, headIn, link_in, bucket, along, place_in, Indexed}
-use Rattle.diagram.proofs.PlaceLaws.{along-end, along-here, along-more, walk_start}
+use Rattle.diagram.specs.Work.{state_in, head_in, link_in, bucket, along, place_in, Indexed}
+use Rattle.diagram.proofs.PlaceLaws.{along_end, along-here, along-more, walk_start}
 
-pub bucket-lt : (x : ℕ) → bucket x < 256
-bucket-lt x = omega arith
+pub bucket_lt : (x : ℕ) → bucket x < 256
+bucket_lt x = omega arith
 
 -- a walk ends at the number of states, or at a place where the state stands
 pub data Ended (w : List ℕ) (k x r : ℕ) : Type 0 where
   missed : r ≡ k → Ended w k x r
-  stands : r < k → stateIn w r ≡ x → Ended w k x r
+  stands : r < k → state_in w r ≡ x → Ended w k x r
 
 module _ (w : List ℕ) (k : ℕ) (index : Indexed w k) (x : ℕ) where
   along-ended : (f at : ℕ) → at < f → at ≤ k → Ended w k x (along f w k x at)
   along-ended zero at p l = absurd (not-suc-le-zero p)
-  along-ended (suc f) at p l = go (along-ended f) (dec_lt 0 at) (ℕ_discrete (stateIn w (at - 1)) x)
+  along-ended (suc f) at p l = go (along-ended f) (dec_lt 0 at) (ℕ_discrete (state_in w (at - 1)) x)
     where
-      go : ((at : ℕ) → at < f → at ≤ k → Ended w k x (along f w k x at)) → Dec (0 < at) → Dec (stateIn w (at - 1) ≡ x)
+      go : ((at : ℕ) → at < f → at ≤ k → Ended w k x (along f w k x at)) → Dec (0 < at) → Dec (state_in w (at - 1) ≡ x)
           → Ended w k x (along (suc f) w k x at)
       go more (no z) d =
           let e : at ≡ 0 = omega arith in
-          rw e (missed (along-end (suc f) w k x))
+          rw e (missed (along_end (suc f) w k x))
       go more (yes s) (yes e) = rw (along-here f w k x at s e) (stands (omega arith) e)
       go more (yes s) (no ne) =
-          let h = index.link-low (at - 1) (omega arith) in
+          let h = index.link_low (at - 1) (omega arith) in
           rw (along-more f w k x at s ne (omega arith)) (more (link_in w (at - 1)) (omega arith) (omega arith))
 
-  same_place : place_in w k x ≡ along 257 w k x (headIn w (bucket x))
+  same_place : place_in w k x ≡ along 257 w k x (head_in w (bucket x))
   same_place =
-      let h = index.head-low (bucket x) (bucket-lt x) in
+      let h = index.head_low (bucket x) (bucket_lt x) in
       let few = index.few in
       (walk_start w k x index.room (bucket x) refl (omega arith)).same
 
   pub place-ended : Ended w k x (place_in w k x)
   place-ended =
-      let h = index.head-low (bucket x) (bucket-lt x) in
+      let h = index.head_low (bucket x) (bucket_lt x) in
       let few = index.few in
-      rw same_place (along-ended 257 (headIn w (bucket x)) (omega arith) h)
+      rw same_place (along-ended 257 (head_in w (bucket x)) (omega arith) h)
 
   pub place-le : place_in w k x ≤ k
   place-le = go (place_in w k x) place-ended
@@ -53,55 +53,55 @@ module _ (w : List ℕ) (k : ℕ) (index : Indexed w k) (x : ℕ) where
       go r (missed e) = omega arith
       go r (stands h e) = omega arith
 
-  pub place-listed : place_in w k x < k → stateIn w (place_in w k x) ≡ x
+  pub place-listed : place_in w k x < k → state_in w (place_in w k x) ≡ x
   place-listed = go (place_in w k x) place-ended
     where
-      go : (r : ℕ) → Ended w k x r → r < k → stateIn w r ≡ x
+      go : (r : ℕ) → Ended w k x r → r < k → state_in w r ≡ x
       go r (missed e) l = absurd (omega arith)
       go r (stands h e) l = e
 
-  pub place_none : ((i : ℕ) → i < k → stateIn w i ≡ x → ⊥) → place_in w k x ≡ k
+  pub place_none : ((i : ℕ) → i < k → state_in w i ≡ x → ⊥) → place_in w k x ≡ k
   place_none other = go (place_in w k x) place-ended
     where
       go : (r : ℕ) → Ended w k x r → r ≡ k
       go r (missed e) = e
       go r (stands h e) = absurd (other r h e)
 
-  module _ (i : ℕ) (inside : i < k) (here : stateIn w i ≡ x) where
+  module _ (i : ℕ) (inside : i < k) (here : state_in w i ≡ x) where
     -- a walk in the bucket of x that begins above the place i does not end below it
-    along-some : (f at : ℕ) → at < f → at ≤ k → (0 < at → bucket (stateIn w (at - 1)) ≡ bucket x) → i < at → along f w k x at < k
+    along-some : (f at : ℕ) → at < f → at ≤ k → (0 < at → bucket (state_in w (at - 1)) ≡ bucket x) → i < at → along f w k x at < k
     along-some zero at p l b q = absurd (not-suc-le-zero p)
-    along-some (suc f) at p l b q = go (along-some f) (ℕ_discrete (stateIn w (at - 1)) x)
+    along-some (suc f) at p l b q = go (along-some f) (ℕ_discrete (state_in w (at - 1)) x)
       where
-        go : ((at : ℕ) → at < f → at ≤ k → (0 < at → bucket (stateIn w (at - 1)) ≡ bucket x) → i < at → along f w k x at < k)
-            → Dec (stateIn w (at - 1) ≡ x) → along (suc f) w k x at < k
+        go : ((at : ℕ) → at < f → at ≤ k → (0 < at → bucket (state_in w (at - 1)) ≡ bucket x) → i < at → along f w k x at < k)
+            → Dec (state_in w (at - 1) ≡ x) → along (suc f) w k x at < k
         go more (yes s) = rw (along-here f w k x at (omega arith) s) (omega arith)
         go more (no s) =
-            let same : bucket (stateIn w (at - 1)) ≡ bucket x = b (omega arith) in
-            let h = index.link-low (at - 1) (omega arith) in
+            let same : bucket (state_in w (at - 1)) ≡ bucket x = b (omega arith) in
+            let h = index.link_low (at - 1) (omega arith) in
             rw (along-more f w k x at (omega arith) s (omega arith))
-            (more (link_in w (at - 1)) (omega arith) (omega arith) (λ pos. index.link-in (at - 1) (omega arith) pos ∙ same)
-            (below same (λ e. s (ap (stateIn w) e ∙ here)) (dec_lt i (link_in w (at - 1)))))
+            (more (link_in w (at - 1)) (omega arith) (omega arith) (λ pos. index.link_in (at - 1) (omega arith) pos ∙ same)
+            (below same (λ e. s (ap (state_in w) e ∙ here)) (dec_lt i (link_in w (at - 1)))))
           where
-            below : bucket (stateIn w (at - 1)) ≡ bucket x → (at - 1 ≡ i → ⊥) → Dec (i < link_in w (at - 1)) → i < link_in w (at - 1)
+            below : bucket (state_in w (at - 1)) ≡ bucket x → (at - 1 ≡ i → ⊥) → Dec (i < link_in w (at - 1)) → i < link_in w (at - 1)
             below same ne (yes h) = h
-            below same ne (no h) = absurd (index.link-last (at - 1) (omega arith) i (omega arith) (omega arith) (ap bucket here ∙ sym same))
+            below same ne (no h) = absurd (index.link_last (at - 1) (omega arith) i (omega arith) (omega arith) (ap bucket here ∙ sym same))
 
     pub place-some : place_in w k x < k
     place-some =
-        let h = index.head-low (bucket x) (bucket-lt x) in
+        let h = index.head_low (bucket x) (bucket_lt x) in
         let few = index.few in
         rw same_place
-        (along-some 257 (headIn w (bucket x)) (omega arith) h (index.head_in (bucket x) (bucket-lt x)) (below (dec_lt i (headIn w (bucket x)))))
+        (along-some 257 (head_in w (bucket x)) (omega arith) h (index.head_in (bucket x) (bucket_lt x)) (below (dec_lt i (head_in w (bucket x)))))
       where
-        below : Dec (i < headIn w (bucket x)) → i < headIn w (bucket x)
+        below : Dec (i < head_in w (bucket x)) → i < head_in w (bucket x)
         below (yes h) = h
-        below (no h) = absurd (index.head-last (bucket x) (bucket-lt x) i (omega arith) inside (ap bucket here))
+        below (no h) = absurd (index.head_last (bucket x) (bucket_lt x) i (omega arith) inside (ap bucket here))
 
     pub place_found : Distinct (take k w) → place_in w k x ≡ i
     place_found distinct = go (dec_lt (place_in w k x) i) (dec_lt i (place_in w k x))
       where
-        apart : (a b : ℕ) → a < b → b < k → stateIn w a ≡ x → stateIn w b ≡ x → ⊥
+        apart : (a b : ℕ) → a < b → b < k → state_in w a ≡ x → state_in w b ≡ x → ⊥
         apart a b l m p q =
             let few = index.few in
             let room = index.room in
@@ -119,22 +119,22 @@ pub index_kept : {w w' : List ℕ} (k : ℕ) → length w' ≡ length w → ((i 
 index_kept {w} {w'} k size same h = record {
   room = omega (arith, size, h.room);
   few = h.few;
-  head-low = λ b l. subst (λ (x : ℕ). x ≤ k) (sym (same (256 + b) (omega arith))) (h.head-low b l);
+  head_low = λ b l. subst (λ (x : ℕ). x ≤ k) (sym (same (256 + b) (omega arith))) (h.head_low b l);
   head_in = λ b l m.
       let e = same (256 + b) (omega arith) in
-      let r : 0 < headIn w b = omega arith in
-      ap bucket (ap (λ (x : ℕ). stateIn w' (x - 1)) e ∙ same (headIn w b - 1) (omega (arith, h.head-low b l, h.few))) ∙ h.head_in b l r;
-  head-last = λ b l j m o e.
-      h.head-last b l j (subst (λ (x : ℕ). x ≤ j) (same (256 + b) (omega arith)) m) o
+      let r : 0 < head_in w b = omega arith in
+      ap bucket (ap (λ (x : ℕ). state_in w' (x - 1)) e ∙ same (head_in w b - 1) (omega (arith, h.head_low b l, h.few))) ∙ h.head_in b l r;
+  head_last = λ b l j m o e.
+      h.head_last b l j (subst (λ (x : ℕ). x ≤ j) (same (256 + b) (omega arith)) m) o
       (ap bucket (sym (same j (omega (arith, h.few)))) ∙ e);
-  link-low = λ i l. subst (λ (x : ℕ). x ≤ i) (sym (same (512 + i) (omega (arith, h.few)))) (h.link-low i l);
-  link-in = λ i l m.
+  link_low = λ i l. subst (λ (x : ℕ). x ≤ i) (sym (same (512 + i) (omega (arith, h.few)))) (h.link_low i l);
+  link_in = λ i l m.
       let e = same (512 + i) (omega (arith, h.few)) in
       let r : 0 < link_in w i = omega arith in
-      ap bucket (ap (λ (x : ℕ). stateIn w' (x - 1)) e ∙ same (link_in w i - 1) (omega (arith, h.link-low i l, h.few)))
-      ∙ h.link-in i l r
+      ap bucket (ap (λ (x : ℕ). state_in w' (x - 1)) e ∙ same (link_in w i - 1) (omega (arith, h.link_low i l, h.few)))
+      ∙ h.link_in i l r
       ∙ ap bucket (sym (same i (omega (arith, h.few))));
-  link-last = λ i l j m o e.
-      h.link-last i l j (subst (λ (x : ℕ). x ≤ j) (same (512 + i) (omega (arith, h.few))) m) o
+  link_last = λ i l j m o e.
+      h.link_last i l j (subst (λ (x : ℕ). x ≤ j) (same (512 + i) (omega (arith, h.few))) m) o
       (ap bucket (sym (same j (omega (arith, h.few)))) ∙ e ∙ ap bucket (same i (omega (arith, h.few))));
 }

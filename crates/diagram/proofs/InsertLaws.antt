@@ -7,13 +7,13 @@ use native.Mathlib.Decide.{dec_lt, ℕ_discrete}
 use native.Mathlib.Omega.{arith}
 use lib.ListN.{length, get_or, take, set, length-set}
 use lib.Seq.{get_or-set_same, get_or-set_other, take-suc-set, take-set-le}
-use Rattle.diagram.specs.Work.{stateIn, headIn, link_in, bucket, Indexed}
+use Rattle.diagram.specs.Work.{state_in, head_in, link_in, bucket, Indexed}
 use Rattle.diagram.specs.Inner.{Confined, Grown}
-use Rattle.diagram.proofs.IndexLaws.{bucket-lt}
+use Rattle.diagram.proofs.IndexLaws.{bucket_lt}
 
 -- the words with the state x as number k, the last of the bucket b
 abbrev pub inserted : List ℕ → ℕ → ℕ → ℕ → List ℕ
-inserted w k x b = set (set (set w k x) (512 + k) (headIn w b)) (256 + b) (k + 1)
+inserted w k x b = set (set (set w k x) (512 + k) (head_in w b)) (256 + b) (k + 1)
 
 module _ (w : List ℕ) (k x b : ℕ) (room : 768 ≤ length w) (few : k < 256) (low : b < 256) where
   inserted-size : length (inserted w k x b) ≡ length w
@@ -21,42 +21,42 @@ module _ (w : List ℕ) (k x b : ℕ) (room : 768 ≤ length w) (few : k < 256) 
 
   elsewhere : (i : ℕ) → (i ≡ k → ⊥) → (i ≡ 512 + k → ⊥) → (i ≡ 256 + b → ⊥) → get_or (inserted w k x b) i 0 ≡ get_or w i 0
   elsewhere i p q r =
-      get_or-set_other (set (set w k x) (512 + k) (headIn w b)) (256 + b) i (k + 1) 0 r
-      ∙ get_or-set_other (set w k x) (512 + k) i (headIn w b) 0 q
+      get_or-set_other (set (set w k x) (512 + k) (head_in w b)) (256 + b) i (k + 1) 0 r
+      ∙ get_or-set_other (set w k x) (512 + k) i (head_in w b) 0 q
       ∙ get_or-set_other w k i x 0 p
 
   -- The words of the new state
 
-  state-new : stateIn (inserted w k x b) k ≡ x
+  state-new : state_in (inserted w k x b) k ≡ x
   state-new =
-      get_or-set_other (set (set w k x) (512 + k) (headIn w b)) (256 + b) k (k + 1) 0 (λ e. omega arith)
-      ∙ get_or-set_other (set w k x) (512 + k) k (headIn w b) 0 (λ e. omega arith)
+      get_or-set_other (set (set w k x) (512 + k) (head_in w b)) (256 + b) k (k + 1) 0 (λ e. omega arith)
+      ∙ get_or-set_other (set w k x) (512 + k) k (head_in w b) 0 (λ e. omega arith)
       ∙ get_or-set_same w k x 0 (omega arith)
 
-  link-new : link_in (inserted w k x b) k ≡ headIn w b
+  link-new : link_in (inserted w k x b) k ≡ head_in w b
   link-new =
-      get_or-set_other (set (set w k x) (512 + k) (headIn w b)) (256 + b) (512 + k) (k + 1) 0 (λ e. omega arith)
-      ∙ get_or-set_same (set w k x) (512 + k) (headIn w b) 0 (simp length-set (omega arith))
+      get_or-set_other (set (set w k x) (512 + k) (head_in w b)) (256 + b) (512 + k) (k + 1) 0 (λ e. omega arith)
+      ∙ get_or-set_same (set w k x) (512 + k) (head_in w b) 0 (simp length-set (omega arith))
 
-  head-new : headIn (inserted w k x b) b ≡ k + 1
-  head-new = get_or-set_same (set (set w k x) (512 + k) (headIn w b)) (256 + b) (k + 1) 0 (simp length-set (omega arith))
+  head-new : head_in (inserted w k x b) b ≡ k + 1
+  head-new = get_or-set_same (set (set w k x) (512 + k) (head_in w b)) (256 + b) (k + 1) 0 (simp length-set (omega arith))
 
   -- The words of the others
 
-  state-old : (i : ℕ) → i < k → stateIn (inserted w k x b) i ≡ stateIn w i
+  state-old : (i : ℕ) → i < k → state_in (inserted w k x b) i ≡ state_in w i
   state-old i h = elsewhere i (λ e. omega arith) (λ e. omega arith) (λ e. omega arith)
 
   link-old : (i : ℕ) → i < k → link_in (inserted w k x b) i ≡ link_in w i
   link-old i h = elsewhere (512 + i) (λ e. omega arith) (λ e. omega arith) (λ e. omega arith)
 
-  head-old : (c : ℕ) → c < 256 → (c ≡ b → ⊥) → headIn (inserted w k x b) c ≡ headIn w c
+  head-old : (c : ℕ) → c < 256 → (c ≡ b → ⊥) → head_in (inserted w k x b) c ≡ head_in w c
   head-old c h ne = elsewhere (256 + c) (λ e. omega arith) (λ e. omega arith) (λ e. ne (omega arith))
 
   inserted-listed : take (k + 1) (inserted w k x b) ≡ take k w ++ (x ∷ [])
   inserted-listed =
       ap (λ n. take n (inserted w k x b)) (add-one k)
-      ∙ take-set-le (suc k) (set (set w k x) (512 + k) (headIn w b)) (256 + b) (k + 1) (omega arith)
-      ∙ take-set-le (suc k) (set w k x) (512 + k) (headIn w b) (omega arith)
+      ∙ take-set-le (suc k) (set (set w k x) (512 + k) (head_in w b)) (256 + b) (k + 1) (omega arith)
+      ∙ take-set-le (suc k) (set w k x) (512 + k) (head_in w b) (omega arith)
       ∙ take-suc-set w k x (omega arith)
 
   inserted-confined : Confined w (inserted w k x b)
@@ -84,92 +84,92 @@ module _ (w : List ℕ) (k x b : ℕ) (e : b ≡ bucket x) (few : k < 256) (old 
   room = old.room
 
   low : b < 256
-  low = rw e (bucket-lt x)
+  low = rw e (bucket_lt x)
 
-  bucket-old : (i : ℕ) → i < k → bucket (stateIn (inserted w k x b) i) ≡ bucket (stateIn w i)
+  bucket-old : (i : ℕ) → i < k → bucket (state_in (inserted w k x b) i) ≡ bucket (state_in w i)
   bucket-old i h = ap bucket (state-old w k x b room few low i h)
 
-  bucket-new : bucket (stateIn (inserted w k x b) k) ≡ b
+  bucket-new : bucket (state_in (inserted w k x b) k) ≡ b
   bucket-new = ap bucket (state-new w k x b room few low) ∙ sym e
 
-  head-low : (c : ℕ) → c < 256 → headIn (inserted w k x b) c ≤ k + 1
-  head-low c h = go (ℕ_discrete c b)
+  head_low : (c : ℕ) → c < 256 → head_in (inserted w k x b) c ≤ k + 1
+  head_low c h = go (ℕ_discrete c b)
     where
-      go : Dec (c ≡ b) → headIn (inserted w k x b) c ≤ k + 1
+      go : Dec (c ≡ b) → head_in (inserted w k x b) c ≤ k + 1
       go (yes s) = rw s (omega (arith, head-new w k x b room few low))
-      go (no s) = omega (arith, head-old w k x b room few low c h s, old.head-low c h)
+      go (no s) = omega (arith, head-old w k x b room few low c h s, old.head_low c h)
 
-  head_in : (c : ℕ) → c < 256 → 0 < headIn (inserted w k x b) c
-      → bucket (stateIn (inserted w k x b) (headIn (inserted w k x b) c - 1)) ≡ c
+  head_in : (c : ℕ) → c < 256 → 0 < head_in (inserted w k x b) c
+      → bucket (state_in (inserted w k x b) (head_in (inserted w k x b) c - 1)) ≡ c
   head_in c h = go (ℕ_discrete c b)
     where
-      go : Dec (c ≡ b) → 0 < headIn (inserted w k x b) c → bucket (stateIn (inserted w k x b) (headIn (inserted w k x b) c - 1)) ≡ c
+      go : Dec (c ≡ b) → 0 < head_in (inserted w k x b) c → bucket (state_in (inserted w k x b) (head_in (inserted w k x b) c - 1)) ≡ c
       go (yes s) p =
-          let at : headIn (inserted w k x b) c - 1 ≡ k = omega (arith, ap (headIn (inserted w k x b)) s, head-new w k x b room few low) in
-          ap (λ i. bucket (stateIn (inserted w k x b) i)) at ∙ bucket-new ∙ sym s
+          let at : head_in (inserted w k x b) c - 1 ≡ k = omega (arith, ap (head_in (inserted w k x b)) s, head-new w k x b room few low) in
+          ap (λ i. bucket (state_in (inserted w k x b) i)) at ∙ bucket-new ∙ sym s
       go (no s) p =
-          let at : headIn (inserted w k x b) c ≡ headIn w c = head-old w k x b room few low c h s in
-          ap (λ i. bucket (stateIn (inserted w k x b) (i - 1))) at
-          ∙ bucket-old (headIn w c - 1) (omega (arith, old.head-low c h))
+          let at : head_in (inserted w k x b) c ≡ head_in w c = head-old w k x b room few low c h s in
+          ap (λ i. bucket (state_in (inserted w k x b) (i - 1))) at
+          ∙ bucket-old (head_in w c - 1) (omega (arith, old.head_low c h))
           ∙ old.head_in c h (omega arith)
 
-  head-last : (c : ℕ) → c < 256 → (j : ℕ) → headIn (inserted w k x b) c ≤ j → j < k + 1 → bucket (stateIn (inserted w k x b) j) ≡ c → ⊥
-  head-last c h j l m q = go (recent k j m) l q (ℕ_discrete c b)
+  head_last : (c : ℕ) → c < 256 → (j : ℕ) → head_in (inserted w k x b) c ≤ j → j < k + 1 → bucket (state_in (inserted w k x b) j) ≡ c → ⊥
+  head_last c h j l m q = go (recent k j m) l q (ℕ_discrete c b)
     where
-      go : {j : ℕ} → Recent k j → headIn (inserted w k x b) c ≤ j → bucket (stateIn (inserted w k x b) j) ≡ c → Dec (c ≡ b) → ⊥
-      go newest l q (yes s) = omega (arith, ap (headIn (inserted w k x b)) s, head-new w k x b room few low)
+      go : {j : ℕ} → Recent k j → head_in (inserted w k x b) c ≤ j → bucket (state_in (inserted w k x b) j) ≡ c → Dec (c ≡ b) → ⊥
+      go newest l q (yes s) = omega (arith, ap (head_in (inserted w k x b)) s, head-new w k x b room few low)
       go newest l q (no s) = s (sym q ∙ bucket-new)
-      go (older {i = j} o) l q (yes s) = omega (arith, ap (headIn (inserted w k x b)) s, head-new w k x b room few low)
+      go (older {i = j} o) l q (yes s) = omega (arith, ap (head_in (inserted w k x b)) s, head-new w k x b room few low)
       go (older {i = j} o) l q (no s) =
-          old.head-last c h j (omega (arith, head-old w k x b room few low c h s)) o (sym (bucket-old j o) ∙ q)
+          old.head_last c h j (omega (arith, head-old w k x b room few low c h s)) o (sym (bucket-old j o) ∙ q)
 
-  link-low : (i : ℕ) → i < k + 1 → link_in (inserted w k x b) i ≤ i
-  link-low i h = go (recent k i h)
+  link_low : (i : ℕ) → i < k + 1 → link_in (inserted w k x b) i ≤ i
+  link_low i h = go (recent k i h)
     where
       go : {i : ℕ} → Recent k i → link_in (inserted w k x b) i ≤ i
-      go newest = omega (arith, link-new w k x b room few low, old.head-low b low)
-      go (older {i = i} o) = omega (arith, link-old w k x b room few low i o, old.link-low i o)
+      go newest = omega (arith, link-new w k x b room few low, old.head_low b low)
+      go (older {i = i} o) = omega (arith, link-old w k x b room few low i o, old.link_low i o)
 
-  link-in : (i : ℕ) → i < k + 1 → 0 < link_in (inserted w k x b) i
-      → bucket (stateIn (inserted w k x b) (link_in (inserted w k x b) i - 1)) ≡ bucket (stateIn (inserted w k x b) i)
-  link-in i h = go (recent k i h)
+  link_in : (i : ℕ) → i < k + 1 → 0 < link_in (inserted w k x b) i
+      → bucket (state_in (inserted w k x b) (link_in (inserted w k x b) i - 1)) ≡ bucket (state_in (inserted w k x b) i)
+  link_in i h = go (recent k i h)
     where
       go : {i : ℕ} → Recent k i → 0 < link_in (inserted w k x b) i
-          → bucket (stateIn (inserted w k x b) (link_in (inserted w k x b) i - 1)) ≡ bucket (stateIn (inserted w k x b) i)
+          → bucket (state_in (inserted w k x b) (link_in (inserted w k x b) i - 1)) ≡ bucket (state_in (inserted w k x b) i)
       go newest p =
-          let at : link_in (inserted w k x b) k ≡ headIn w b = link-new w k x b room few low in
-          ap (λ i. bucket (stateIn (inserted w k x b) (i - 1))) at
-          ∙ bucket-old (headIn w b - 1) (omega (arith, old.head-low b low))
+          let at : link_in (inserted w k x b) k ≡ head_in w b = link-new w k x b room few low in
+          ap (λ i. bucket (state_in (inserted w k x b) (i - 1))) at
+          ∙ bucket-old (head_in w b - 1) (omega (arith, old.head_low b low))
           ∙ old.head_in b low (omega arith)
           ∙ sym bucket-new
       go (older {i = i} o) p =
           let at : link_in (inserted w k x b) i ≡ link_in w i = link-old w k x b room few low i o in
-          ap (λ j. bucket (stateIn (inserted w k x b) (j - 1))) at
-          ∙ bucket-old (link_in w i - 1) (omega (arith, old.link-low i o))
-          ∙ old.link-in i o (omega arith)
+          ap (λ j. bucket (state_in (inserted w k x b) (j - 1))) at
+          ∙ bucket-old (link_in w i - 1) (omega (arith, old.link_low i o))
+          ∙ old.link_in i o (omega arith)
           ∙ sym (bucket-old i o)
 
-  link-last : (i : ℕ) → i < k + 1 → (j : ℕ) → link_in (inserted w k x b) i ≤ j → j < i
-      → bucket (stateIn (inserted w k x b) j) ≡ bucket (stateIn (inserted w k x b) i) → ⊥
-  link-last i h = go (recent k i h)
+  link_last : (i : ℕ) → i < k + 1 → (j : ℕ) → link_in (inserted w k x b) i ≤ j → j < i
+      → bucket (state_in (inserted w k x b) j) ≡ bucket (state_in (inserted w k x b) i) → ⊥
+  link_last i h = go (recent k i h)
     where
       go : {i : ℕ} → Recent k i → (j : ℕ) → link_in (inserted w k x b) i ≤ j → j < i
-          → bucket (stateIn (inserted w k x b) j) ≡ bucket (stateIn (inserted w k x b) i) → ⊥
+          → bucket (state_in (inserted w k x b) j) ≡ bucket (state_in (inserted w k x b) i) → ⊥
       go newest j l m q =
-          old.head-last b low j (omega (arith, link-new w k x b room few low)) m (sym (bucket-old j m) ∙ q ∙ bucket-new)
+          old.head_last b low j (omega (arith, link-new w k x b room few low)) m (sym (bucket-old j m) ∙ q ∙ bucket-new)
       go (older {i = i} o) j l m q =
-          old.link-last i o j (omega (arith, link-old w k x b room few low i o)) m (sym (bucket-old j (omega arith)) ∙ q ∙ bucket-old i o)
+          old.link_last i o j (omega (arith, link-old w k x b room few low i o)) m (sym (bucket-old j (omega arith)) ∙ q ∙ bucket-old i o)
 
   pub insert-indexed : Indexed (inserted w k x b) (k + 1)
   insert-indexed = record {
     room = omega (arith, inserted-size w k x b room few low, room);
     few = omega arith;
-    head-low = head-low;
+    head_low = head_low;
     head_in = head_in;
-    head-last = head-last;
-    link-low = link-low;
-    link-in = link-in;
-    link-last = link-last;
+    head_last = head_last;
+    link_low = link_low;
+    link_in = link_in;
+    link_last = link_last;
   }
 
   pub insert-grown : Grown w (inserted w k x b) (take k w ++ (x ∷ [])) (k + 1)

@@ -8,7 +8,7 @@ use native.Mathlib.Omega.{arith}
 use lib.Dec.{T, eqb, eqb→eq, eqb_refl}
 use lib.ListN.{length, get_or, length-append, get_or-append}
 use lib.Seq.{get_or-append_seam, get_or_at}
-use Rattle.words.proofs.Tests.{cond-elim, or_elim, or_left, or_right, clash-not}
+use Rattle.words.proofs.Tests.{cond_elim, or_elim, or_left, or_right, clash_not}
 use Rattle.diagram.specs.States.{Listed, Each, Distinct, has, add}
 
 -- What is listed
@@ -34,11 +34,11 @@ pub record Extends (l m : List ℕ) : Type 0 where
   pub longer : length l ≤ length m
   pub same : (i : ℕ) → i < length l → get_or m i 0 ≡ get_or l i 0
 
-pub extends-refl : (l : List ℕ) → Extends l l
-extends-refl l = record { longer = le_refl (length l); same = λ i h. refl }
+pub extends_refl : (l : List ℕ) → Extends l l
+extends_refl l = record { longer = le_refl (length l); same = λ i h. refl }
 
-pub extends-trans : {l m r : List ℕ} → Extends l m → Extends m r → Extends l r
-extends-trans p q = record {
+pub extends_trans : {l m r : List ℕ} → Extends l m → Extends m r → Extends l r
+extends_trans p q = record {
   longer = le_trans p.longer q.longer;
   same = λ i h. q.same i (lt_of_lt_of_le h p.longer) ∙ p.same i h;
 }
@@ -50,19 +50,19 @@ keep p r = record {
   found = p.same r.index r.inside ∙ r.found;
 }
 
-append-extends : (l : List ℕ) (x : ℕ) → Extends l (l ++ (x ∷ []))
-append-extends l x = record { longer = rw length-append (omega arith); same = λ i h. get_or-append l (x ∷ []) 0 i h }
+append_extends : (l : List ℕ) (x : ℕ) → Extends l (l ++ (x ∷ []))
+append_extends l x = record { longer = rw length-append (omega arith); same = λ i h. get_or-append l (x ∷ []) 0 i h }
 
 -- A number at the end
 
-pub append-each : (P : ℕ → Type 0) (l : List ℕ) (x : ℕ) → Each P l → P x → Each P (l ++ (x ∷ []))
-append-each P [] x f p zero h = p
-append-each P [] x f p (suc i) h = absurd (not-suc-le-zero (le_of_suc-le-suc h))
-append-each P (y ∷ l) x f p zero h = f 0 (zero-lt-suc (length l))
-append-each P (y ∷ l) x f p (suc i) h = append-each P l x (λ j k. f (suc j) (suc-le-suc k)) p i (le_of_suc-le-suc h)
+pub append_each : (P : ℕ → Type 0) (l : List ℕ) (x : ℕ) → Each P l → P x → Each P (l ++ (x ∷ []))
+append_each P [] x f p zero h = p
+append_each P [] x f p (suc i) h = absurd (not-suc-le-zero (le_of_suc-le-suc h))
+append_each P (y ∷ l) x f p zero h = f 0 (zero-lt-suc (length l))
+append_each P (y ∷ l) x f p (suc i) h = append_each P l x (λ j k. f (suc j) (suc-le-suc k)) p i (le_of_suc-le-suc h)
 
-append-distinct : (l : List ℕ) (x : ℕ) → Distinct l → ((i : ℕ) → i < length l → get_or l i 0 ≡ x → ⊥) → Distinct (l ++ (x ∷ []))
-append-distinct l x d f i j h k e = pick (dec_lt j (length l))
+append_distinct : (l : List ℕ) (x : ℕ) → Distinct l → ((i : ℕ) → i < length l → get_or l i 0 ≡ x → ⊥) → Distinct (l ++ (x ∷ []))
+append_distinct l x d f i j h k e = pick (dec_lt j (length l))
   where
     pick : Dec (j < length l) → ⊥
     pick (yes m) = d i j h m (sym (get_or-append l (x ∷ []) 0 i (omega arith)) ∙ e ∙ get_or-append l (x ∷ []) 0 j m)
@@ -70,23 +70,23 @@ append-distinct l x d f i j h k e = pick (dec_lt j (length l))
         let last : length l ≡ j = omega (arith, length-append l (x ∷ [])) in
         f i (omega arith) (sym (get_or-append l (x ∷ []) 0 i (omega arith)) ∙ e ∙ get_or_at l x [] 0 j last)
 
-pub one-distinct : (x : ℕ) → Distinct (x ∷ [])
-one-distinct x i j h k e = omega arith
+pub one_distinct : (x : ℕ) → Distinct (x ∷ [])
+one_distinct x i j h k e = omega arith
 
 -- A number added unless it is there
 
-pub add-extends : (x : ℕ) (l : List ℕ) → Extends l (add x l)
-add-extends x l = cond-elim (Extends l) (has x l) l (l ++ (x ∷ [])) (λ b. extends-refl l) (λ b. append-extends l x)
+pub add_extends : (x : ℕ) (l : List ℕ) → Extends l (add x l)
+add_extends x l = cond_elim (Extends l) (has x l) l (l ++ (x ∷ [])) (λ b. extends_refl l) (λ b. append_extends l x)
 
-pub add-listed : (x : ℕ) (l : List ℕ) → Listed x (add x l)
-add-listed x l =
-    cond-elim (Listed x) (has x l) l (l ++ (x ∷ [])) (has_listed x l)
+pub add_listed : (x : ℕ) (l : List ℕ) → Listed x (add x l)
+add_listed x l =
+    cond_elim (Listed x) (has x l) l (l ++ (x ∷ [])) (has_listed x l)
     (λ b. record { index = length l; inside = rw length-append (omega arith); found = get_or-append_seam l x [] 0 })
 
-pub add-each : (P : ℕ → Type 0) (x : ℕ) (l : List ℕ) → Each P l → P x → Each P (add x l)
-add-each P x l f p = cond-elim (Each P) (has x l) l (l ++ (x ∷ [])) (λ b. f) (λ b. append-each P l x f p)
+pub add_each : (P : ℕ → Type 0) (x : ℕ) (l : List ℕ) → Each P l → P x → Each P (add x l)
+add_each P x l f p = cond_elim (Each P) (has x l) l (l ++ (x ∷ [])) (λ b. f) (λ b. append_each P l x f p)
 
-pub add-distinct : (x : ℕ) (l : List ℕ) → Distinct l → Distinct (add x l)
-add-distinct x l d =
-    cond-elim Distinct (has x l) l (l ++ (x ∷ [])) (λ b. d)
-    (λ b. append-distinct l x d (λ i h e. clash-not (has x l) (listed_has x l i h e) b))
+pub add_distinct : (x : ℕ) (l : List ℕ) → Distinct l → Distinct (add x l)
+add_distinct x l d =
+    cond_elim Distinct (has x l) l (l ++ (x ∷ [])) (λ b. d)
+    (λ b. append_distinct l x d (λ i h e. clash_not (has x l) (listed_has x l i h e) b))

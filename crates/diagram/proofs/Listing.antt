@@ -11,10 +11,10 @@ use lib.Arith.{le→nltb}
 use lib.ListN.{length, get_or}
 use borrow.Author.Tests.{lt-ltb, le-ltb}
 use Rattle.words.specs.Bits.{bit}
-use Rattle.words.proofs.Tests.{cond-elim, both, and_intro, or_else, or-intro, clash-not}
+use Rattle.words.proofs.Tests.{cond_elim, both, and_intro, or_else, or_intro, clash_not}
 use Rattle.diagram.specs.Diagram.{next, longest, Permits, Walk, stay, step, Reachable}
 use Rattle.diagram.specs.States.{Listed, Each, Distinct, add, arc, expand, list_from, states}
-use Rattle.diagram.proofs.ListLaws.{Extends, extends-refl, extends-trans, keep, append-each, one-distinct, add-extends, add-listed, add-each, add-distinct}
+use Rattle.diagram.proofs.ListLaws.{Extends, extends_refl, extends_trans, keep, append_each, one_distinct, add_extends, add_listed, add_each, add_distinct}
 
 -- every arc from the state s leads into l; every arc from a state of l does
 abbrev pub Followed : ℕ → ℕ → ℕ → List ℕ → ℕ → Type 0
@@ -25,8 +25,8 @@ Closed g n cv l = Each (Followed g n cv l) l
 
 -- Arcs
 
-pub arc-permits : (g n s t : ℕ) → 1 ≤ t → t ≤ longest g n → T (arc g n s t) → Permits g n s t
-arc-permits g n s t h k b =
+pub arc_permits : (g n s t : ℕ) → 1 ≤ t → t ≤ longest g n → T (arc g n s t) → Permits g n s t
+arc_permits g n s t h k b =
     let p : T (leb g t) × T (ltb n t || eqb (bit s (t - 1)) 0) = both (leb g t) (ltb n t || eqb (bit s (t - 1)) 0) b in
     record {
       positive = h;
@@ -35,10 +35,10 @@ arc-permits g n s t h k b =
       free = λ l. eqb→eq (bit s (t - 1)) 0 (or_else (ltb n t) (eqb (bit s (t - 1)) 0) p.1 (le→nltb n t l));
     }
 
-pub permits-arc : (g n s t : ℕ) → Permits g n s t → T (arc g n s t)
-permits-arc g n s t p =
+pub permits_arc : (g n s t : ℕ) → Permits g n s t → T (arc g n s t)
+permits_arc g n s t p =
     and_intro (leb g t) (ltb n t || eqb (bit s (t - 1)) 0) (le→leb g t p.spaced)
-    (or-intro (ltb n t) (eqb (bit s (t - 1)) 0) (λ b. rw (p.free (nltb→le n t b)) (eqb_refl 0)))
+    (or_intro (ltb n t) (eqb (bit s (t - 1)) 0) (λ b. rw (p.free (nltb→le n t b)) (eqb_refl 0)))
 
 -- the list after the arc of s for the latency t
 abbrev pub visit : ℕ → ℕ → ℕ → ℕ → ℕ → List ℕ → List ℕ
@@ -68,10 +68,10 @@ module _ (g n cv : ℕ) where
 
   pub expand-extends : (s t m : ℕ) (l : List ℕ) → Extends l (expand g n cv s t m l)
   unfolding expand
-  expand-extends s t zero l = extends-refl l
+  expand-extends s t zero l = extends_refl l
   expand-extends s t (suc m) l =
-      extends-trans
-      (cond-elim (Extends l) (arc g n s t) (add (next cv s t) l) l (λ b. add-extends (next cv s t) l) (λ b. extends-refl l))
+      extends_trans
+      (cond_elim (Extends l) (arc g n s t) (add (next cv s t) l) l (λ b. add_extends (next cv s t) l) (λ b. extends_refl l))
       (expand-extends s (suc t) m (visit g n cv s t l))
 
   expand-distinct : (s t m : ℕ) (l : List ℕ) → Distinct l → Distinct (expand g n cv s t m l)
@@ -79,7 +79,7 @@ module _ (g n cv : ℕ) where
   expand-distinct s t zero l d = d
   expand-distinct s t (suc m) l d =
       expand-distinct s (suc t) m (visit g n cv s t l)
-      (cond-elim Distinct (arc g n s t) (add (next cv s t) l) l (λ b. add-distinct (next cv s t) l d) (λ b. d))
+      (cond_elim Distinct (arc g n s t) (add (next cv s t) l) l (λ b. add_distinct (next cv s t) l d) (λ b. d))
 
   -- what the latencies of s keep, they keep all together
   pub expand-each : (P : ℕ → Type 0) (s t m : ℕ) (l : List ℕ)
@@ -88,13 +88,13 @@ module _ (g n cv : ℕ) where
   expand-each P s t zero l leads f = f
   expand-each P s t (suc m) l leads f =
       expand-each P s (suc t) m (visit g n cv s t l) (λ u h k b. leads u (omega arith) (omega arith) b)
-      (cond-elim (Each P) (arc g n s t) (add (next cv s t) l) l
-      (λ b. add-each P (next cv s t) l f (leads t (le_refl t) (omega arith) b)) (λ b. f))
+      (cond_elim (Each P) (arc g n s t) (add (next cv s t) l) l
+      (λ b. add_each P (next cv s t) l f (leads t (le_refl t) (omega arith) b)) (λ b. f))
 
   visit-listed : (s t : ℕ) → Permits g n s t → (l : List ℕ) → Listed (next cv s t) (visit g n cv s t l)
   visit-listed s t p l =
-      cond-elim (Listed (next cv s t)) (arc g n s t) (add (next cv s t) l) l (λ b. add-listed (next cv s t) l)
-      (λ b. absurd (clash-not (arc g n s t) (permits-arc g n s t p) b))
+      cond_elim (Listed (next cv s t)) (arc g n s t) (add (next cv s t) l) l (λ b. add_listed (next cv s t) l)
+      (λ b. absurd (clash_not (arc g n s t) (permits_arc g n s t p) b))
 
   expand-listed : (s u : ℕ) → Permits g n s u → (t m : ℕ) (l : List ℕ) → t ≤ u → u < t + m → Listed (next cv s u) (expand g n cv s t m l)
   unfolding expand
@@ -111,9 +111,9 @@ module _ (g n cv : ℕ) where
   -- The search
 
   -- it goes on while a state is left to expand, and then ends
-  pub list-more : (f k : ℕ) (l : List ℕ) → k < length l → list_from g n cv (suc f) k l ≡ list_from g n cv f (suc k) (turn g n cv k l)
+  pub list_more : (f k : ℕ) (l : List ℕ) → k < length l → list_from g n cv (suc f) k l ≡ list_from g n cv f (suc k) (turn g n cv k l)
   unfolding list_from
-  list-more f k l h = ap (λ b. cond b (list_from g n cv f (suc k) (turn g n cv k l)) l) (lt-ltb k (length l) h)
+  list_more f k l h = ap (λ b. cond b (list_from g n cv f (suc k) (turn g n cv k l)) l) (lt-ltb k (length l) h)
 
   pub list-end : (f k : ℕ) (l : List ℕ) → length l ≤ k → list_from g n cv f k l ≡ l
   unfolding list_from
@@ -122,16 +122,16 @@ module _ (g n cv : ℕ) where
 
   pub list-extends : (f k : ℕ) (l : List ℕ) → Extends l (list_from g n cv f k l)
   unfolding list_from
-  list-extends zero k l = extends-refl l
+  list-extends zero k l = extends_refl l
   list-extends (suc f) k l =
-      cond-elim (Extends l) (ltb k (length l)) (list_from g n cv f (suc k) (turn g n cv k l)) l
-      (λ b. extends-trans (expand-extends (get_or l k 0) 1 (longest g n) l) (list-extends f (suc k) (turn g n cv k l))) (λ b. extends-refl l)
+      cond_elim (Extends l) (ltb k (length l)) (list_from g n cv f (suc k) (turn g n cv k l)) l
+      (λ b. extends_trans (expand-extends (get_or l k 0) 1 (longest g n) l) (list-extends f (suc k) (turn g n cv k l))) (λ b. extends_refl l)
 
   list-distinct : (f k : ℕ) (l : List ℕ) → Distinct l → Distinct (list_from g n cv f k l)
   unfolding list_from
   list-distinct zero k l d = d
   list-distinct (suc f) k l d =
-      cond-elim Distinct (ltb k (length l)) (list_from g n cv f (suc k) (turn g n cv k l)) l
+      cond_elim Distinct (ltb k (length l)) (list_from g n cv f (suc k) (turn g n cv k l)) l
       (λ b. list-distinct f (suc k) (turn g n cv k l) (expand-distinct (get_or l k 0) 1 (longest g n) l d)) (λ b. d)
 
   -- what every arc keeps holds of every state listed
@@ -140,10 +140,10 @@ module _ (g n cv : ℕ) where
   unfolding list_from
   list-each P leads zero k l r = r
   list-each P leads (suc f) k l r =
-      cond-elim (Each P) (ltb k (length l)) (list_from g n cv f (suc k) (turn g n cv k l)) l
+      cond_elim (Each P) (ltb k (length l)) (list_from g n cv f (suc k) (turn g n cv k l)) l
       (λ b. list-each P leads f (suc k) (turn g n cv k l)
       (expand-each P (get_or l k 0) 1 (longest g n) l
-      (λ u h m a. leads (get_or l k 0) u (r k (ltb→lt k (length l) b)) (arc-permits g n (get_or l k 0) u h (omega arith) a)) r))
+      (λ u h m a. leads (get_or l k 0) u (r k (ltb→lt k (length l) b)) (arc_permits g n (get_or l k 0) u h (omega arith) a)) r))
       (λ b. r)
 
   turn-followed : (k : ℕ) (l : List ℕ) → k < length l → ((i : ℕ) → i < k → Followed g n cv l (get_or l i 0))
@@ -167,7 +167,7 @@ module _ (g n cv : ℕ) where
   unfolding list_from
   list-closed zero k l h done = λ short. absurd (omega arith)
   list-closed (suc f) k l h done =
-      cond-elim (λ m. length m < k + suc f → Closed g n cv m) (ltb k (length l)) (list_from g n cv f (suc k) (turn g n cv k l)) l
+      cond_elim (λ m. length m < k + suc f → Closed g n cv m) (ltb k (length l)) (list_from g n cv f (suc k) (turn g n cv k l)) l
       (λ b short. list-closed f (suc k) (turn g n cv k l)
       (lt_of_lt_of_le (ltb→lt k (length l) b) (expand-extends (get_or l k 0) 1 (longest g n) l).longer)
       (turn-followed k l (ltb→lt k (length l) b) done) (omega arith))
@@ -180,12 +180,12 @@ module _ (g n cv : ℕ) where
     states-first = keep (list-extends (cap + 1) 0 (cv ∷ [])) (record { index = 0; inside = zero-lt-suc 0; found = refl })
 
     pub states-distinct : Distinct (states cap g n cv)
-    states-distinct = list-distinct (cap + 1) 0 (cv ∷ []) (one-distinct cv)
+    states-distinct = list-distinct (cap + 1) 0 (cv ∷ []) (one_distinct cv)
 
     -- what holds of the first state and along every arc holds of every state listed
     pub states-each : (P : ℕ → Type 0) → P cv → ((s t : ℕ) → P s → Permits g n s t → P (next cv s t)) → Each P (states cap g n cv)
     states-each P first leads =
-        list-each P leads (cap + 1) 0 (cv ∷ []) (append-each P [] cv (λ i h. absurd (not-suc-le-zero h)) first)
+        list-each P leads (cap + 1) 0 (cv ∷ []) (append_each P [] cv (λ i h. absurd (not-suc-le-zero h)) first)
 
     pub states-reached : Each (Reachable g n cv) (states cap g n cv)
     states-reached = states-each (Reachable g n cv) (record { along = []; walk = stay }) reach

@@ -9,9 +9,9 @@ use lib.ListN.{length, get_or}
 use borrow.Author.Tests.{le-leb, lt-leb}
 use Rattle.diagram.specs.Diagram.{width}
 use Rattle.diagram.specs.States.{states, ManyStates}
-use Rattle.diagram.specs.Work.{enlistAnswer, Enlisted}
+use Rattle.diagram.specs.Work.{enlist_answer, Enlisted}
 use Rattle.diagram.proofs.Listing.{states-first, states-distinct, states-reached, states-complete}
-use Rattle.diagram.proofs.Pigeon.{distinct-fits}
+use Rattle.diagram.proofs.Pigeon.{distinct_fits}
 
 module _ (g n cv : ℕ) where
   pub listed-many : 256 < length (states 256 g n cv) → ManyStates g n cv
@@ -32,7 +32,7 @@ module _ (g n cv : ℕ) where
           absurd
           (omega (
             arith,
-            distinct-fits r.some (states 256 g n cv) r.distinct
+            distinct_fits r.some (states 256 g n cv) r.distinct
                 (λ i l. states-complete g n cv 256 (omega arith) (get_or r.some i 0) (r.reached i l)),
           ))
 
@@ -41,18 +41,18 @@ module _ (g n cv : ℕ) where
 
 -- The answer for enough words
 
-pub answer-many : (room g cv : ℕ) → 768 ≤ room → 256 < length (states 256 g (width cv) cv) → enlistAnswer room g cv ≡ 0
-unfolding enlistAnswer
-answer-many room g cv h l = rw (le-leb 768 room h, lt-leb (length (states 256 g (width cv) cv)) 256 l)
+pub answer_many : (room g cv : ℕ) → 768 ≤ room → 256 < length (states 256 g (width cv) cv) → enlist_answer room g cv ≡ 0
+unfolding enlist_answer
+answer_many room g cv h l = rw (le-leb 768 room h, lt-leb (length (states 256 g (width cv) cv)) 256 l)
 
-pub answer-all : (room g cv : ℕ) → 768 ≤ room → length (states 256 g (width cv) cv) ≤ 256
-    → enlistAnswer room g cv ≡ length (states 256 g (width cv) cv)
-unfolding enlistAnswer
-answer-all room g cv h l = rw (le-leb 768 room h, le-leb (length (states 256 g (width cv) cv)) 256 l)
+pub answer_all : (room g cv : ℕ) → 768 ≤ room → length (states 256 g (width cv) cv) ≤ 256
+    → enlist_answer room g cv ≡ length (states 256 g (width cv) cv)
+unfolding enlist_answer
+answer_all room g cv h l = rw (le-leb 768 room h, le-leb (length (states 256 g (width cv) cv)) 256 l)
 
-pub enlisted-zero : {g cv r : ℕ} {before after : List ℕ} → 768 ≤ length before → Enlisted g cv before after r
+pub enlisted_zero : {g cv r : ℕ} {before after : List ℕ} → 768 ≤ length before → Enlisted g cv before after r
     → (r ≡ 0) ↔ ManyStates g (width cv) cv
-enlisted-zero {g} {cv} {r} {before} room e = (there, λ m. e.answer ∙ answer-many (length before) g cv room (many-listed g (width cv) cv m))
+enlisted_zero {g} {cv} {r} {before} room e = (there, λ m. e.answer ∙ answer_many (length before) g cv room (many-listed g (width cv) cv m))
   where
     there : r ≡ 0 → ManyStates g (width cv) cv
     there z = listed-many g (width cv) cv (go (dec_lt 256 (length (states 256 g (width cv) cv))))
@@ -60,5 +60,5 @@ enlisted-zero {g} {cv} {r} {before} room e = (there, λ m. e.answer ∙ answer-m
         go : Dec (256 < length (states 256 g (width cv) cv)) → 256 < length (states 256 g (width cv) cv)
         go (yes h) = h
         go (no h) =
-            let all : r ≡ length (states 256 g (width cv) cv) = e.answer ∙ answer-all (length before) g cv room (omega arith) in
+            let all : r ≡ length (states 256 g (width cv) cv) = e.answer ∙ answer_all (length before) g cv room (omega arith) in
             absurd (omega (arith, (states-first g (width cv) cv 256).inside))

@@ -43,45 +43,45 @@ pigeon (suc m) (suc j) f below apart =
     omega arith
 
 -- the first place of x in a list, or its length
-place-of : ℕ → List ℕ → ℕ
-place-of x [] = 0
-place-of x (y ∷ l) = pick (ℕ_discrete y x) 0 (suc (place-of x l))
+place_of_lem : ℕ → List ℕ → ℕ
+place_of_lem x [] = 0
+place_of_lem x (y ∷ l) = pick (ℕ_discrete y x) 0 (suc (place_of_lem x l))
 
-place_inside : (x : ℕ) (l : List ℕ) (i : ℕ) → i < length l → get_or l i 0 ≡ x → place-of x l < length l
-unfolding place-of
+place_inside : (x : ℕ) (l : List ℕ) (i : ℕ) → i < length l → get_or l i 0 ≡ x → place_of_lem x l < length l
+unfolding place_of_lem
 place_inside x [] i h e = absurd (not-suc-le-zero h)
 place_inside x (y ∷ l) zero h e = go (ℕ_discrete y x)
   where
-    go : (q : Dec (y ≡ x)) → pick q 0 (suc (place-of x l)) < suc (length l)
+    go : (q : Dec (y ≡ x)) → pick q 0 (suc (place_of_lem x l)) < suc (length l)
     go (yes p) = omega arith
     go (no p) = absurd (p e)
 place_inside x (y ∷ l) (suc i) h e = go (ℕ_discrete y x) (place_inside x l i (le_of_suc-le-suc h) e)
   where
-    go : (q : Dec (y ≡ x)) → place-of x l < length l → pick q 0 (suc (place-of x l)) < suc (length l)
+    go : (q : Dec (y ≡ x)) → place_of_lem x l < length l → pick q 0 (suc (place_of_lem x l)) < suc (length l)
     go (yes p) r = omega arith
     go (no p) r = omega arith
 
-place-has : (x : ℕ) (l : List ℕ) → place-of x l < length l → get_or l (place-of x l) 0 ≡ x
-unfolding place-of
-place-has x [] = λ h. absurd (not-suc-le-zero h)
-place-has x (y ∷ l) = go (ℕ_discrete y x) (place-has x l)
+place_has : (x : ℕ) (l : List ℕ) → place_of_lem x l < length l → get_or l (place_of_lem x l) 0 ≡ x
+unfolding place_of_lem
+place_has x [] = λ h. absurd (not-suc-le-zero h)
+place_has x (y ∷ l) = go (ℕ_discrete y x) (place_has x l)
   where
-    go : (q : Dec (y ≡ x)) → (place-of x l < length l → get_or l (place-of x l) 0 ≡ x)
-        → pick q 0 (suc (place-of x l)) < suc (length l) → get_or (y ∷ l) (pick q 0 (suc (place-of x l))) 0 ≡ x
+    go : (q : Dec (y ≡ x)) → (place_of_lem x l < length l → get_or l (place_of_lem x l) 0 ≡ x)
+        → pick q 0 (suc (place_of_lem x l)) < suc (length l) → get_or (y ∷ l) (pick q 0 (suc (place_of_lem x l))) 0 ≡ x
     go (yes p) r h = p
     go (no p) r h = r (le_of_suc-le-suc h)
 
-pub distinct-fits : (l m : List ℕ) → Distinct l → Each (λ x. Listed x m) l → length l ≤ length m
-distinct-fits l m d f = pigeon (length m) (length l) place inside apart
+pub distinct_fits : (l m : List ℕ) → Distinct l → Each (λ x. Listed x m) l → length l ≤ length m
+distinct_fits l m d f = pigeon (length m) (length l) place inside apart
   where
     place : ℕ → ℕ
-    place i = place-of (get_or l i 0) m
+    place i = place_of_lem (get_or l i 0) m
 
     inside : (i : ℕ) → i < length l → place i < length m
     inside i h = let r = f i h in place_inside (get_or l i 0) m r.index r.inside r.found
 
     has : (i : ℕ) → i < length l → get_or m (place i) 0 ≡ get_or l i 0
-    has i h = place-has (get_or l i 0) m (inside i h)
+    has i h = place_has (get_or l i 0) m (inside i h)
 
     apart : (i j : ℕ) → i < length l → j < length l → place i ≡ place j → i ≡ j
     apart i j h k e = go (dec_lt i j) (dec_lt j i)

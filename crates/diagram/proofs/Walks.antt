@@ -10,14 +10,14 @@ use lib.Seq.{take-length}
 use Rattle.collision.specs.Pipeline.{latency}
 use Rattle.words.specs.Bits.{bit}
 use Rattle.diagram.specs.Diagram.{next, Permits, Walk, stay, step}
-use Rattle.diagram.proofs.StateLaws.{bit-next}
+use Rattle.diagram.proofs.StateLaws.{bit_next}
 
 -- every bit of cv is set in s
 abbrev pub Contains : ℕ → ℕ → Type 0
 Contains cv s = (k : ℕ) → bit cv k ≡ 1 → bit s k ≡ 1
 
-pub next-contains : (cv s t : ℕ) → Contains cv (next cv s t)
-next-contains cv s t k h = omega (arith, bit-next cv s t k)
+pub next_contains : (cv s t : ℕ) → Contains cv (next cv s t)
+next_contains cv s t k h = omega (arith, bit_next cv s t k)
 
 -- the state to which the latencies l lead from s
 abbrev pub run : ℕ → ℕ → List ℕ → ℕ
@@ -25,20 +25,20 @@ run cv s [] = s
 run cv s (t ∷ l) = run cv (next cv s t) l
 
 -- the state before the i-th latency of the cycle l, from s on
-abbrev pub stateAt : ℕ → ℕ → List ℕ → ℕ → ℕ
-stateAt cv s l zero = s
-stateAt cv s l (suc i) = next cv (stateAt cv s l i) (latency l i)
+abbrev pub state_at : ℕ → ℕ → List ℕ → ℕ → ℕ
+state_at cv s l zero = s
+state_at cv s l (suc i) = next cv (state_at cv s l i) (latency l i)
 
-run-suc : (cv s : ℕ) (l : List ℕ) (i : ℕ) → i < length l → run cv s (take (suc i) l) ≡ next cv (run cv s (take i l)) (get_or l i 0)
-run-suc cv s [] i h = absurd (not-suc-le-zero h)
-run-suc cv s (t ∷ l) zero h = refl
-run-suc cv s (t ∷ l) (suc i) h = run-suc cv (next cv s t) l i (le_of_suc-le-suc h)
+run_suc : (cv s : ℕ) (l : List ℕ) (i : ℕ) → i < length l → run cv s (take (suc i) l) ≡ next cv (run cv s (take i l)) (get_or l i 0)
+run_suc cv s [] i h = absurd (not-suc-le-zero h)
+run_suc cv s (t ∷ l) zero h = refl
+run_suc cv s (t ∷ l) (suc i) h = run_suc cv (next cv s t) l i (le_of_suc-le-suc h)
 
 -- a full turn of the cycle leads back to s, so a turn in progress is all that counts
-pub stateAt-run : (cv s : ℕ) (l : List ℕ) → 0 < length l → run cv s l ≡ s → (j : ℕ) → stateAt cv s l j ≡ run cv s (take (j % length l) l)
-stateAt-run cv s l h e zero = rw zero-mod
-stateAt-run cv s l h e (suc j) =
-    ap (λ (x : ℕ). next cv x (latency l j)) (stateAt-run cv s l h e j) ∙ sym (run-suc cv s l (j % length l) (mod-lt j h))
+pub state_at_run : (cv s : ℕ) (l : List ℕ) → 0 < length l → run cv s l ≡ s → (j : ℕ) → state_at cv s l j ≡ run cv s (take (j % length l) l)
+state_at_run cv s l h e zero = rw zero-mod
+state_at_run cv s l h e (suc j) =
+    ap (λ (x : ℕ). next cv x (latency l j)) (state_at_run cv s l h e j) ∙ sym (run_suc cv s l (j % length l) (mod-lt j h))
     ∙ turn (eq-or-lt_of_le (mod-lt j h))
   where
     turn : (suc (j % length l) ≡ length l) ⊎ (suc (j % length l) < length l) → run cv s (take (suc (j % length l)) l) ≡ run cv s (take (suc j % length l) l)
@@ -48,7 +48,7 @@ stateAt-run cv s l h e (suc j) =
 module _ {g n cv : ℕ} where
   pub walk-contains : {s e : ℕ} {l : List ℕ} → Walk g n cv s l e → Contains cv s → Contains cv e
   walk-contains stay h = h
-  walk-contains (step {s = s} {t = t} p w) h = walk-contains w (next-contains cv s t)
+  walk-contains (step {s = s} {t = t} p w) h = walk-contains w (next_contains cv s t)
 
   pub walk-run : {s e : ℕ} {l : List ℕ} → Walk g n cv s l e → run cv s l ≡ e
   walk-run stay = refl
@@ -60,10 +60,10 @@ module _ {g n cv : ℕ} where
   walk-permits (step p w) (suc i) h = walk-permits w i (le_of_suc-le-suc h)
 
   -- a closed walk, repeated without end, goes on being permitted
-  pub cycle-permits : {s : ℕ} {l : List ℕ} → Walk g n cv s l s → 0 < length l → (j : ℕ) → Permits g n (stateAt cv s l j) (latency l j)
-  cycle-permits {s} {l} w h j = rw (stateAt-run cv s l h (walk-run w) j) (walk-permits w (j % length l) (mod-lt j h))
+  pub cycle-permits : {s : ℕ} {l : List ℕ} → Walk g n cv s l s → 0 < length l → (j : ℕ) → Permits g n (state_at cv s l j) (latency l j)
+  cycle-permits {s} {l} w h j = rw (state_at_run cv s l h (walk-run w) j) (walk-permits w (j % length l) (mod-lt j h))
 
 module _ (cv s : ℕ) (l : List ℕ) where
-  pub stateAt-contains : Contains cv s → (j : ℕ) → Contains cv (stateAt cv s l j)
+  pub stateAt-contains : Contains cv s → (j : ℕ) → Contains cv (state_at cv s l j)
   stateAt-contains h zero = h
-  stateAt-contains h (suc j) = next-contains cv (stateAt cv s l j) (latency l j)
+  stateAt-contains h (suc j) = next_contains cv (state_at cv s l j) (latency l j)

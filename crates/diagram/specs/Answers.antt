@@ -6,32 +6,32 @@ use Rattle.unit.specs.declared.Answer.{Answer}
 use Rattle.unit.specs.declared.Answer.TheVariants.{Done, Refused}
 use Rattle.unit.specs.Table.{Table}
 use Rattle.unit.specs.Unit.{marked}
-use Rattle.unit.specs.Calls.{check, andThen, tagAnswer}
+use Rattle.unit.specs.Calls.{check, and_then, tag_answer}
 use Rattle.collision.specs.declared.Number.{Number}
-use Rattle.collision.specs.Vector.{vectorWord}
+use Rattle.collision.specs.Vector.{vector_word}
 use Rattle.collision.specs.Answers.{answering}
 use Rattle.diagram.specs.Diagram.{width}
 use Rattle.diagram.specs.States.{states}
 
 -- the states of the diagram of a function with the least interval g, if they are at most 256; else more than 256 of them
-abbrev pub statesOf : ℕ → Table → ℕ → List ℕ
-statesOf g T q = states 256 g (width (vectorWord T q)) (vectorWord T q)
+abbrev pub states_of : ℕ → Table → ℕ → List ℕ
+states_of g T q = states 256 g (width (vector_word T q)) (vector_word T q)
 
 -- refused by 7 where they are more than 256
-abbrev pub fewStates : ℕ → Table → ℕ → Answer
-fewStates g T q = check (leb (length (statesOf g T q)) 256) TooManyStates Done
+abbrev pub few_states : ℕ → Table → ℕ → Answer
+few_states g T q = check (leb (length (states_of g T q)) 256) TooManyStates Done
 
-unfoldable pub statesRefusal : FunctionUnit → ℕ → ℕ → Answer
-statesRefusal u q room = andThen (tagAnswer u q) (check (leb 256 room) ShortOutput (fewStates 1 (marked u) q))
+unfoldable pub states_refusal : FunctionUnit → ℕ → ℕ → Answer
+states_refusal u q room = and_then (tag_answer u q) (check (leb 256 room) ShortOutput (few_states 1 (marked u) q))
 
 -- their number
-unfoldable pub statesAnswer : FunctionUnit → ℕ → ℕ → Number
-statesAnswer u q room = answering (statesRefusal u q room) (length (statesOf 1 (marked u) q))
+unfoldable pub states_answer : FunctionUnit → ℕ → ℕ → Number
+states_answer u q room = answering (states_refusal u q room) (length (states_of 1 (marked u) q))
 
 -- the list fills the front of the lent words, the others stay as before; a refused call changes none
 abbrev pub written : Answer → List ℕ → List ℕ → List ℕ
 written Done l words = l ++ drop (length l) words
 written (Refused why) l words = words
 
-unfoldable pub statesOut : FunctionUnit → ℕ → List ℕ → List ℕ
-statesOut u q words = written (statesRefusal u q (length words)) (statesOf 1 (marked u) q) words
+unfoldable pub states_out : FunctionUnit → ℕ → List ℕ → List ℕ
+states_out u q words = written (states_refusal u q (length words)) (states_of 1 (marked u) q) words

@@ -2,11 +2,11 @@
 use Rattle.std.specs.Prelude.{◌≡◌, List, [], ◌∷◌, ℕ, ◌+◌, ◌-◌, ◌/◌, ◌^◌, ◌≤◌, max}
 use Rattle.std.specs.Int.Bits.{bit_or}
 use Rattle.words.specs.Bits.{bit, is_set}
-use Rattle.words.specs.Below.{spanBelow}
+use Rattle.words.specs.Below.{span_below}
 
 -- n of a collision vector held in a 32-bit word: its largest column with a 1, or 0
 abbrev pub width : ℕ → ℕ
-width cv = spanBelow 32 (is_set cv)
+width cv = span_below 32 (is_set cv)
 
 -- the state to which the latency t leads from s: shifted right t places, zeros entering, OR the collision vector
 abbrev pub next : ℕ → ℕ → ℕ → ℕ

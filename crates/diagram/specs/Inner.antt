@@ -3,7 +3,7 @@ use Rattle.std.specs.Prelude.{◌≡◌, cond, List, ℕ, ◌-◌, ◌^◌, ◌�
 use Rattle.words.specs.Bits.{is_set}
 use Rattle.diagram.specs.Diagram.{next}
 use Rattle.diagram.specs.States.{add}
-use Rattle.diagram.specs.Work.{stateIn, headIn, Indexed}
+use Rattle.diagram.specs.Work.{state_in, head_in, Indexed}
 
 -- only the first 768 words may have changed
 pub record Confined (before after : List ℕ) : Type 0 where
@@ -13,7 +13,7 @@ pub record Confined (before after : List ℕ) : Type 0 where
 -- every bucket is empty
 pub record Cleared (before after : List ℕ) : Type 0 where
   pub confined : Confined before after
-  pub empty : (b : ℕ) → b < 256 → headIn after b ≡ 0
+  pub empty : (b : ℕ) → b < 256 → head_in after b ≡ 0
 
 -- the words hold the list of k states, with its index
 pub record Held (w : List ℕ) (k : ℕ) (l : List ℕ) : Type 0 where
@@ -35,4 +35,4 @@ pub record Ready (w : List ℕ) (k n at : ℕ) : Type 0 where
   pub index : Indexed w k
   pub inside : at < k
   pub narrow : n ≤ 32
-  pub small : stateIn w at < 2 ^ n
+  pub small : state_in w at < 2 ^ n

@@ -4,7 +4,7 @@ ghost use Rattle.std.specs.Prelude.{◌≡◌, false, [], ◌∷◌, ◌++◌, �
 ghost use Rattle.words.specs.Bits.{is_set};
 ghost use Rattle.diagram.specs.Diagram.{width, longest};
 ghost use Rattle.diagram.specs.States.{add, expand, states};
-ghost use Rattle.diagram.specs.Work.{stateIn, bucket, place_in, Indexed, Enlisted};
+ghost use Rattle.diagram.specs.Work.{state_in, bucket, place_in, Indexed, Enlisted};
 ghost use Rattle.diagram.specs.Inner.{Cleared, Held, Grown, Ready, visited};
 
 // n of a collision vector: its largest column with a 1, or 0.
@@ -99,7 +99,7 @@ fn visit(work: &mut [u32], count: usize, vector: u32, state: u32, latency: u32) 
 // passed over in one step.
 fn follow(work: &mut [u32], count: usize, vector: u32, columns: u32, at: usize) -> usize
     requires { Ready work.old count columns at }
-    ensures { Grown work.old work.new (expand 1 columns vector (stateIn work.old at) 1 (longest 1 columns) (take count work.old)) result }
+    ensures { Grown work.old work.new (expand 1 columns vector (state_in work.old at) 1 (longest 1 columns) (take count work.old)) result }
 {
     let state = work[at];
     let mut found = count;

@@ -5,11 +5,11 @@ use Rattle.unit.specs.declared.Refusal.TheVariants.{ShortOutput}
 use Rattle.unit.specs.declared.Answer.{Answer}
 use Rattle.unit.specs.declared.Answer.TheVariants.{Done, Refused}
 use Rattle.unit.specs.Unit.{marked}
-use Rattle.unit.specs.Calls.{check, andThen, tagAnswer}
+use Rattle.unit.specs.Calls.{check, and_then, tag_answer}
 use Rattle.diagram.specs.Answers.{written}
 use Rattle.drawing.specs.declared.Drawn.{Drawn}
 use Rattle.drawing.specs.declared.Drawn.TheVariants as Drawn
-use Rattle.drawing.specs.Tables.{tableText}
+use Rattle.drawing.specs.Tables.{table_text}
 
 -- the length of the text, where nothing is refused
 abbrev pub drawn : Answer → List ℕ → Drawn
@@ -18,16 +18,16 @@ drawn (Refused why) text = Drawn.Refused why
 
 -- The reservation table
 
-abbrev pub unitTable : FunctionUnit → ℕ → List ℕ
-unitTable u q = tableText (marked u) q u.segments u.columns
+abbrev pub unit_table : FunctionUnit → ℕ → List ℕ
+unit_table u q = table_text (marked u) q u.segments u.columns
 
 -- an area that is too short for the text is refused before a byte is written
-unfoldable pub tableRefusal : FunctionUnit → ℕ → ℕ → Answer
-tableRefusal u q room = andThen (tagAnswer u q) (check (leb (length (unitTable u q)) room) ShortOutput Done)
+unfoldable pub table_refusal : FunctionUnit → ℕ → ℕ → Answer
+table_refusal u q room = and_then (tag_answer u q) (check (leb (length (unit_table u q)) room) ShortOutput Done)
 
-unfoldable pub tableAnswer : FunctionUnit → ℕ → ℕ → Drawn
-tableAnswer u q room = drawn (tableRefusal u q room) (unitTable u q)
+unfoldable pub table_answer : FunctionUnit → ℕ → ℕ → Drawn
+table_answer u q room = drawn (table_refusal u q room) (unit_table u q)
 
 -- the text fills the front of the lent bytes, the others stay as before; a refused call changes none
-unfoldable pub tableOut : FunctionUnit → ℕ → List ℕ → List ℕ
-tableOut u q bytes = written (tableRefusal u q (length bytes)) (unitTable u q) bytes
+unfoldable pub table_out : FunctionUnit → ℕ → List ℕ → List ℕ
+table_out u q bytes = written (table_refusal u q (length bytes)) (unit_table u q) bytes

@@ -1,6 +1,6 @@
 -- The reservation table of a function as text: the numbers of the columns, and a row for each segment.
 use Rattle.std.specs.Prelude.{Bool, cond, List, [], ◌++◌, ℕ, ◌+◌, ◌-◌, length, replicate}
-use Rattle.words.specs.Below.{joinBelow}
+use Rattle.words.specs.Below.{join_below}
 use Rattle.text.specs.Text.{ascii, decimal}
 use Rattle.unit.specs.Table.{Table}
 
@@ -9,16 +9,16 @@ abbrev pub cell : List ℕ → List ℕ
 cell text = replicate (3 - length text) 32 ++ text
 
 -- `x` for a mark and `.` for none
-abbrev pub markText : Bool → List ℕ
-markText marked = cond marked (ascii "x") (ascii ".")
+abbrev pub mark_text : Bool → List ℕ
+mark_text marked = cond marked (ascii "x") (ascii ".")
 
 -- an empty cell, and the numbers of the columns
-unfoldable pub headText : ℕ → List ℕ
-headText columns = cell [] ++ joinBelow columns (λ c. cell (decimal (c + 1))) ++ ascii "\n"
+unfoldable pub head_text : ℕ → List ℕ
+head_text columns = cell [] ++ join_below columns (λ c. cell (decimal (c + 1))) ++ ascii "\n"
 
 -- the number of a segment, and its marks in each column
-unfoldable pub rowText : Table → ℕ → ℕ → ℕ → List ℕ
-rowText T q columns s = cell (decimal s) ++ joinBelow columns (λ c. cell (markText (T q s (c + 1)))) ++ ascii "\n"
+unfoldable pub row_text : Table → ℕ → ℕ → ℕ → List ℕ
+row_text T q columns s = cell (decimal s) ++ join_below columns (λ c. cell (mark_text (T q s (c + 1)))) ++ ascii "\n"
 
-unfoldable pub tableText : Table → ℕ → ℕ → ℕ → List ℕ
-tableText T q segments columns = headText columns ++ joinBelow segments (λ s. rowText T q columns (s + 1))
+unfoldable pub table_text : Table → ℕ → ℕ → ℕ → List ℕ
+table_text T q segments columns = head_text columns ++ join_below segments (λ s. row_text T q columns (s + 1))

@@ -3,7 +3,7 @@
 mod tables;
 
 ghost use Rattle.std.specs.Prelude.{◌≡◌, length};
-ghost use Rattle.drawing.specs.Answers.{tableAnswer, tableOut};
+ghost use Rattle.drawing.specs.Answers.{table_answer, table_out};
 
 use unit::{Answer, FunctionUnit, Refusal, Tag};
 
@@ -19,8 +19,8 @@ pub enum Drawn {
 
 // The reservation table of a function.
 pub fn table(u: FunctionUnit, tag: Tag, out: &mut [u8]) -> Drawn
-    ensures value { result ≡ tableAnswer u tag.0 (length out.old) }
-    ensures out_after { out.new ≡ tableOut u tag.0 out.old }
+    ensures value { result ≡ table_answer u tag.0 (length out.old) }
+    ensures out_after { out.new ≡ table_out u tag.0 out.old }
 {
     let checked = unit::check_tag(u, tag);
     match checked {

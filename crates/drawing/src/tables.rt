@@ -1,10 +1,10 @@
 // The reservation table, line by line and cell by cell.
 ghost use Rattle.std.specs.Prelude.{◌+◌, ◌*◌, ◌≤◌, ◌<◌, ◌≡◌, length};
-ghost use Rattle.words.specs.Below.{joinBelow};
+ghost use Rattle.words.specs.Below.{join_below};
 ghost use Rattle.text.specs.Text.{decimal};
 ghost use Rattle.text.specs.Wrote.{Put};
-ghost use Rattle.drawing.specs.Tables.{cell, markText, headText};
-ghost use Rattle.drawing.specs.Inner.{numberCell, markCell, lineText, lineLength, linesText};
+ghost use Rattle.drawing.specs.Tables.{cell, mark_text, head_text};
+ghost use Rattle.drawing.specs.Inner.{number_cell, mark_cell, line_text, line_length, lines_text};
 
 // A number below 100 at the right of a cell.
 fn put_number_cell(out: &mut [u8], at: usize, number: u32) -> usize
@@ -22,7 +22,7 @@ fn put_number_cell(out: &mut [u8], at: usize, number: u32) -> usize
 // A mark, or none, at the right of a cell.
 fn put_mark_cell(out: &mut [u8], at: usize, marked: bool) -> usize
     requires { at + 3 ≤ length out.old }
-    ensures { Put 3 out.old at (cell (markText marked)) out.new result }
+    ensures { Put 3 out.old at (cell (mark_text marked)) out.new result }
 {
     if marked {
         return text::put(out, at, b"  x");
@@ -33,7 +33,7 @@ fn put_mark_cell(out: &mut [u8], at: usize, marked: bool) -> usize
 // The numbers of the columns.
 fn put_numbers(out: &mut [u8], at: usize, columns: u32) -> usize
     requires { (columns ≤ 32) × (at + 3 * columns ≤ length out.old) }
-    ensures { Put (3 * columns) out.old at (joinBelow columns numberCell) out.new result }
+    ensures { Put (3 * columns) out.old at (join_below columns number_cell) out.new result }
 {
     let mut end = at;
     let mut column = 0;
@@ -46,8 +46,8 @@ fn put_numbers(out: &mut [u8], at: usize, columns: u32) -> usize
 
 // An empty cell, and the numbers of the columns.
 fn put_head(out: &mut [u8], columns: u32) -> usize
-    requires { (columns ≤ 32) × (lineLength columns ≤ length out.old) }
-    ensures { Put (lineLength columns) out.old 0 (headText columns) out.new result }
+    requires { (columns ≤ 32) × (line_length columns ≤ length out.old) }
+    ensures { Put (line_length columns) out.old 0 (head_text columns) out.new result }
 {
     let after_cell = text::put(out, 0, b"   ");
     let after_numbers = put_numbers(out, after_cell, columns);
@@ -57,7 +57,7 @@ fn put_head(out: &mut [u8], columns: u32) -> usize
 // The marks of a segment, counted from 0, in each column.
 fn put_marks(out: &mut [u8], at: usize, marks: [u16; 32], columns: u32, segment: u32) -> usize
     requires { (columns ≤ 32) × (at + 3 * columns ≤ length out.old) }
-    ensures { Put (3 * columns) out.old at (joinBelow columns (markCell marks segment)) out.new result }
+    ensures { Put (3 * columns) out.old at (join_below columns (mark_cell marks segment)) out.new result }
 {
     let mut end = at;
     let mut column = 0;
@@ -71,8 +71,8 @@ fn put_marks(out: &mut [u8], at: usize, marks: [u16; 32], columns: u32, segment:
 
 // The line of a segment, counted from 0: its number, and its marks.
 fn put_line(out: &mut [u8], at: usize, marks: [u16; 32], columns: u32, segment: u32) -> usize
-    requires { (columns ≤ 32) × (segment < 16) × (at + lineLength columns ≤ length out.old) }
-    ensures { Put (lineLength columns) out.old at (lineText marks columns segment) out.new result }
+    requires { (columns ≤ 32) × (segment < 16) × (at + line_length columns ≤ length out.old) }
+    ensures { Put (line_length columns) out.old at (line_text marks columns segment) out.new result }
 {
     let after_number = put_number_cell(out, at, segment + 1);
     let after_marks = put_marks(out, after_number, marks, columns, segment);
@@ -81,8 +81,8 @@ fn put_line(out: &mut [u8], at: usize, marks: [u16; 32], columns: u32, segment: 
 
 // The lines of the segments.
 fn put_rows(out: &mut [u8], at: usize, marks: [u16; 32], segments: u32, columns: u32) -> usize
-    requires { (segments ≤ 16) × (columns ≤ 32) × (at + lineLength columns * segments ≤ length out.old) }
-    ensures { Put (lineLength columns * segments) out.old at (joinBelow segments (lineText marks columns)) out.new result }
+    requires { (segments ≤ 16) × (columns ≤ 32) × (at + line_length columns * segments ≤ length out.old) }
+    ensures { Put (line_length columns * segments) out.old at (join_below segments (line_text marks columns)) out.new result }
 {
     let mut end = at;
     let mut segment = 0;
@@ -95,8 +95,8 @@ fn put_rows(out: &mut [u8], at: usize, marks: [u16; 32], segments: u32, columns:
 
 // The whole table from the words of a function's columns.
 pub fn put_lines(out: &mut [u8], marks: [u16; 32], segments: u32, columns: u32) -> usize
-    requires { (segments ≤ 16) × (columns ≤ 32) × (lineLength columns * (segments + 1) ≤ length out.old) }
-    ensures { Put (lineLength columns * (segments + 1)) out.old 0 (linesText marks segments columns) out.new result }
+    requires { (segments ≤ 16) × (columns ≤ 32) × (line_length columns * (segments + 1) ≤ length out.old) }
+    ensures { Put (line_length columns * (segments + 1)) out.old 0 (lines_text marks segments columns) out.new result }
 {
     let after_head = put_head(out, columns);
     put_rows(out, after_head, marks, segments, columns)
@@ -104,7 +104,7 @@ pub fn put_lines(out: &mut [u8], marks: [u16; 32], segments: u32, columns: u32) 
 
 // How many bytes a table has.
 pub fn length_of(segments: u8, columns: u8) -> usize
-    ensures { result ≡ lineLength columns * (segments + 1) }
+    ensures { result ≡ line_length columns * (segments + 1) }
 {
     (3 * (columns as usize) + 4) * (segments as usize + 1)
 }

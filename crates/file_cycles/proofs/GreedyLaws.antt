@@ -11,87 +11,87 @@ use Rattle.unit.specs.declared.Refusal.TheVariants.{NotSound}
 use Rattle.unit.specs.declared.Answer.{Answer}
 use Rattle.unit.specs.declared.Answer.TheVariants.{Done, Refused}
 use Rattle.unit.specs.Numbers.{number_of, number_in}
-use Rattle.unit.specs.Calls.{andThen, handed}
-use Rattle.unit.proofs.EndLaws.{then-kept}
-use Rattle.unit_file.specs.Read.{readAnswer, read_of, unitIn, tableIn}
-use Rattle.unit_file.proofs.AcceptedLaws.{read_answer}
-use Rattle.unit_file.proofs.AskedLaws.{unit-unread}
+use Rattle.unit.specs.Calls.{and_then, handed}
+use Rattle.unit.proofs.EndLaws.{then_kept}
+use Rattle.unit_file.specs.Read.{read_answer, read_of, unit_in, table_in}
+use Rattle.unit_file.proofs.AcceptedLaws.{read_answer_lem}
+use Rattle.unit_file.proofs.AskedLaws.{unit_unread}
 use Rattle.collision.specs.Pipeline.{total}
 use Rattle.diagram.specs.Answers.{written}
 use Rattle.cycles.specs.declared.GreedyAnswer.{GreedyAnswer}
 use Rattle.cycles.specs.declared.GreedyAnswer.TheVariants as GreedyAnswer
 use Rattle.cycles.specs.declared.Counted.{Counted}
-use Rattle.cycles.specs.Greedy.{greedyOf, greedyRefusal, counting, greedyAnswer, greedyOut, WorkAfter}
-use Rattle.cycles.proofs.EndLaws.{work-same}
-use Rattle.file_cycles.specs.Cycles.{cycleRefusal}
-use Rattle.file_cycles.specs.Inner.{readThen, cycleTold, cycleCount, cycleSum}
+use Rattle.cycles.specs.Greedy.{greedy_of, greedy_refusal, counting, greedy_answer, greedy_out, WorkAfter}
+use Rattle.cycles.proofs.EndLaws.{work_same}
+use Rattle.file_cycles.specs.Cycles.{cycle_refusal}
+use Rattle.file_cycles.specs.Inner.{read_then, cycle_told, cycle_count, cycle_sum}
 
 -- How a cycle's numbers are handed out
 
 abbrev pub CycleEnds : GreedyAnswer → ℕ → ℕ → ℕ → ℕ → ℕ → Type 0
-CycleEnds g count countAfter sum sumAfter r = (r ≡ cycleTold g) × ((countAfter ≡ cycleCount g count) × (sumAfter ≡ cycleSum g sum))
+CycleEnds g count countAfter sum sumAfter r = (r ≡ cycle_told g) × ((countAfter ≡ cycle_count g count) × (sumAfter ≡ cycle_sum g sum))
 
 module _ (read : Answer) (found : GreedyAnswer) (count sum : ℕ) where
-  cycle-same : (g : GreedyAnswer) → readThen read found ≡ g → CycleEnds (readThen read found) count (cycleCount g count) sum (cycleSum g sum) (cycleTold g)
-  cycle-same g e = (ap cycleTold (sym e), (ap (λ x. cycleCount x count) (sym e), ap (λ x. cycleSum x sum) (sym e)))
+  cycle-same : (g : GreedyAnswer) → read_then read found ≡ g → CycleEnds (read_then read found) count (cycle_count g count) sum (cycle_sum g sum) (cycle_told g)
+  cycle-same g e = (ap cycle_told (sym e), (ap (λ x. cycle_count x count) (sym e), ap (λ x. cycle_sum x sum) (sym e)))
 
-  pub cycle-unread : {why : Refusal} {r : ℕ} → read ≡ Refused why → r ≡ number_in read → CycleEnds (readThen read found) count count sum sum r
+  pub cycle-unread : {why : Refusal} {r : ℕ} → read ≡ Refused why → r ≡ number_in read → CycleEnds (read_then read found) count count sum sum r
   cycle-unread {why} e n =
-      let s = cycle-same (GreedyAnswer.Refused why) (ap (λ a. readThen a found) e) in
+      let s = cycle-same (GreedyAnswer.Refused why) (ap (λ a. read_then a found) e) in
       (n ∙ ap number_in e ∙ s.0, s.1)
 
-  pub cycle-found : {n : Counted} → read ≡ Done → found ≡ GreedyAnswer.Cycle n → CycleEnds (readThen read found) count n.count sum n.sum 0
-  cycle-found {n} d e = cycle-same (GreedyAnswer.Cycle n) (ap (λ a. readThen a found) d ∙ e)
+  pub cycle-found : {n : Counted} → read ≡ Done → found ≡ GreedyAnswer.Cycle n → CycleEnds (read_then read found) count n.count sum n.sum 0
+  cycle-found {n} d e = cycle-same (GreedyAnswer.Cycle n) (ap (λ a. read_then a found) d ∙ e)
 
   pub cycle-refused : {why : Refusal} {r : ℕ} → read ≡ Done → found ≡ GreedyAnswer.Refused why → r ≡ number_of why
-      → CycleEnds (readThen read found) count count sum sum r
+      → CycleEnds (read_then read found) count count sum sum r
   cycle-refused {why} d e n =
-      let s = cycle-same (GreedyAnswer.Refused why) (ap (λ a. readThen a found) d ∙ e) in
+      let s = cycle-same (GreedyAnswer.Refused why) (ap (λ a. read_then a found) d ∙ e) in
       (n ∙ s.0, s.1)
 
 -- a cycle that was counted, by the answer
-counted-ends : (a : Answer) (l : List ℕ) (count sum : ℕ)
-    → (cycleTold (counting a l) ≡ number_in a)
-    × ((cycleCount (counting a l) count ≡ handed a (length l) count) × (cycleSum (counting a l) sum ≡ handed a (total l) sum))
-counted-ends Done l count sum = (refl, (refl, refl))
-counted-ends (Refused why) l count sum = (refl, (refl, refl))
+counted_ends : (a : Answer) (l : List ℕ) (count sum : ℕ)
+    → (cycle_told (counting a l) ≡ number_in a)
+    × ((cycle_count (counting a l) count ≡ handed a (length l) count) × (cycle_sum (counting a l) sum ≡ handed a (total l) sum))
+counted_ends Done l count sum = (refl, (refl, refl))
+counted_ends (Refused why) l count sum = (refl, (refl, refl))
 
 -- the file's refusal, then the cycle's
-read-then : (a b : Answer) (l : List ℕ) → readThen a (counting b l) ≡ counting (andThen a b) l
-read-then Done b l = refl
-read-then (Refused why) b l = refl
+read_then_lem : (a b : Answer) (l : List ℕ) → read_then a (counting b l) ≡ counting (and_then a b) l
+read_then_lem Done b l = refl
+read_then_lem (Refused why) b l = refl
 
 -- The working words
 
 -- a refusal that goes first leaves them, where the other left them too
-work-then : (a b : Answer) (work after : List ℕ) → ((why : Refusal) → a ≡ Refused why → b ≡ Refused NotSound) → WorkAfter b work after
-    → WorkAfter (andThen a b) work after
-work-then Done b work after e w = w
-work-then (Refused why) b work after e w =
+work_then : (a b : Answer) (work after : List ℕ) → ((why : Refusal) → a ≡ Refused why → b ≡ Refused NotSound) → WorkAfter b work after
+    → WorkAfter (and_then a b) work after
+work_then Done b work after e w = w
+work_then (Refused why) b work after e w =
     let same : after ≡ work = w.kept NotSound (e why refl) (λ n. let z : ◌≡◌ {A = ℕ} 0 1 = cc in omega arith) in
-    subst (λ l. WorkAfter (Refused why) work l) (sym same) (work-same (Refused why) work)
+    subst (λ l. WorkAfter (Refused why) work l) (sym same) (work_same (Refused why) work)
 
 -- The call
 
 abbrev pub GreedyEnds : List ℕ → ℕ → List ℕ → List ℕ → List ℕ → List ℕ → ℕ → ℕ → ℕ → ℕ → ℕ → Type 0
 GreedyEnds file q work workAfter out outAfter count countAfter sum sumAfter r =
-    (r ≡ number_in (cycleRefusal file q (length work) (length out)))
-    × ((outAfter ≡ written (cycleRefusal file q (length work) (length out)) (greedyOf 1 (tableIn file) (narrow q)) out)
-    × ((countAfter ≡ handed (cycleRefusal file q (length work) (length out)) (length (greedyOf 1 (tableIn file) (narrow q))) count)
-    × ((sumAfter ≡ handed (cycleRefusal file q (length work) (length out)) (total (greedyOf 1 (tableIn file) (narrow q))) sum)
-    × WorkAfter (cycleRefusal file q (length work) (length out)) work workAfter)))
+    (r ≡ number_in (cycle_refusal file q (length work) (length out)))
+    × ((outAfter ≡ written (cycle_refusal file q (length work) (length out)) (greedy_of 1 (table_in file) (narrow q)) out)
+    × ((countAfter ≡ handed (cycle_refusal file q (length work) (length out)) (length (greedy_of 1 (table_in file) (narrow q))) count)
+    × ((sumAfter ≡ handed (cycle_refusal file q (length work) (length out)) (total (greedy_of 1 (table_in file) (narrow q))) sum)
+    × WorkAfter (cycle_refusal file q (length work) (length out)) work workAfter)))
 
 -- what `cycles::greedy` promises of a unit
 abbrev pub GreedyPromise : Outcome → ℕ → List ℕ → List ℕ → List ℕ → List ℕ → GreedyAnswer → Type 0
 GreedyPromise back t work workAfter out outAfter found =
-    (found ≡ greedyAnswer back.unit t (length work) (length out))
-    × (outAfter ≡ greedyOut back.unit t (length work) out)
-    × WorkAfter (greedyRefusal back.unit t (length work) (length out)) work workAfter
+    (found ≡ greedy_answer back.unit t (length work) (length out))
+    × (outAfter ≡ greedy_out back.unit t (length work) out)
+    × WorkAfter (greedy_refusal back.unit t (length work) (length out)) work workAfter
 
 -- a refused file's unit is refused
-greedy-unread : (file : List ℕ) (q work out : ℕ) (why : Refusal) → readAnswer file ≡ Refused why → greedyRefusal (unitIn file) q work out ≡ Refused NotSound
-unfolding greedyRefusal
-greedy-unread file q work out why e = rw (unit-unread file q why e)
+greedy_unread : (file : List ℕ) (q work out : ℕ) (why : Refusal) → read_answer file ≡ Refused why → greedy_refusal (unit_in file) q work out ≡ Refused NotSound
+unfolding greedy_refusal
+greedy_unread file q work out why e = rw (unit_unread file q why e)
 
 module _ (file : List ℕ) (q : ℕ) (work workAfter out outAfter : List ℕ) (back : Outcome) (t : ℕ) (found : GreedyAnswer) (read : back ≡ read_of file) (tag : t ≡ narrow q)
     (h : GreedyPromise back t work workAfter out outAfter found) where
@@ -102,35 +102,35 @@ module _ (file : List ℕ) (q : ℕ) (work workAfter out outAfter : List ℕ) (b
       (subst (λ (o : Outcome). GreedyPromise o t work workAfter out outAfter found) read h)
 
   -- the file's answer, then what was found
-  greedy-says : readThen back.answer found ≡ counting (cycleRefusal file q (length work) (length out)) (greedyOf 1 (tableIn file) (narrow q))
-  unfolding cycleRefusal greedyAnswer
+  greedy-says : read_then back.answer found ≡ counting (cycle_refusal file q (length work) (length out)) (greedy_of 1 (table_in file) (narrow q))
+  unfolding cycle_refusal greedy_answer
   greedy-says =
-      ap₂ readThen (ap (λ (o : Outcome). o.answer) read ∙ read_answer file) promised.0
-      ∙ read-then (readAnswer file) (greedyRefusal (unitIn file) (narrow q) (length work) (length out)) (greedyOf 1 (tableIn file) (narrow q))
+      ap₂ read_then (ap (λ (o : Outcome). o.answer) read ∙ read_answer_lem file) promised.0
+      ∙ read_then_lem (read_answer file) (greedy_refusal (unit_in file) (narrow q) (length work) (length out)) (greedy_of 1 (table_in file) (narrow q))
 
-  greedy-writes : outAfter ≡ written (cycleRefusal file q (length work) (length out)) (greedyOf 1 (tableIn file) (narrow q)) out
-  unfolding cycleRefusal greedyOut
+  greedy-writes : outAfter ≡ written (cycle_refusal file q (length work) (length out)) (greedy_of 1 (table_in file) (narrow q)) out
+  unfolding cycle_refusal greedy_out
   greedy-writes =
       promised.1
-      ∙ then-kept (λ a. written a (greedyOf 1 (tableIn file) (narrow q)) out) (readAnswer file) (greedyRefusal (unitIn file) (narrow q) (length work) (length out)) NotSound
-      (λ v w. refl) (greedy-unread file (narrow q) (length work) (length out))
+      ∙ then_kept (λ a. written a (greedy_of 1 (table_in file) (narrow q)) out) (read_answer file) (greedy_refusal (unit_in file) (narrow q) (length work) (length out)) NotSound
+      (λ v w. refl) (greedy_unread file (narrow q) (length work) (length out))
 
-  greedy-works : WorkAfter (cycleRefusal file q (length work) (length out)) work workAfter
-  unfolding cycleRefusal
+  greedy-works : WorkAfter (cycle_refusal file q (length work) (length out)) work workAfter
+  unfolding cycle_refusal
   greedy-works =
-      work-then (readAnswer file) (greedyRefusal (unitIn file) (narrow q) (length work) (length out)) work workAfter
-      (greedy-unread file (narrow q) (length work) (length out)) promised.2
+      work_then (read_answer file) (greedy_refusal (unit_in file) (narrow q) (length work) (length out)) work workAfter
+      (greedy_unread file (narrow q) (length work) (length out)) promised.2
 
-  pub greedy-handed : (count countAfter sum sumAfter r : ℕ) → CycleEnds (readThen back.answer found) count countAfter sum sumAfter r
+  pub greedy-handed : (count countAfter sum sumAfter r : ℕ) → CycleEnds (read_then back.answer found) count countAfter sum sumAfter r
       → GreedyEnds file q work workAfter out outAfter count countAfter sum sumAfter r
   greedy-handed count countAfter sum sumAfter r ends =
-      let e = counted-ends (cycleRefusal file q (length work) (length out)) (greedyOf 1 (tableIn file) (narrow q)) count sum in (
-        ends.0 ∙ ap cycleTold greedy-says ∙ e.0,
+      let e = counted_ends (cycle_refusal file q (length work) (length out)) (greedy_of 1 (table_in file) (narrow q)) count sum in (
+        ends.0 ∙ ap cycle_told greedy-says ∙ e.0,
         (
           greedy-writes,
           (
-            ends.1.0 ∙ ap (λ g. cycleCount g count) greedy-says ∙ e.1.0,
-            (ends.1.1 ∙ ap (λ g. cycleSum g sum) greedy-says ∙ e.1.1, greedy-works),
+            ends.1.0 ∙ ap (λ g. cycle_count g count) greedy-says ∙ e.1.0,
+            (ends.1.1 ∙ ap (λ g. cycle_sum g sum) greedy-says ∙ e.1.1, greedy-works),
           ),
         ),
       )

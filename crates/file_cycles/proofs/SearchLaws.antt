@@ -18,76 +18,76 @@ use Rattle.unit.specs.declared.Answer.{Answer}
 use Rattle.unit.specs.declared.Answer.TheVariants.{Done, Refused}
 use Rattle.unit.specs.Numbers.{number_in}
 use Rattle.unit.specs.Unit.{marked}
-use Rattle.unit.specs.Calls.{check, andThen, handed, tagAnswer}
+use Rattle.unit.specs.Calls.{check, and_then, handed, tag_answer}
 use Rattle.unit.proofs.Laws.{never_done}
-use Rattle.unit.proofs.EndLaws.{then-first, then-second}
+use Rattle.unit.proofs.EndLaws.{then_first, then_second}
 use Rattle.unit_file.specs.Read.{read_of}
-use Rattle.unit_file.proofs.AskedLaws.{read-gives}
+use Rattle.unit_file.proofs.AskedLaws.{read_gives}
 use Rattle.collision.specs.Pipeline.{total}
-use Rattle.diagram.specs.Answers.{fewStates, written}
-use Rattle.cycles.specs.Greedy.{greedyRefusal, WorkAfter}
-use Rattle.cycles.proofs.EndLaws.{work-same}
-use Rattle.planner.specs.Plans.{Best, plan_of, searchAnswer, Found, SearchPromise}
+use Rattle.diagram.specs.Answers.{few_states, written}
+use Rattle.cycles.specs.Greedy.{greedy_refusal, WorkAfter}
+use Rattle.cycles.proofs.EndLaws.{work_same}
+use Rattle.planner.specs.Plans.{Best, plan_of, search_answer, Found, SearchPromise}
 use Rattle.text.specs.Text.{put_in}
-use Rattle.text.proofs.PutLaws.{put-fits, placed-front}
-use Rattle.file_cycles.specs.Cycles.{cycleRefusal, SearchHanded}
-use Rattle.file_cycles.specs.Inner.{searchCheck, planFront}
+use Rattle.text.proofs.PutLaws.{put_fits, placed_front}
+use Rattle.file_cycles.specs.Cycles.{cycle_refusal, SearchHanded}
+use Rattle.file_cycles.specs.Inner.{search_check, plan_front}
 
 -- What is tried before the search
 
 -- the ways that the check ends
 module _ (read tagged : Answer) (work out : ℕ) where
-  pub checked-read : {why : Refusal} → read ≡ Refused why → read ≡ searchCheck read tagged work out
-  unfolding searchCheck
-  checked-read e = e ∙ sym (then-first read _ e)
+  pub checked-read : {why : Refusal} → read ≡ Refused why → read ≡ search_check read tagged work out
+  unfolding search_check
+  checked-read e = e ∙ sym (then_first read _ e)
 
-  pub checked-tag : {why : Refusal} → read ≡ Done → tagged ≡ Refused why → tagged ≡ searchCheck read tagged work out
-  unfolding searchCheck
-  checked-tag r e = e ∙ sym (then-second read _ r ∙ then-first tagged _ e)
+  pub checked-tag : {why : Refusal} → read ≡ Done → tagged ≡ Refused why → tagged ≡ search_check read tagged work out
+  unfolding search_check
+  checked-tag r e = e ∙ sym (then_second read _ r ∙ then_first tagged _ e)
 
-  pub checked-work : read ≡ Done → tagged ≡ Done → work < 16000 → Refused ShortWork ≡ searchCheck read tagged work out
-  unfolding searchCheck
+  pub checked-work : read ≡ Done → tagged ≡ Done → work < 16000 → Refused ShortWork ≡ search_check read tagged work out
+  unfolding search_check
   checked-work r t h = sym (simp (r, t, lt-leb 16000 work h))
 
-  pub checked-out : read ≡ Done → tagged ≡ Done → 16000 ≤ work → out < 256 → Refused ShortOutput ≡ searchCheck read tagged work out
-  unfolding searchCheck
+  pub checked-out : read ≡ Done → tagged ≡ Done → 16000 ≤ work → out < 256 → Refused ShortOutput ≡ search_check read tagged work out
+  unfolding search_check
   checked-out r t h k = sym (simp (r, t, le-leb 16000 work h, lt-leb 256 out k))
 
-  pub checked-done : read ≡ Done → tagged ≡ Done → 16000 ≤ work → 256 ≤ out → Done ≡ searchCheck read tagged work out
-  unfolding searchCheck
+  pub checked-done : read ≡ Done → tagged ≡ Done → 16000 ≤ work → 256 ≤ out → Done ≡ search_check read tagged work out
+  unfolding search_check
   checked-done r t h k = sym (simp (r, t, le-leb 16000 work h, le-leb 256 out k))
 
 -- what its answer says of the call: the search's own tests are those that are left
 module _ (read : Answer) (u : FunctionUnit) (q work out : ℕ) where
-  check-refuses : {why : Refusal} → searchCheck read (tagAnswer u q) work out ≡ Refused why → andThen read (greedyRefusal u q work out) ≡ Refused why
-  unfolding searchCheck greedyRefusal
-  check-refuses {why} e = go read (tagAnswer u q) (leb 16000 work) (leb 256 out) e
+  check-refuses : {why : Refusal} → search_check read (tag_answer u q) work out ≡ Refused why → and_then read (greedy_refusal u q work out) ≡ Refused why
+  unfolding search_check greedy_refusal
+  check-refuses {why} e = go read (tag_answer u q) (leb 16000 work) (leb 256 out) e
     where
-      go : (r a : Answer) (b d : Bool) → andThen r (andThen a (check b ShortWork (check d ShortOutput Done))) ≡ Refused why
-          → andThen r (andThen a (check b ShortWork (check d ShortOutput (fewStates 1 (marked u) q)))) ≡ Refused why
+      go : (r a : Answer) (b d : Bool) → and_then r (and_then a (check b ShortWork (check d ShortOutput Done))) ≡ Refused why
+          → and_then r (and_then a (check b ShortWork (check d ShortOutput (few_states 1 (marked u) q)))) ≡ Refused why
       go (Refused other) a b d h = h
       go Done (Refused other) b d h = h
       go Done Done false d h = h
       go Done Done true false h = h
       go Done Done true true h = never_done (sym h)
 
-  check-passes : searchCheck read (tagAnswer u q) work out ≡ Done → andThen read (greedyRefusal u q work out) ≡ searchAnswer u q work
-  unfolding searchCheck greedyRefusal searchAnswer
-  check-passes e = go read (tagAnswer u q) (leb 16000 work) (leb 256 out) e
+  check-passes : search_check read (tag_answer u q) work out ≡ Done → and_then read (greedy_refusal u q work out) ≡ search_answer u q work
+  unfolding search_check greedy_refusal search_answer
+  check-passes e = go read (tag_answer u q) (leb 16000 work) (leb 256 out) e
     where
-      go : (r a : Answer) (b d : Bool) → andThen r (andThen a (check b ShortWork (check d ShortOutput Done))) ≡ Done
-          → andThen r (andThen a (check b ShortWork (check d ShortOutput (fewStates 1 (marked u) q)))) ≡ andThen a (check b ShortWork (fewStates 1 (marked u) q))
+      go : (r a : Answer) (b d : Bool) → and_then r (and_then a (check b ShortWork (check d ShortOutput Done))) ≡ Done
+          → and_then r (and_then a (check b ShortWork (check d ShortOutput (few_states 1 (marked u) q)))) ≡ and_then a (check b ShortWork (few_states 1 (marked u) q))
       go (Refused other) a b d h = never_done h
       go Done (Refused other) b d h = never_done h
       go Done Done false d h = never_done h
       go Done Done true false h = never_done h
       go Done Done true true h = refl
 
-  check-room : searchCheck read (tagAnswer u q) work out ≡ Done → 256 ≤ out
-  unfolding searchCheck
-  check-room e = leb-true 256 out (go read (tagAnswer u q) (leb 16000 work) (leb 256 out) e)
+  check-room : search_check read (tag_answer u q) work out ≡ Done → 256 ≤ out
+  unfolding search_check
+  check-room e = leb-true 256 out (go read (tag_answer u q) (leb 16000 work) (leb 256 out) e)
     where
-      go : (r a : Answer) (b d : Bool) → andThen r (andThen a (check b ShortWork (check d ShortOutput Done))) ≡ Done → d ≡ true
+      go : (r a : Answer) (b d : Bool) → and_then r (and_then a (check b ShortWork (check d ShortOutput Done))) ≡ Done → d ≡ true
       go (Refused other) a b d h = never_done h
       go Done (Refused other) b d h = never_done h
       go Done Done false d h = never_done h
@@ -102,8 +102,8 @@ pub record Planned (p : Plan) (cycle : List ℕ) : Type 0 where
   pub latencies : take p.count p.latencies ≡ cycle
   pub inside : p.count ≤ length p.latencies
 
-planned-of : (q : ℕ) (cycle : List ℕ) → Planned (plan_of q cycle) cycle
-planned-of q cycle = record {
+planned_of : (q : ℕ) (cycle : List ℕ) → Planned (plan_of q cycle) cycle
+planned_of q cycle = record {
   count = refl;
   sum = refl;
   latencies = take-append_seam cycle (replicate (256 - length cycle) 0);
@@ -111,7 +111,7 @@ planned-of q cycle = record {
 }
 
 pub planned : (u : FunctionUnit) (q : ℕ) (after : FunctionUnit) (f : Found u q after) → Planned after.plan f.cycle
-planned u q after f = subst (λ (v : FunctionUnit). Planned v.plan f.cycle) (sym f.unit) (planned-of q f.cycle)
+planned u q after f = subst (λ (v : FunctionUnit). Planned v.plan f.cycle) (sym f.unit) (planned_of q f.cycle)
 
 -- a plan that was found has its latencies
 pub found_inside : (u : FunctionUnit) (q : ℕ) (work workAfter : List ℕ) (o : Outcome) → SearchPromise u q work workAfter o.answer o.unit → o.answer ≡ Done
@@ -123,45 +123,45 @@ found_inside u q work workAfter o p d = (planned u q o.unit (p.found d)).inside
 abbrev pub PlanEnds : Answer → Plan → List ℕ → List ℕ → ℕ → ℕ → ℕ → ℕ → ℕ → Type 0
 PlanEnds a p out outAfter count countAfter sum sumAfter r =
     (r ≡ number_in a)
-    × ((outAfter ≡ handed a (planFront p out) out) × ((countAfter ≡ handed a p.count count) × (sumAfter ≡ handed a p.sum sum)))
+    × ((outAfter ≡ handed a (plan_front p out) out) × ((countAfter ≡ handed a p.count count) × (sumAfter ≡ handed a p.sum sum)))
 
 module _ (answer : Answer) (p : Plan) (out : List ℕ) (count sum : ℕ) where
   plan-ends : (a : Answer) → answer ≡ a
-      → PlanEnds answer p out (handed a (planFront p out) out) count (handed a p.count count) sum (handed a p.sum sum) (number_in a)
+      → PlanEnds answer p out (handed a (plan_front p out) out) count (handed a p.count count) sum (handed a p.sum sum) (number_in a)
   plan-ends a e = (
     ap number_in (sym e),
     (
-      ap (λ x. handed x (planFront p out) out) (sym e),
+      ap (λ x. handed x (plan_front p out) out) (sym e),
       (ap (λ x. handed x p.count count) (sym e), ap (λ x. handed x p.sum sum) (sym e)),
     ),
   )
 
-  pub plan-refused : {why : Refusal} {r : ℕ} → answer ≡ Refused why → r ≡ number_in answer → PlanEnds answer p out out count count sum sum r
-  plan-refused {why} e n = (n, (plan-ends (Refused why) e).1)
+  pub plan_refused : {why : Refusal} {r : ℕ} → answer ≡ Refused why → r ≡ number_in answer → PlanEnds answer p out out count count sum sum r
+  plan_refused {why} e n = (n, (plan-ends (Refused why) e).1)
 
-  pub plan-handed : {outAfter : List ℕ} → answer ≡ Done → outAfter ≡ planFront p out → PlanEnds answer p out outAfter count p.count sum p.sum 0
+  pub plan-handed : {outAfter : List ℕ} → answer ≡ Done → outAfter ≡ plan_front p out → PlanEnds answer p out outAfter count p.count sum p.sum 0
   plan-handed e put = let l = plan-ends Done e in (l.0, (put ∙ l.1.0, l.1.1))
 
 -- The ways that the call ends
 
 module _ (file : List ℕ) (q : ℕ) (work out : List ℕ) (count sum : ℕ) (back : Outcome) (t : ℕ) (tagged checked : Answer) (read : back ≡ read_of file)
-    (tag : t ≡ narrow q) (looked : tagged ≡ tagAnswer back.unit t) (tried : checked ≡ searchCheck back.answer tagged (length work) (length out)) where
+    (tag : t ≡ narrow q) (looked : tagged ≡ tag_answer back.unit t) (tried : checked ≡ search_check back.answer tagged (length work) (length out)) where
   -- what was tried of the unit that was read
-  checks : checked ≡ searchCheck back.answer (tagAnswer back.unit t) (length work) (length out)
-  checks = tried ∙ ap (λ a. searchCheck back.answer a (length work) (length out)) looked
+  checks : checked ≡ search_check back.answer (tag_answer back.unit t) (length work) (length out)
+  checks = tried ∙ ap (λ a. search_check back.answer a (length work) (length out)) looked
 
   -- the unit that was read decides
-  cycle-read : cycleRefusal file q (length work) (length out) ≡ andThen back.answer (greedyRefusal back.unit t (length work) (length out))
-  unfolding cycleRefusal
+  cycle-read : cycle_refusal file q (length work) (length out) ≡ and_then back.answer (greedy_refusal back.unit t (length work) (length out))
+  unfolding cycle_refusal
   cycle-read =
-      ap₂ andThen (read-gives file back read refl)
-      (ap₂ (λ (o : Outcome) s. greedyRefusal o.unit s (length work) (length out)) (sym read) (sym tag))
+      ap₂ and_then (read_gives file back read refl)
+      (ap₂ (λ (o : Outcome) s. greedy_refusal o.unit s (length work) (length out)) (sym read) (sym tag))
 
   -- nothing is handed out
-  nothing : (workAfter : List ℕ) (a : Answer) {why : Refusal} (r : ℕ) → cycleRefusal file q (length work) (length out) ≡ a → a ≡ Refused why
+  nothing : (workAfter : List ℕ) (a : Answer) {why : Refusal} (r : ℕ) → cycle_refusal file q (length work) (length out) ≡ a → a ≡ Refused why
       → WorkAfter a work workAfter → r ≡ number_in a → SearchHanded file q work workAfter out out count count sum sum r
   nothing workAfter a {why} r says e words n =
-      let refused : cycleRefusal file q (length work) (length out) ≡ Refused why = says ∙ e in
+      let refused : cycle_refusal file q (length work) (length out) ≡ Refused why = says ∙ e in
       record {
         cycle = [];
         best = λ done. never_done (sym refused ∙ done);
@@ -176,19 +176,19 @@ module _ (file : List ℕ) (q : ℕ) (work out : List ℕ) (count sum : ℕ) (ba
   pub search-checked : {why : Refusal} (r : ℕ) → checked ≡ Refused why → r ≡ number_in checked → SearchHanded file q work work out out count count sum sum r
   search-checked r e n =
       nothing work checked r
-      (cycle-read ∙ check-refuses back.answer back.unit t (length work) (length out) (sym checks ∙ e) ∙ sym e) e (work-same checked work) n
+      (cycle-read ∙ check-refuses back.answer back.unit t (length work) (length out) (sym checks ∙ e) ∙ sym e) e (work_same checked work) n
 
   module _ (workAfter : List ℕ) (o : Outcome) (d : checked ≡ Done) (p : SearchPromise back.unit t work workAfter o.answer o.unit) where
     -- where the check passes, the search's answer
-    search-says : cycleRefusal file q (length work) (length out) ≡ o.answer
+    search-says : cycle_refusal file q (length work) (length out) ≡ o.answer
     search-says = cycle-read ∙ check-passes back.answer back.unit t (length work) (length out) (sym checks ∙ d) ∙ sym p.says
 
     -- the cycle of the plan is put to the front of the bytes
-    search-found : o.answer ≡ Done → SearchHanded file q work workAfter out (planFront o.unit.plan out) count o.unit.plan.count sum o.unit.plan.sum 0
-    search-found e =
+    search_found : o.answer ≡ Done → SearchHanded file q work workAfter out (plan_front o.unit.plan out) count o.unit.plan.count sum o.unit.plan.sum 0
+    search_found e =
         let f = p.found e in
         let l = planned back.unit t o.unit f in
-        let done : cycleRefusal file q (length work) (length out) ≡ Done = search-says ∙ e in
+        let done : cycle_refusal file q (length work) (length out) ≡ Done = search-says ∙ e in
         let room = check-room back.answer back.unit t (length work) (length out) (sym checks ∙ d) in
         let fits : 0 + length f.cycle ≤ length out = omega (arith, f.few) in
         record {
@@ -196,7 +196,7 @@ module _ (file : List ℕ) (q : ℕ) (work out : List ℕ) (count sum : ℕ) (ba
           best = λ x. subst (λ (b : Outcome). Best 1 (marked b.unit) (narrow q) f.cycle) read
               (subst (λ (s : ℕ). Best 1 (marked back.unit) s f.cycle) tag f.best);
           says = ap number_in (sym done);
-          bytes = ap (put_in out 0) l.latencies ∙ put-fits out 0 f.cycle fits ∙ placed-front out f.cycle ∙ ap (λ x. written x f.cycle out) (sym done);
+          bytes = ap (put_in out 0) l.latencies ∙ put_fits out 0 f.cycle fits ∙ placed_front out f.cycle ∙ ap (λ x. written x f.cycle out) (sym done);
           counted = l.count ∙ ap (λ x. handed x (length f.cycle) count) (sym done);
           summed = l.sum ∙ ap (λ x. handed x (total f.cycle) sum) (sym done);
           words = subst (λ x. WorkAfter x work workAfter) (sym search-says) p.work;
@@ -205,7 +205,7 @@ module _ (file : List ℕ) (q : ℕ) (work out : List ℕ) (count sum : ℕ) (ba
     pub search-ends : (outAfter : List ℕ) (countAfter sumAfter r : ℕ) → PlanEnds o.answer o.unit.plan out outAfter count countAfter sum sumAfter r
         → SearchHanded file q work workAfter out outAfter count countAfter sum sumAfter r
     search-ends outAfter countAfter sumAfter r h =
-        let bytes = handed o.answer (planFront o.unit.plan out) out in
+        let bytes = handed o.answer (plan_front o.unit.plan out) out in
         let counted = handed o.answer o.unit.plan.count count in
         subst (λ (x : ℕ). SearchHanded file q work workAfter out outAfter count countAfter sum sumAfter x) (sym h.0)
         (subst (λ (l : List ℕ). SearchHanded file q work workAfter out l count countAfter sum sumAfter (number_in o.answer)) (sym h.1.0)
@@ -213,7 +213,7 @@ module _ (file : List ℕ) (q : ℕ) (work out : List ℕ) (count sum : ℕ) (ba
         (subst (λ (x : ℕ). SearchHanded file q work workAfter out bytes count counted sum x (number_in o.answer)) (sym h.1.1.1) (go o.answer refl))))
       where
         go : (a : Answer) → o.answer ≡ a
-            → SearchHanded file q work workAfter out (handed a (planFront o.unit.plan out) out) count (handed a o.unit.plan.count count)
+            → SearchHanded file q work workAfter out (handed a (plan_front o.unit.plan out) out) count (handed a o.unit.plan.count count)
             sum (handed a o.unit.plan.sum sum) (number_in a)
-        go Done e = search-found e
+        go Done e = search_found e
         go (Refused why) e = nothing workAfter (Refused why) _ (search-says ∙ e) refl (subst (λ x. WorkAfter x work workAfter) e p.work) refl

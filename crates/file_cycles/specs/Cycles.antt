@@ -5,22 +5,22 @@ use Rattle.unit.specs.declared.Answer.{Answer}
 use Rattle.unit.specs.declared.Answer.TheVariants.{Done}
 use Rattle.unit.specs.Numbers.{number_in}
 use Rattle.unit.specs.Calls.{handed}
-use Rattle.unit_file.specs.Read.{unitIn, tableIn, fileThen}
+use Rattle.unit_file.specs.Read.{unit_in, table_in, file_then}
 use Rattle.collision.specs.Pipeline.{total}
 use Rattle.diagram.specs.Answers.{written}
-use Rattle.cycles.specs.Greedy.{greedyRefusal, WorkAfter}
+use Rattle.cycles.specs.Greedy.{greedy_refusal, WorkAfter}
 use Rattle.planner.specs.Plans.{Best}
 
 -- greedy and search alike
-unfoldable pub cycleRefusal : List ℕ → ℕ → ℕ → ℕ → Answer
-cycleRefusal file q work out = fileThen file (greedyRefusal (unitIn file) (narrow q) work out)
+unfoldable pub cycle_refusal : List ℕ → ℕ → ℕ → ℕ → Answer
+cycle_refusal file q work out = file_then file (greedy_refusal (unit_in file) (narrow q) work out)
 
 -- Free are which of several cycles of least average is handed out, and the working words as `WorkAfter` says.
 pub record SearchHanded (file : List ℕ) (q : ℕ) (work workAfter out outAfter : List ℕ) (count countAfter sum sumAfter answer : ℕ) : Type 0 where
   pub cycle : List ℕ
-  pub best : cycleRefusal file q (length work) (length out) ≡ Done → Best 1 (tableIn file) (narrow q) cycle
-  pub says : answer ≡ number_in (cycleRefusal file q (length work) (length out))
-  pub bytes : outAfter ≡ written (cycleRefusal file q (length work) (length out)) cycle out
-  pub counted : countAfter ≡ handed (cycleRefusal file q (length work) (length out)) (length cycle) count
-  pub summed : sumAfter ≡ handed (cycleRefusal file q (length work) (length out)) (total cycle) sum
-  pub words : WorkAfter (cycleRefusal file q (length work) (length out)) work workAfter
+  pub best : cycle_refusal file q (length work) (length out) ≡ Done → Best 1 (table_in file) (narrow q) cycle
+  pub says : answer ≡ number_in (cycle_refusal file q (length work) (length out))
+  pub bytes : outAfter ≡ written (cycle_refusal file q (length work) (length out)) cycle out
+  pub counted : countAfter ≡ handed (cycle_refusal file q (length work) (length out)) (length cycle) count
+  pub summed : sumAfter ≡ handed (cycle_refusal file q (length work) (length out)) (total cycle) sum
+  pub words : WorkAfter (cycle_refusal file q (length work) (length out)) work workAfter

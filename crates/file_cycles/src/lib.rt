@@ -5,12 +5,12 @@ ghost use Rattle.words.specs.Bytes.{narrow};
 ghost use Rattle.unit.specs.declared.Answer.TheVariants.{Done};
 ghost use Rattle.unit.specs.Numbers.{number_in};
 ghost use Rattle.unit.specs.Calls.{handed};
-ghost use Rattle.unit_file.specs.Read.{tableIn};
+ghost use Rattle.unit_file.specs.Read.{table_in};
 ghost use Rattle.collision.specs.Pipeline.{total};
 ghost use Rattle.diagram.specs.Answers.{written};
-ghost use Rattle.cycles.specs.Greedy.{greedyOf, WorkAfter};
-ghost use Rattle.file_cycles.specs.Cycles.{cycleRefusal, SearchHanded};
-ghost use Rattle.file_cycles.specs.Inner.{readThen, cycleTold, cycleCount, cycleSum, searchCheck, planFront};
+ghost use Rattle.cycles.specs.Greedy.{greedy_of, WorkAfter};
+ghost use Rattle.file_cycles.specs.Cycles.{cycle_refusal, SearchHanded};
+ghost use Rattle.file_cycles.specs.Inner.{read_then, cycle_told, cycle_count, cycle_sum, search_check, plan_front};
 
 use cycles::GreedyAnswer;
 use unit::{Answer, Plan, Refusal, Tag};
@@ -18,9 +18,9 @@ use words::byte;
 
 // Hands out a cycle's count and sum, or answers the number of the refusal: the file's, else that of the cycle.
 fn hand_cycle(read: Answer, found: GreedyAnswer, count: &mut u32, sum: &mut u32) -> u32
-    ensures value { result ≡ cycleTold (readThen read found) }
-    ensures count_after { count.new ≡ cycleCount (readThen read found) count.old }
-    ensures sum_after { sum.new ≡ cycleSum (readThen read found) sum.old }
+    ensures value { result ≡ cycle_told (read_then read found) }
+    ensures count_after { count.new ≡ cycle_count (read_then read found) count.old }
+    ensures sum_after { sum.new ≡ cycle_sum (read_then read found) sum.old }
 {
     let Answer::Done = read else {
         return unit::number_in(read) as u32;
@@ -44,11 +44,11 @@ pub fn greedy(
     count: &mut u32,
     sum: &mut u32,
 ) -> u32
-    ensures value { result ≡ number_in (cycleRefusal file.now tag (length work.old) (length out.old)) }
-    ensures out_after { out.new ≡ written (cycleRefusal file.now tag (length work.old) (length out.old)) (greedyOf 1 (tableIn file.now) (narrow tag)) out.old }
-    ensures count_after { count.new ≡ handed (cycleRefusal file.now tag (length work.old) (length out.old)) (length (greedyOf 1 (tableIn file.now) (narrow tag))) count.old }
-    ensures sum_after { sum.new ≡ handed (cycleRefusal file.now tag (length work.old) (length out.old)) (total (greedyOf 1 (tableIn file.now) (narrow tag))) sum.old }
-    ensures work_after { WorkAfter (cycleRefusal file.now tag (length work.old) (length out.old)) work.old work.new }
+    ensures value { result ≡ number_in (cycle_refusal file.now tag (length work.old) (length out.old)) }
+    ensures out_after { out.new ≡ written (cycle_refusal file.now tag (length work.old) (length out.old)) (greedy_of 1 (table_in file.now) (narrow tag)) out.old }
+    ensures count_after { count.new ≡ handed (cycle_refusal file.now tag (length work.old) (length out.old)) (length (greedy_of 1 (table_in file.now) (narrow tag))) count.old }
+    ensures sum_after { sum.new ≡ handed (cycle_refusal file.now tag (length work.old) (length out.old)) (total (greedy_of 1 (table_in file.now) (narrow tag))) sum.old }
+    ensures work_after { WorkAfter (cycle_refusal file.now tag (length work.old) (length out.old)) work.old work.new }
 {
     let back = unit_file::read(file);
     let read = back.answer;
@@ -58,7 +58,7 @@ pub fn greedy(
 
 // What the search tries before it is made: the file, the tag, the working words and the room for the cycle.
 fn check_search(read: Answer, tagged: Answer, work: usize, out: usize) -> Answer
-    ensures { result ≡ searchCheck read tagged work out }
+    ensures { result ≡ search_check read tagged work out }
 {
     let Answer::Done = read else {
         return read;
@@ -79,7 +79,7 @@ fn check_search(read: Answer, tagged: Answer, work: usize, out: usize) -> Answer
 fn hand_plan(answer: Answer, plan: Plan, out: &mut [u8], count: &mut u32, sum: &mut u32) -> u32
     requires { answer ≡ Done → plan.count ≤ length plan.latencies }
     ensures value { result ≡ number_in answer }
-    ensures out_after { out.new ≡ handed answer (planFront plan out.old) out.old }
+    ensures out_after { out.new ≡ handed answer (plan_front plan out.old) out.old }
     ensures count_after { count.new ≡ handed answer plan.count count.old }
     ensures sum_after { sum.new ≡ handed answer plan.sum sum.old }
 {

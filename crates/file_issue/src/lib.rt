@@ -3,11 +3,11 @@
 ghost use Rattle.std.specs.Prelude.{◌≡◌, ◌≤◌, length};
 ghost use Rattle.words.specs.Bytes.{narrow};
 ghost use Rattle.unit.specs.Numbers.{number_in};
-ghost use Rattle.unit.specs.Calls.{andThen, handed};
-ghost use Rattle.unit_file.specs.Read.{unitIn};
+ghost use Rattle.unit.specs.Calls.{and_then, handed};
+ghost use Rattle.unit_file.specs.Read.{unit_in};
 ghost use Rattle.controller.specs.Bank.{shifted, started};
-ghost use Rattle.file_issue.specs.Issue.{bankIn, bankOver, tickRefusal, startRefusal};
-ghost use Rattle.file_issue.specs.Inner.{stepRefusal, stepWords};
+ghost use Rattle.file_issue.specs.Issue.{bank_in, bank_over, tick_refusal, start_refusal};
+ghost use Rattle.file_issue.specs.Inner.{step_refusal, step_words};
 
 use controller::{Bank, Event};
 use unit::{Answer, FunctionUnit, Tag};
@@ -18,7 +18,7 @@ const SHORT_OUTPUT: u32 = 6;
 // Stores the registers.
 fn store(bank: Bank, words: &mut [u32])
     requires { 4 ≤ length words.old }
-    ensures { words.new ≡ bankOver bank words.old }
+    ensures { words.new ≡ bank_over bank words.old }
 {
     words[0] = bank.r1;
     words[1] = bank.r2;
@@ -29,7 +29,7 @@ fn store(bank: Bank, words: &mut [u32])
 // The registers.
 fn load(words: &[u32]) -> Bank
     requires { 4 ≤ length words.now }
-    ensures { result ≡ bankIn words.now }
+    ensures { result ≡ bank_in words.now }
 {
     Bank {
         r1: words[0],
@@ -41,7 +41,7 @@ fn load(words: &[u32]) -> Bank
 
 // The first refusal of two.
 fn first(read: Answer, tagged: Answer) -> Answer
-    ensures { result ≡ andThen read tagged }
+    ensures { result ≡ and_then read tagged }
 {
     match read {
         Answer::Done => tagged,
@@ -51,8 +51,8 @@ fn first(read: Answer, tagged: Answer) -> Answer
 
 // One event on the registers, where what was tried before passed. They are stored again also where the event is refused.
 fn step(tried: Answer, u: FunctionUnit, words: &mut [u32], event: Event) -> u32
-    ensures value { result ≡ number_in (stepRefusal tried u words.old event) }
-    ensures words_after { words.new ≡ stepWords tried u event words.old }
+    ensures value { result ≡ number_in (step_refusal tried u words.old event) }
+    ensures words_after { words.new ≡ step_words tried u event words.old }
 {
     let Answer::Done = tried else {
         return unit::number_in(tried) as u32;
@@ -68,8 +68,8 @@ fn step(tried: Answer, u: FunctionUnit, words: &mut [u32], event: Event) -> u32
 
 // A time unit passes.
 pub fn tick(file: &[u8], bank: &mut [u32]) -> u32
-    ensures value { result ≡ number_in (tickRefusal file.now (length bank.old)) }
-    ensures bank_after { bank.new ≡ handed (tickRefusal file.now (length bank.old)) (bankOver (shifted (bankIn bank.old)) bank.old) bank.old }
+    ensures value { result ≡ number_in (tick_refusal file.now (length bank.old)) }
+    ensures bank_after { bank.new ≡ handed (tick_refusal file.now (length bank.old)) (bank_over (shifted (bank_in bank.old)) bank.old) bank.old }
 {
     let back = unit_file::read(file);
     let read = back.answer;
@@ -78,8 +78,8 @@ pub fn tick(file: &[u8], bank: &mut [u32]) -> u32
 
 // A function starts, if it would collide with no task that is under way.
 pub fn start(file: &[u8], bank: &mut [u32], tag: u32) -> u32
-    ensures value { result ≡ number_in (startRefusal file.now tag bank.old) }
-    ensures bank_after { bank.new ≡ handed (startRefusal file.now tag bank.old) (bankOver (started (unitIn file.now) (narrow tag) (bankIn bank.old)) bank.old) bank.old }
+    ensures value { result ≡ number_in (start_refusal file.now tag bank.old) }
+    ensures bank_after { bank.new ≡ handed (start_refusal file.now tag bank.old) (bank_over (started (unit_in file.now) (narrow tag) (bank_in bank.old)) bank.old) bank.old }
 {
     let back = unit_file::read(file);
     let read = back.answer;

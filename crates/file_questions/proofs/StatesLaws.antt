@@ -10,38 +10,38 @@ use Rattle.unit.specs.declared.Refusal.TheVariants.{NotSound}
 use Rattle.unit.specs.declared.Answer.TheVariants.{Refused}
 use Rattle.unit.specs.Numbers.{number_in}
 use Rattle.unit.specs.Calls.{handed}
-use Rattle.unit.proofs.EndLaws.{then-kept}
-use Rattle.unit_file.specs.Read.{readAnswer, read_of, unitIn, tableIn}
-use Rattle.unit_file.proofs.AskedLaws.{unit-unread}
+use Rattle.unit.proofs.EndLaws.{then_kept}
+use Rattle.unit_file.specs.Read.{read_answer, read_of, unit_in, table_in}
+use Rattle.unit_file.proofs.AskedLaws.{unit_unread}
 use Rattle.collision.specs.declared.Number.{Number}
-use Rattle.diagram.specs.Answers.{statesOf, statesRefusal, statesAnswer, statesOut, written}
-use Rattle.file_answers.proofs.HandedLaws.{NumberEnds, number-handed}
-use Rattle.file_questions.specs.Questions.{listRefusal}
+use Rattle.diagram.specs.Answers.{states_of, states_refusal, states_answer, states_out, written}
+use Rattle.file_answers.proofs.HandedLaws.{NumberEnds, number_handed}
+use Rattle.file_questions.specs.Questions.{list_refusal}
 
 abbrev pub ListEnds : List ℕ → ℕ → List ℕ → List ℕ → ℕ → ℕ → ℕ → Type 0
 ListEnds file q out outAfter count countAfter r =
-    (r ≡ number_in (listRefusal file q (length out)))
-    × ((outAfter ≡ written (listRefusal file q (length out)) (statesOf 1 (tableIn file) (narrow q)) out)
-    × (countAfter ≡ handed (listRefusal file q (length out)) (length (statesOf 1 (tableIn file) (narrow q))) count))
+    (r ≡ number_in (list_refusal file q (length out)))
+    × ((outAfter ≡ written (list_refusal file q (length out)) (states_of 1 (table_in file) (narrow q)) out)
+    × (countAfter ≡ handed (list_refusal file q (length out)) (length (states_of 1 (table_in file) (narrow q))) count))
 
 -- a refused file's unit is refused
-list-unread : (file : List ℕ) (q room : ℕ) (why : Refusal) → readAnswer file ≡ Refused why → statesRefusal (unitIn file) q room ≡ Refused NotSound
-unfolding statesRefusal
-list-unread file q room why e = rw (unit-unread file q why e)
+list_unread : (file : List ℕ) (q room : ℕ) (why : Refusal) → read_answer file ≡ Refused why → states_refusal (unit_in file) q room ≡ Refused NotSound
+unfolding states_refusal
+list_unread file q room why e = rw (unit_unread file q why e)
 
-pub list-handed : (file : List ℕ) (q : ℕ) (out : List ℕ) (count : ℕ) (back : Outcome) (t : ℕ) (listed : Number) (after : List ℕ) (countAfter r : ℕ) → back ≡ read_of file
-    → t ≡ narrow q → (listed ≡ statesAnswer back.unit t (length out)) × (after ≡ statesOut back.unit t out)
+pub list_handed : (file : List ℕ) (q : ℕ) (out : List ℕ) (count : ℕ) (back : Outcome) (t : ℕ) (listed : Number) (after : List ℕ) (countAfter r : ℕ) → back ≡ read_of file
+    → t ≡ narrow q → (listed ≡ states_answer back.unit t (length out)) × (after ≡ states_out back.unit t out)
     → NumberEnds back.answer listed count r countAfter → ListEnds file q out after count countAfter r
-unfolding listRefusal statesAnswer statesOut
-list-handed file q out count back t listed after countAfter r read tag h ends =
+unfolding list_refusal states_answer states_out
+list_handed file q out count back t listed after countAfter r read tag h ends =
     let n =
-    number-handed file back read (λ u. statesRefusal u (narrow q) (length out)) (λ T. length (statesOf 1 T (narrow q))) count
-    (h.0 ∙ ap (λ s. statesAnswer back.unit s (length out)) tag) ends in (
+    number_handed file back read (λ u. states_refusal u (narrow q) (length out)) (λ T. length (states_of 1 T (narrow q))) count
+    (h.0 ∙ ap (λ s. states_answer back.unit s (length out)) tag) ends in (
       n.0,
       (
-        h.1 ∙ ap₂ (λ (o : Outcome) s. statesOut o.unit s out) read tag
-            ∙ then-kept (λ a. written a (statesOf 1 (tableIn file) (narrow q)) out) (readAnswer file) (statesRefusal (unitIn file) (narrow q) (length out)) NotSound
-            (λ v w. refl) (list-unread file (narrow q) (length out)),
+        h.1 ∙ ap₂ (λ (o : Outcome) s. states_out o.unit s out) read tag
+            ∙ then_kept (λ a. written a (states_of 1 (table_in file) (narrow q)) out) (read_answer file) (states_refusal (unit_in file) (narrow q) (length out)) NotSound
+            (λ v w. refl) (list_unread file (narrow q) (length out)),
         n.1,
       ),
     )

@@ -5,10 +5,10 @@ use Rattle.unit.specs.declared.Answer.{Answer}
 use Rattle.unit.specs.declared.Answer.TheVariants.{Done, Refused}
 use Rattle.collision.specs.Answers.{answering}
 use Rattle.judge.specs.Judge.{verdict}
-use Rattle.file_questions.specs.Inner.{verdictNumber}
+use Rattle.file_questions.specs.Inner.{verdict_number}
 
 -- a verdict is 1 or 0
-pub verdict-number : (a : Answer) (b : Bool) → verdictNumber (verdict a b) ≡ answering a (cond b 0 1)
-verdict-number Done true = refl
-verdict-number Done false = refl
-verdict-number (Refused why) b = refl
+pub verdict_number_lem : (a : Answer) (b : Bool) → verdict_number (verdict a b) ≡ answering a (cond b 0 1)
+verdict_number_lem Done true = refl
+verdict_number_lem Done false = refl
+verdict_number_lem (Refused why) b = refl

@@ -5,7 +5,7 @@ use Rattle.judge.specs.declared.Verdict.{Verdict}
 use Rattle.judge.specs.declared.Verdict.TheVariants as Verdict
 
 -- 1 for yes, 0 for no
-abbrev pub verdictNumber : Verdict → Number
-verdictNumber Verdict.Yes = Number.Value 1
-verdictNumber Verdict.No = Number.Value 0
-verdictNumber (Verdict.Refused why) = Number.Refused why
+abbrev pub verdict_number : Verdict → Number
+verdict_number Verdict.Yes = Number.Value 1
+verdict_number Verdict.No = Number.Value 0
+verdict_number (Verdict.Refused why) = Number.Refused why

@@ -4,13 +4,13 @@ ghost use Rattle.std.specs.Prelude.{◌≡◌, cond, length};
 ghost use Rattle.words.specs.Bytes.{narrow};
 ghost use Rattle.unit.specs.Numbers.{number_in};
 ghost use Rattle.unit.specs.Calls.{handed};
-ghost use Rattle.unit_file.specs.Read.{tableIn};
-ghost use Rattle.collision.specs.Vector.{vectorWord, rowWord};
+ghost use Rattle.unit_file.specs.Read.{table_in};
+ghost use Rattle.collision.specs.Vector.{vector_word, row_word};
 ghost use Rattle.judge.specs.Judge.{meets};
-ghost use Rattle.diagram.specs.Answers.{statesOf, written};
-ghost use Rattle.file_answers.specs.Answers.{tagRefusal};
-ghost use Rattle.file_questions.specs.Questions.{tagsRefusal, judgeRefusal, listRefusal};
-ghost use Rattle.file_questions.specs.Inner.{verdictNumber};
+ghost use Rattle.diagram.specs.Answers.{states_of, written};
+ghost use Rattle.file_answers.specs.Answers.{tag_refusal};
+ghost use Rattle.file_questions.specs.Questions.{tags_refusal, judge_refusal, list_refusal};
+ghost use Rattle.file_questions.specs.Inner.{verdict_number};
 
 use collision::Number;
 use file_answers::hand_out;
@@ -20,7 +20,7 @@ use words::byte;
 
 // 1 for yes, 0 for no.
 fn verdict_number(verdict: Verdict) -> Number
-    ensures { result ≡ verdictNumber verdict }
+    ensures { result ≡ verdict_number verdict }
 {
     match verdict {
         Verdict::Yes => Number::Value(1),
@@ -31,8 +31,8 @@ fn verdict_number(verdict: Verdict) -> Number
 
 // The collision vector of a tag.
 pub fn vector(file: &[u8], tag: u32, word: &mut u32) -> u32
-    ensures value { result ≡ number_in (tagRefusal file.now tag) }
-    ensures word_after { word.new ≡ handed (tagRefusal file.now tag) (vectorWord (tableIn file.now) (narrow tag)) word.old }
+    ensures value { result ≡ number_in (tag_refusal file.now tag) }
+    ensures word_after { word.new ≡ handed (tag_refusal file.now tag) (vector_word (table_in file.now) (narrow tag)) word.old }
 {
     let back = unit_file::read(file);
     let read = back.answer;
@@ -42,8 +42,8 @@ pub fn vector(file: &[u8], tag: u32, word: &mut u32) -> u32
 
 // Row `tag` of the matrix of `other`.
 pub fn matrix_row(file: &[u8], tag: u32, other: u32, word: &mut u32) -> u32
-    ensures value { result ≡ number_in (tagsRefusal file.now tag other) }
-    ensures word_after { word.new ≡ handed (tagsRefusal file.now tag other) (rowWord (tableIn file.now) (narrow tag) (narrow other)) word.old }
+    ensures value { result ≡ number_in (tags_refusal file.now tag other) }
+    ensures word_after { word.new ≡ handed (tags_refusal file.now tag other) (row_word (table_in file.now) (narrow tag) (narrow other)) word.old }
 {
     let back = unit_file::read(file);
     let read = back.answer;
@@ -53,8 +53,8 @@ pub fn matrix_row(file: &[u8], tag: u32, other: u32, word: &mut u32) -> u32
 
 // Hands out 1 if the cycle, repeated without end, never collides, else 0.
 pub fn judge(file: &[u8], tag: u32, cycle: &[u8], yes: &mut u32) -> u32
-    ensures value { result ≡ number_in (judgeRefusal file.now tag cycle.now) }
-    ensures yes_after { yes.new ≡ handed (judgeRefusal file.now tag cycle.now) (cond (meets (tableIn file.now) (narrow tag) cycle.now) 0 1) yes.old }
+    ensures value { result ≡ number_in (judge_refusal file.now tag cycle.now) }
+    ensures yes_after { yes.new ≡ handed (judge_refusal file.now tag cycle.now) (cond (meets (table_in file.now) (narrow tag) cycle.now) 0 1) yes.old }
 {
     let back = unit_file::read(file);
     let read = back.answer;
@@ -64,9 +64,9 @@ pub fn judge(file: &[u8], tag: u32, cycle: &[u8], yes: &mut u32) -> u32
 
 // The states in the order in which they are found, and their number.
 pub fn states(file: &[u8], tag: u32, out: &mut [u32], count: &mut u32) -> u32
-    ensures value { result ≡ number_in (listRefusal file.now tag (length out.old)) }
-    ensures out_after { out.new ≡ written (listRefusal file.now tag (length out.old)) (statesOf 1 (tableIn file.now) (narrow tag)) out.old }
-    ensures count_after { count.new ≡ handed (listRefusal file.now tag (length out.old)) (length (statesOf 1 (tableIn file.now) (narrow tag))) count.old }
+    ensures value { result ≡ number_in (list_refusal file.now tag (length out.old)) }
+    ensures out_after { out.new ≡ written (list_refusal file.now tag (length out.old)) (states_of 1 (table_in file.now) (narrow tag)) out.old }
+    ensures count_after { count.new ≡ handed (list_refusal file.now tag (length out.old)) (length (states_of 1 (table_in file.now) (narrow tag))) count.old }
 {
     let back = unit_file::read(file);
     let read = back.answer;

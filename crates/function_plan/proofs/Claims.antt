@@ -12,76 +12,76 @@ use Rattle.unit.specs.declared.FunctionUnit.{FunctionUnit}
 use Rattle.unit.specs.declared.Refusal.TheVariants.{NoPlan}
 use Rattle.unit.specs.declared.Answer.{Answer}
 use Rattle.unit.specs.declared.Answer.TheVariants.{Done, Refused}
-use Rattle.unit.specs.Unit.{inside, marked, soundOf}
-use Rattle.unit.specs.Calls.{tagAnswer}
-use Rattle.unit.proofs.Laws.{never_done, tag-accepted, tag-range}
-use Rattle.collision.specs.Vector.{vectorWord}
-use Rattle.collision.proofs.VectorLaws.{marked-bounded, vector-lt}
+use Rattle.unit.specs.Unit.{inside, marked, sound_of}
+use Rattle.unit.specs.Calls.{tag_answer}
+use Rattle.unit.proofs.Laws.{never_done, tag_accepted, tag_range}
+use Rattle.collision.specs.Vector.{vector_word}
+use Rattle.collision.proofs.VectorLaws.{marked_bounded, vector-lt}
 use Rattle.diagram.specs.Diagram.{longest, Walk}
 use Rattle.diagram.specs.Diagram.Walk.{stay, step}
-use Rattle.diagram.proofs.WidthLaws.{width-31}
+use Rattle.diagram.proofs.WidthLaws.{width_31}
 use Rattle.plan_record.specs.Record.{Recordable}
 use Rattle.plan_record.specs.Claims.{GivenPlan}
 use Rattle.planner.specs.declared.Handed.{Handed}
-use Rattle.planner.specs.Plans.{Best, plan_of, readAnswer, handing}
-use Rattle.function_plan.specs.Own.{ownAnswer, ownPlan}
+use Rattle.planner.specs.Plans.{Best, plan_of, read_answer, handing}
+use Rattle.function_plan.specs.Own.{own_answer, own_plan}
 use Rattle.function_plan.specs.Claims.{OwnExactly}
-use Rattle.function_plan.proofs.OwnLaws.{handed-answer}
+use Rattle.function_plan.proofs.OwnLaws.{handed_answer}
 
 -- 8
 
-module _ (u : FunctionUnit) (q : ℕ) (t : tagAnswer u q ≡ Done) where
-  own-not : (u.plan.tag ≡ q → ⊥) → ownAnswer u q ≡ Refused NoPlan
-  unfolding ownAnswer readAnswer
+module _ (u : FunctionUnit) (q : ℕ) (t : tag_answer u q ≡ Done) where
+  own-not : (u.plan.tag ≡ q → ⊥) → own_answer u q ≡ Refused NoPlan
+  unfolding own_answer read_answer
   own-not n = go (eqb u.plan.tag 0) refl
     where
-      go : (b : Bool) → eqb u.plan.tag 0 ≡ b → ownAnswer u q ≡ Refused NoPlan
-      go true e = simp (t, (tag-accepted u q t).sound, e)
-      go false e = simp (t, (tag-accepted u q t).sound, e, ne_eqb u.plan.tag q n)
+      go : (b : Bool) → eqb u.plan.tag 0 ≡ b → own_answer u q ≡ Refused NoPlan
+      go true e = simp (t, (tag_accepted u q t).sound, e)
+      go false e = simp (t, (tag_accepted u q t).sound, e, ne_eqb u.plan.tag q n)
 
-  own_is : u.plan.tag ≡ q → ownAnswer u q ≡ Done
-  unfolding ownAnswer readAnswer
+  own_is : u.plan.tag ≡ q → own_answer u q ≡ Done
+  unfolding own_answer read_answer
   own_is e =
-      simp (t, (tag-accepted u q t).sound, ne_eqb u.plan.tag 0 (λ z. omega (arith, (tag-range u q t).least)), eq-eqb u.plan.tag q e)
+      simp (t, (tag_accepted u q t).sound, ne_eqb u.plan.tag 0 (λ z. omega (arith, (tag_range u q t).least)), eq-eqb u.plan.tag q e)
 
-pub own-exactly : OwnExactly
-own-exactly u q t = record {
+pub own_exactly : OwnExactly
+own_exactly u q t = record {
   eight = ((λ e own. never_done (sym e ∙ own_is u q t own)), own-not u q t);
   done = ((λ e. go (eqb u.plan.tag q) refl e), own_is u q t);
 }
   where
-    go : (b : Bool) → eqb u.plan.tag q ≡ b → ownAnswer u q ≡ Done → u.plan.tag ≡ q
+    go : (b : Bool) → eqb u.plan.tag q ≡ b → own_answer u q ≡ Done → u.plan.tag ≡ q
     go true e d = eqb-true u.plan.tag q e
     go false e d = never_done (sym (own-not u q t (eqb-false u.plan.tag q e)) ∙ d)
 
-pub tag-taken : (u : FunctionUnit) (q : ℕ) → soundOf u ≡ true → inside q u.functions ≡ true → tagAnswer u q ≡ Done
-unfolding tagAnswer
-tag-taken u q sound member = rw (sound, member)
+pub tag_taken : (u : FunctionUnit) (q : ℕ) → sound_of u ≡ true → inside q u.functions ≡ true → tag_answer u q ≡ Done
+unfolding tag_answer
+tag_taken u q sound member = rw (sound, member)
 
 -- What is handed out
 
-module _ (u : FunctionUnit) (q : ℕ) (h : Handed) (e : h ≡ ownPlan u q) where
-  pub own-says : h.answer ≡ ownAnswer u q
-  unfolding ownPlan
-  own-says = ap (λ (x : Handed). x.answer) e ∙ handed-answer (ownAnswer u q) u.plan
+module _ (u : FunctionUnit) (q : ℕ) (h : Handed) (e : h ≡ own_plan u q) where
+  pub own-says : h.answer ≡ own_answer u q
+  unfolding own_plan
+  own-says = ap (λ (x : Handed). x.answer) e ∙ handed_answer (own_answer u q) u.plan
 
   pub own-hands : h.answer ≡ Done → h.plan ≡ u.plan
-  unfolding ownPlan
+  unfolding own_plan
   own-hands d = ap (λ (x : Handed). x.plan) e ∙ ap (λ (a : Answer). (handing a u.plan).plan) (sym own-says ∙ d)
 
 -- A best cycle is one that a record holds
 
-walk-most : {g n cv : ℕ} {l : List ℕ} {s e : ℕ} → Walk g n cv s l e → (i : ℕ) → i < length l → get_or l i 0 ≤ longest g n
-walk-most stay i h = absurd (not-suc-le-zero h)
-walk-most (step w r) zero h = w.small
-walk-most (step w r) (suc i) h = walk-most r i (le_of_suc-le-suc h)
+walk_most : {g n cv : ℕ} {l : List ℕ} {s e : ℕ} → Walk g n cv s l e → (i : ℕ) → i < length l → get_or l i 0 ≤ longest g n
+walk_most stay i h = absurd (not-suc-le-zero h)
+walk_most (step w r) zero h = w.small
+walk_most (step w r) (suc i) h = walk_most r i (le_of_suc-le-suc h)
 
-pub best-recordable : (u : FunctionUnit) (q : ℕ) (cycle : List ℕ) → length cycle ≤ 256 → Best 1 (marked u) q cycle → Recordable cycle
-best-recordable u q cycle few b = record {
+pub best_recordable : (u : FunctionUnit) (q : ℕ) (cycle : List ℕ) → length cycle ≤ 256 → Best 1 (marked u) q cycle → Recordable cycle
+best_recordable u q cycle few b = record {
   some = b.latencies.nonempty;
   few = few;
   least = b.latencies.each;
-  most = λ i h. omega (arith, walk-most b.diagram.closed i h, width-31 (vectorWord (marked u) q) (vector-lt (marked u) (marked-bounded u) q));
+  most = λ i h. omega (arith, walk_most b.diagram.closed i h, width_31 (vector_word (marked u) q) (vector-lt (marked u) (marked_bounded u) q));
 }
 
 -- the plan of a cycle holds it

@@ -4,15 +4,15 @@ use mathlib.Core.List.{◌∷◌}
 use Prim.Native.Nat.{ℕ}
 use native.Mathlib.Omega.{arith}
 use lib.ListN.{replicate}
-use Rattle.words.specs.Below.{someBelow}
+use Rattle.words.specs.Below.{some_below}
 use Rattle.unit.specs.declared.FunctionUnit.{FunctionUnit}
 use Rattle.unit.specs.declared.Refusal.TheVariants.{NoSuchTag, NoPlan}
 use Rattle.unit.specs.declared.Answer.TheVariants.{Done, Refused}
 use Rattle.unit.specs.Numbers.{number_in}
-use Rattle.unit.specs.Unit.{marked, marksInside, soundOf}
-use Rattle.unit.specs.Calls.{tagAnswer}
-use Rattle.planner.specs.Plans.{readAnswer}
-use Rattle.function_plan.specs.Own.{ownAnswer}
+use Rattle.unit.specs.Unit.{marked, marks_inside, sound_of}
+use Rattle.unit.specs.Calls.{tag_answer}
+use Rattle.planner.specs.Plans.{read_answer}
+use Rattle.function_plan.specs.Own.{own_answer}
 use Rattle.function_plan.specs.Claims.{OwnAt}
 
 abbrev keeping : ℕ → FunctionUnit
@@ -25,23 +25,23 @@ keeping tag = record {
 }
 
 -- the plan is function 1's, and not function 2's; there is no function 9
-pub of-1 : ownAnswer (keeping 1) 1 ≡ Done
-unfolding ownAnswer tagAnswer readAnswer soundOf marksInside marked someBelow
-of-1 = refl
+pub of_1 : own_answer (keeping 1) 1 ≡ Done
+unfolding own_answer tag_answer read_answer sound_of marks_inside marked some_below
+of_1 = refl
 
-pub of-2 : ownAnswer (keeping 1) 2 ≡ Refused NoPlan
-unfolding ownAnswer tagAnswer readAnswer soundOf marksInside marked someBelow
-of-2 = refl
+pub of_2 : own_answer (keeping 1) 2 ≡ Refused NoPlan
+unfolding own_answer tag_answer read_answer sound_of marks_inside marked some_below
+of_2 = refl
 
-pub of-9 : ownAnswer (keeping 1) 9 ≡ Refused NoSuchTag
-unfolding ownAnswer tagAnswer soundOf marksInside marked someBelow
-of-9 = refl
+pub of_9 : own_answer (keeping 1) 9 ≡ Refused NoSuchTag
+unfolding own_answer tag_answer sound_of marks_inside marked some_below
+of_9 = refl
 
 -- and of it 8 says nothing
-pub not-own-9 : OwnAt (keeping 1) 9 → ⊥
-not-own-9 o = let e : ◌≡◌ {A = ℕ} 2 8 = ap number_in (sym of-9 ∙ o.eight.1 (λ z. omega (arith, z))) in omega arith
+pub not_own_9 : OwnAt (keeping 1) 9 → ⊥
+not_own_9 o = let e : ◌≡◌ {A = ℕ} 2 8 = ap number_in (sym of_9 ∙ o.eight.1 (λ z. omega (arith, z))) in omega arith
 
 -- a plan that was dropped, whatever its other fields hold
-pub of_none : ownAnswer (keeping 0) 1 ≡ Refused NoPlan
-unfolding ownAnswer tagAnswer readAnswer soundOf marksInside marked someBelow
+pub of_none : own_answer (keeping 0) 1 ≡ Refused NoPlan
+unfolding own_answer tag_answer read_answer sound_of marks_inside marked some_below
 of_none = refl

@@ -4,14 +4,14 @@ use Rattle.unit.specs.declared.FunctionUnit.{FunctionUnit}
 use Rattle.unit.specs.declared.Refusal.TheVariants.{NoPlan}
 use Rattle.unit.specs.declared.Answer.{Answer}
 use Rattle.unit.specs.declared.Answer.TheVariants.{Done}
-use Rattle.unit.specs.Calls.{check, andThen, tagAnswer}
+use Rattle.unit.specs.Calls.{check, and_then, tag_answer}
 use Rattle.planner.specs.declared.Handed.{Handed}
-use Rattle.planner.specs.Plans.{readAnswer, handing}
+use Rattle.planner.specs.Plans.{read_answer, handing}
 
 -- 1 and 2 for the unit and the tag; then 8 for a unit without a plan, as a read has it, and for the plan of another function
-unfoldable pub ownAnswer : FunctionUnit → ℕ → Answer
-ownAnswer u q = andThen (tagAnswer u q) (andThen (readAnswer u) (check (eqb u.plan.tag q) NoPlan Done))
+unfoldable pub own_answer : FunctionUnit → ℕ → Answer
+own_answer u q = and_then (tag_answer u q) (and_then (read_answer u) (check (eqb u.plan.tag q) NoPlan Done))
 
 -- the plan by value; none where the call is refused
-unfoldable pub ownPlan : FunctionUnit → ℕ → Handed
-ownPlan u q = handing (ownAnswer u q) u.plan
+unfoldable pub own_plan : FunctionUnit → ℕ → Handed
+own_plan u q = handing (own_answer u q) u.plan

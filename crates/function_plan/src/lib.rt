@@ -1,8 +1,8 @@
 // The plan of a function, handed out: what the unit holds, if it is the function's own.
 // Every public function here is proved, total and without a `requires`.
 ghost use Rattle.std.specs.Prelude.{◌≡◌};
-ghost use Rattle.function_plan.specs.Own.{ownPlan};
-ghost use Rattle.function_plan.specs.Inner.{nothing, heldPlan};
+ghost use Rattle.function_plan.specs.Own.{own_plan};
+ghost use Rattle.function_plan.specs.Inner.{nothing, held_plan};
 
 use planner::Handed;
 use unit::{Answer, FunctionUnit, Refusal, Tag};
@@ -20,7 +20,7 @@ fn refused(why: Refusal) -> Handed
 
 // The plan that a read hands out, if it is the function's.
 fn read_tagged(u: FunctionUnit, tag: Tag) -> Handed
-    ensures { result ≡ heldPlan u tag.0 }
+    ensures { result ≡ held_plan u tag.0 }
 {
     let handed = planner::read(u);
     let answer = handed.answer;
@@ -38,7 +38,7 @@ fn read_tagged(u: FunctionUnit, tag: Tag) -> Handed
 
 // The plan of a function.
 pub fn read_for(u: FunctionUnit, tag: Tag) -> Handed
-    ensures { result ≡ ownPlan u tag.0 }
+    ensures { result ≡ own_plan u tag.0 }
 {
     let known = unit::check_tag(u, tag);
     match known {

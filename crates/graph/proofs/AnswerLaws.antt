@@ -15,83 +15,83 @@ use Rattle.unit.specs.declared.Refusal.TheVariants.{ShortOutput, TooManyStates}
 use Rattle.unit.specs.declared.Answer.{Answer}
 use Rattle.unit.specs.declared.Answer.TheVariants.{Done, Refused}
 use Rattle.unit.specs.Unit.{marked}
-use Rattle.unit.specs.Calls.{check, andThen, tagAnswer}
-use Rattle.unit.proofs.Laws.{tag-range}
+use Rattle.unit.specs.Calls.{check, and_then, tag_answer}
+use Rattle.unit.proofs.Laws.{tag_range}
 use Rattle.collision.specs.declared.Number.{Number}
 use Rattle.collision.specs.declared.Number.TheVariants as Number
-use Rattle.collision.specs.Vector.{vectorWord}
+use Rattle.collision.specs.Vector.{vector_word}
 use Rattle.collision.specs.Answers.{answering}
 use Rattle.collision.proofs.VectorLaws.{row_lt}
 use Rattle.diagram.specs.Diagram.{width}
-use Rattle.diagram.specs.Answers.{statesOf, fewStates, statesRefusal, statesAnswer, written, statesOut}
+use Rattle.diagram.specs.Answers.{states_of, few_states, states_refusal, states_answer, written, states_out}
 use Rattle.diagram.proofs.Listing.{list-extends}
-use Rattle.diagram.proofs.StateLaws.{states-width}
+use Rattle.diagram.proofs.StateLaws.{states_width}
 use Rattle.drawing.specs.declared.Drawn.{Drawn}
 use Rattle.drawing.specs.declared.Drawn.TheVariants as Drawn
 use Rattle.drawing.specs.Answers.{drawn}
-use Rattle.drawing.proofs.AnswerLaws.{put-end, put-area, sound-unit}
-use Rattle.graph.specs.Dot.{planCycle, diagramText}
-use Rattle.graph.specs.Answers.{dotArea, dotRefusal, dotAnswer, dotOut}
-use Rattle.graph.specs.Inner.{planLength, Listing, listedText}
+use Rattle.drawing.proofs.AnswerLaws.{put_end_lem, put_area, sound_unit}
+use Rattle.graph.specs.Dot.{plan_cycle, diagram_text}
+use Rattle.graph.specs.Answers.{dot_area, dot_refusal, dot_answer, dot_out}
+use Rattle.graph.specs.Inner.{plan_length, Listing, listed_text}
 
 abbrev pub DotEnds : FunctionUnit → ℕ → List ℕ → Drawn → List ℕ → Type 0
-DotEnds u q bytes r after = (r ≡ dotAnswer u q (length bytes)) × (after ≡ dotOut u q bytes)
+DotEnds u q bytes r after = (r ≡ dot_answer u q (length bytes)) × (after ≡ dot_out u q bytes)
 
-dot-ends : (u : FunctionUnit) (q : ℕ) (bytes : List ℕ) (a : Answer) → dotRefusal u q (length bytes) ≡ a
-    → DotEnds u q bytes (drawn a (diagramText u q)) (written a (diagramText u q) bytes)
-unfolding dotAnswer dotOut
-dot-ends u q bytes a e = (ap (λ x. drawn x (diagramText u q)) (sym e), ap (λ x. written x (diagramText u q) bytes) (sym e))
+dot_ends : (u : FunctionUnit) (q : ℕ) (bytes : List ℕ) (a : Answer) → dot_refusal u q (length bytes) ≡ a
+    → DotEnds u q bytes (drawn a (diagram_text u q)) (written a (diagram_text u q) bytes)
+unfolding dot_answer dot_out
+dot_ends u q bytes a e = (ap (λ x. drawn x (diagram_text u q)) (sym e), ap (λ x. written x (diagram_text u q) bytes) (sym e))
 
-pub dot-refused : (u : FunctionUnit) (q : ℕ) (bytes : List ℕ) (why : Refusal) → tagAnswer u q ≡ Refused why → DotEnds u q bytes (Drawn.Refused why) bytes
-unfolding dotRefusal
-dot-refused u q bytes why e =
-    dot-ends u q bytes (Refused why) (ap (λ a. andThen a (check (leb dotArea (length bytes)) ShortOutput (fewStates 1 (marked u) q))) e)
+pub dot_refused : (u : FunctionUnit) (q : ℕ) (bytes : List ℕ) (why : Refusal) → tag_answer u q ≡ Refused why → DotEnds u q bytes (Drawn.Refused why) bytes
+unfolding dot_refusal
+dot_refused u q bytes why e =
+    dot_ends u q bytes (Refused why) (ap (λ a. and_then a (check (leb dot_area (length bytes)) ShortOutput (few_states 1 (marked u) q))) e)
 
 -- the states that were handed out
 pub record Handed (u : FunctionUnit) (q count : ℕ) (list : List ℕ) : Type 0 where
-  pub few : leb (length (statesOf 1 (marked u) q)) 256 ≡ true
-  pub counts : count ≡ length (statesOf 1 (marked u) q)
-  pub front : take count list ≡ statesOf 1 (marked u) q
+  pub few : leb (length (states_of 1 (marked u) q)) 256 ≡ true
+  pub counts : count ≡ length (states_of 1 (marked u) q)
+  pub front : take count list ≡ states_of 1 (marked u) q
   pub room : count ≤ length list
 
-pub handed-part : {u : FunctionUnit} {q count : ℕ} {list : List ℕ} → Handed u q count list → count ≡ length (take count list)
-handed-part h = h.counts ∙ ap length (sym h.front)
+pub handed_part : {u : FunctionUnit} {q count : ℕ} {list : List ℕ} → Handed u q count list → count ≡ length (take count list)
+handed_part h = h.counts ∙ ap length (sym h.front)
 
-module _ (u : FunctionUnit) (q : ℕ) (e : tagAnswer u q ≡ Done) where
-  pub dot-short : (bytes : List ℕ) → length bytes < dotArea → DotEnds u q bytes (Drawn.Refused ShortOutput) bytes
-  unfolding dotRefusal
-  dot-short bytes h = dot-ends u q bytes (Refused ShortOutput) (simp (e, lt-leb dotArea (length bytes) h))
+module _ (u : FunctionUnit) (q : ℕ) (e : tag_answer u q ≡ Done) where
+  pub dot-short : (bytes : List ℕ) → length bytes < dot_area → DotEnds u q bytes (Drawn.Refused ShortOutput) bytes
+  unfolding dot_refusal
+  dot-short bytes h = dot_ends u q bytes (Refused ShortOutput) (simp (e, lt-leb dot_area (length bytes) h))
 
-  dot-passes : (bytes : List ℕ) → dotArea ≤ length bytes → dotRefusal u q (length bytes) ≡ fewStates 1 (marked u) q
-  unfolding dotRefusal
-  dot-passes bytes h = simp (e, le-leb dotArea (length bytes) h)
+  dot-passes : (bytes : List ℕ) → dot_area ≤ length bytes → dot_refusal u q (length bytes) ≡ few_states 1 (marked u) q
+  unfolding dot_refusal
+  dot-passes bytes h = simp (e, le-leb dot_area (length bytes) h)
 
   -- what was asked with room for 256 states
-  states-passes : statesRefusal u q 256 ≡ fewStates 1 (marked u) q
-  unfolding statesRefusal
+  states-passes : states_refusal u q 256 ≡ few_states 1 (marked u) q
+  unfolding states_refusal
   states-passes = simp e
 
-  asked : {answer : Number} → answer ≡ statesAnswer u q 256 → answer ≡ answering (fewStates 1 (marked u) q) (length (statesOf 1 (marked u) q))
-  unfolding statesAnswer
-  asked a = a ∙ ap (λ x. answering x (length (statesOf 1 (marked u) q))) states-passes
+  asked : {answer : Number} → answer ≡ states_answer u q 256 → answer ≡ answering (few_states 1 (marked u) q) (length (states_of 1 (marked u) q))
+  unfolding states_answer
+  asked a = a ∙ ap (λ x. answering x (length (states_of 1 (marked u) q))) states-passes
 
-  pub dot-many : {answer : Number} {why : Refusal} (bytes : List ℕ) → dotArea ≤ length bytes → answer ≡ statesAnswer u q 256 → answer ≡ Number.Refused why
+  pub dot-many : {answer : Number} {why : Refusal} (bytes : List ℕ) → dot_area ≤ length bytes → answer ≡ states_answer u q 256 → answer ≡ Number.Refused why
       → DotEnds u q bytes (Drawn.Refused TooManyStates) bytes
-  dot-many {why = why} bytes h a t = go (leb (length (statesOf 1 (marked u) q)) 256) refl (sym t ∙ asked a)
+  dot-many {why = why} bytes h a t = go (leb (length (states_of 1 (marked u) q)) 256) refl (sym t ∙ asked a)
     where
-      go : (b : Bool) → leb (length (statesOf 1 (marked u) q)) 256 ≡ b
-          → Number.Refused why ≡ answering (check b TooManyStates Done) (length (statesOf 1 (marked u) q))
+      go : (b : Bool) → leb (length (states_of 1 (marked u) q)) 256 ≡ b
+          → Number.Refused why ≡ answering (check b TooManyStates Done) (length (states_of 1 (marked u) q))
           → DotEnds u q bytes (Drawn.Refused TooManyStates) bytes
       go true p f = let z : ◌≡◌ {A = ℕ} 0 1 = cc in absurd (omega arith)
-      go false p f = dot-ends u q bytes (Refused TooManyStates) (dot-passes bytes h ∙ ap (λ b. check b TooManyStates Done) p)
+      go false p f = dot_ends u q bytes (Refused TooManyStates) (dot-passes bytes h ∙ ap (λ b. check b TooManyStates Done) p)
 
-  pub dot-handed : {answer : Number} {count : ℕ} {list : List ℕ} → answer ≡ statesAnswer u q 256 → list ≡ statesOut u q (replicate 256 0)
+  pub dot-handed : {answer : Number} {count : ℕ} {list : List ℕ} → answer ≡ states_answer u q 256 → list ≡ states_out u q (replicate 256 0)
       → answer ≡ Number.Value count → Handed u q count list
-  unfolding statesOut
-  dot-handed {count = count} {list} a o t = go (leb (length (statesOf 1 (marked u) q)) 256) refl (sym t ∙ asked a)
+  unfolding states_out
+  dot-handed {count = count} {list} a o t = go (leb (length (states_of 1 (marked u) q)) 256) refl (sym t ∙ asked a)
     where
       all : List ℕ
-      all = statesOf 1 (marked u) q
+      all = states_of 1 (marked u) q
 
       out : (b : Bool) → leb (length all) 256 ≡ b → list ≡ written (check b TooManyStates Done) all (replicate 256 0)
       out b p = o ∙ ap (λ x. written x all (replicate 256 0)) (states-passes ∙ ap (λ b. check b TooManyStates Done) p)
@@ -110,46 +110,46 @@ module _ (u : FunctionUnit) (q : ℕ) (e : tagAnswer u q ≡ Done) where
 
 -- The listed states
 
-first-state : (u : FunctionUnit) (q : ℕ) → get_or (statesOf 1 (marked u) q) 0 0 ≡ vectorWord (marked u) q
-first-state u q = let cv = vectorWord (marked u) q in (list-extends 1 (width cv) cv 257 0 (cv ∷ [])).same 0 (omega arith)
+first_state_lem : (u : FunctionUnit) (q : ℕ) → get_or (states_of 1 (marked u) q) 0 0 ≡ vector_word (marked u) q
+first_state_lem u q = let cv = vector_word (marked u) q in (list-extends 1 (width cv) cv 257 0 (cv ∷ [])).same 0 (omega arith)
 
-pub handed-listing : {u : FunctionUnit} {q count : ℕ} {list : List ℕ} → Handed u q count list → Listing (take count list)
-handed-listing {u} {q} h =
-    let cv = vectorWord (marked u) q in
+pub handed_listing : {u : FunctionUnit} {q count : ℕ} {list : List ℕ} → Handed u q count list → Listing (take count list)
+handed_listing {u} {q} h =
+    let cv = vector_word (marked u) q in
     rw h.front record {
       some = (list-extends 1 (width cv) cv 257 0 (cv ∷ [])).longer;
       few = leb-true _ _ h.few;
-      small = rw (first-state u q) (states-width 256 1 cv (row_lt (marked u) q q));
+      small = rw (first_state_lem u q) (states_width 256 1 cv (row_lt (marked u) q q));
     }
 
 -- The cycle of the plan
 
-pub plan-part : (u : FunctionUnit) (q : ℕ) → take (planLength u.plan q) u.plan.latencies ≡ planCycle u q
-unfolding planCycle
-plan-part u q = go (eqb u.plan.tag q)
+pub plan_part : (u : FunctionUnit) (q : ℕ) → take (plan_length u.plan q) u.plan.latencies ≡ plan_cycle u q
+unfolding plan_cycle
+plan_part u q = go (eqb u.plan.tag q)
   where
     go : (b : Bool) → take (cond b u.plan.count 0) u.plan.latencies ≡ cond b (take u.plan.count u.plan.latencies) []
     go true = refl
     go false = refl
 
 -- a plan of a tag has at most 256 latencies
-pub plan-few : (u : FunctionUnit) (q : ℕ) → tagAnswer u q ≡ Done → planLength u.plan q ≤ 256
-plan-few u q e = go (eqb u.plan.tag q) refl
+pub plan_few : (u : FunctionUnit) (q : ℕ) → tag_answer u q ≡ Done → plan_length u.plan q ≤ 256
+plan_few u q e = go (eqb u.plan.tag q) refl
   where
     go : (b : Bool) → eqb u.plan.tag q ≡ b → cond b u.plan.count 0 ≤ 256
     go true p =
         let same = eqb-true u.plan.tag q p in
-        let t = tag-range u q e in
-        ((sound-unit u q e).plan (λ z. omega (arith, t.least))).1
+        let t = tag_range u q e in
+        ((sound_unit u q e).plan (λ z. omega (arith, t.least))).1
     go false p = omega arith
 
-pub dot-drawn : (u : FunctionUnit) (q : ℕ) → tagAnswer u q ≡ Done → {n : ℕ} {after : List ℕ} {end count k : ℕ} {list : List ℕ} (bytes : List ℕ)
-    → dotArea ≤ length bytes → Handed u q count list → k ≡ planLength u.plan q
-    → Put n bytes 0 (listedText q (take k u.plan.latencies) (take count list)) after end → DotEnds u q bytes (Drawn.Length end) after
-unfolding diagramText
-dot-drawn u q e {count = count} {k} {list} bytes h d l p =
-    let r = dot-ends u q bytes Done (dot-passes u q e bytes h ∙ ap (λ b. check b TooManyStates Done) d.few) in
-    (ap Drawn.Length (put-end p ∙ ap length same) ∙ r.0, put-area p ∙ ap (λ x. written Done x bytes) same ∙ r.1)
+pub dot_drawn : (u : FunctionUnit) (q : ℕ) → tag_answer u q ≡ Done → {n : ℕ} {after : List ℕ} {end count k : ℕ} {list : List ℕ} (bytes : List ℕ)
+    → dot_area ≤ length bytes → Handed u q count list → k ≡ plan_length u.plan q
+    → Put n bytes 0 (listed_text q (take k u.plan.latencies) (take count list)) after end → DotEnds u q bytes (Drawn.Length end) after
+unfolding diagram_text
+dot_drawn u q e {count = count} {k} {list} bytes h d l p =
+    let r = dot_ends u q bytes Done (dot-passes u q e bytes h ∙ ap (λ b. check b TooManyStates Done) d.few) in
+    (ap Drawn.Length (put_end_lem p ∙ ap length same) ∙ r.0, put_area p ∙ ap (λ x. written Done x bytes) same ∙ r.1)
   where
-    same : listedText q (take k u.plan.latencies) (take count list) ≡ diagramText u q
-    same = rw (d.front, l, plan-part u q, first-state u q)
+    same : listed_text q (take k u.plan.latencies) (take count list) ≡ diagram_text u q
+    same = rw (d.front, l, plan_part u q, first_state_lem u q)

@@ -10,22 +10,22 @@ use borrow.Author.Tests.{eqb-true, eq-eqb}
 use lib.Dec.{eqb}
 use lib.ListN.{length, get_or, take}
 use Rattle.words.specs.Bits.{bit}
-use Rattle.words.proofs.Tests.{and_left, and_right, and-true}
-use Rattle.words.proofs.BitLaws.{bit-above, bit-of-zero, same_bits}
-use Rattle.words.proofs.BelowLaws.{some-intro, some-elim}
+use Rattle.words.proofs.Tests.{and_left, and_right, and_true}
+use Rattle.words.proofs.BitLaws.{bit_above, bit_of_zero, same_bits}
+use Rattle.words.proofs.BelowLaws.{some_intro, some_elim}
 use Rattle.collision.specs.Pipeline.{latency, start_at}
 use Rattle.diagram.specs.Diagram.{next, Walk, stay, step}
-use Rattle.diagram.specs.Cycles.{statesAlong, CycleFrom}
-use Rattle.diagram.proofs.StateLaws.{bit-next, next-lt}
-use Rattle.diagram.proofs.Walks.{run, stateAt, stateAt-run, walk-run, cycle-permits}
-use Rattle.graph.specs.Dot.{stateBefore, onCycle, LeavesBy}
+use Rattle.diagram.specs.Cycles.{states_along, CycleFrom}
+use Rattle.diagram.proofs.StateLaws.{bit_next, next_lt}
+use Rattle.diagram.proofs.Walks.{run, state_at, state_at_run, walk-run, cycle-permits}
+use Rattle.graph.specs.Dot.{state_before, on_cycle, LeavesBy}
 
 -- What is left of the first state
 
 -- after m latencies it has moved by their sum
-bit_at : (cv a : ℕ) (l : List ℕ) (m k : ℕ) → bit (stateAt cv a l m) k ≡ max (bit a (start_at l m + k)) (bit (stateAt cv 0 l m) k)
+bit_at : (cv a : ℕ) (l : List ℕ) (m k : ℕ) → bit (state_at cv a l m) k ≡ max (bit a (start_at l m + k)) (bit (state_at cv 0 l m) k)
 bit_at cv a l zero k =
-    let z = bit-of-zero k in
+    let z = bit_of_zero k in
     let e : 0 + k ≡ k = omega arith in
     rw (e, z) (omega arith)
 bit_at cv a l (suc m) k =
@@ -33,77 +33,77 @@ bit_at cv a l (suc m) k =
     let e : start_at l m + (t + k) ≡ start_at l m + t + k = omega arith in
     let i = bit_at cv a l m (t + k) in
     let j : bit a (start_at l m + (t + k)) ≡ bit a (start_at l m + t + k) = ap (bit a) e in
-    omega (arith, bit-next cv (stateAt cv a l m) t k, bit-next cv (stateAt cv 0 l m) t k, i, j)
+    omega (arith, bit_next cv (state_at cv a l m) t k, bit_next cv (state_at cv 0 l m) t k, i, j)
 
-at_lt : (cv a : ℕ) (l : List ℕ) (m : ℕ) → cv < 2 ^ 32 → a < 2 ^ 32 → stateAt cv a l m < 2 ^ 32
+at_lt : (cv a : ℕ) (l : List ℕ) (m : ℕ) → cv < 2 ^ 32 → a < 2 ^ 32 → state_at cv a l m < 2 ^ 32
 at_lt cv a l zero h k = k
-at_lt cv a l (suc m) h k = next-lt 32 cv (stateAt cv a l m) (latency l m) h (at_lt cv a l m h k)
+at_lt cv a l (suc m) h k = next_lt 32 cv (state_at cv a l m) (latency l m) h (at_lt cv a l m h k)
 
 -- from a sum of 32 on it is gone
-forgotten : (cv a : ℕ) (l : List ℕ) (m : ℕ) → cv < 2 ^ 32 → a < 2 ^ 32 → 32 ≤ start_at l m → stateAt cv a l m ≡ stateAt cv 0 l m
+forgotten : (cv a : ℕ) (l : List ℕ) (m : ℕ) → cv < 2 ^ 32 → a < 2 ^ 32 → 32 ≤ start_at l m → state_at cv a l m ≡ state_at cv 0 l m
 forgotten cv a l m h k far =
-    same_bits 32 (stateAt cv a l m) (stateAt cv 0 l m) (at_lt cv a l m h k) (at_lt cv 0 l m h (omega arith))
+    same_bits 32 (state_at cv a l m) (state_at cv 0 l m) (at_lt cv a l m h k) (at_lt cv 0 l m h (omega arith))
     (λ j b.
-    let z : bit a (start_at l m + j) ≡ 0 = bit-above a 32 (start_at l m + j) k (omega arith) in
-    let e : bit (stateAt cv a l m) j ≡ bit (stateAt cv 0 l m) j = omega (arith, bit_at cv a l m j) in
+    let z : bit a (start_at l m + j) ≡ 0 = bit_above a 32 (start_at l m + j) k (omega arith) in
+    let e : bit (state_at cv a l m) j ≡ bit (state_at cv 0 l m) j = omega (arith, bit_at cv a l m j) in
     ap (λ x. eqb x 1) e)
 
 -- latencies of at least 1 add up to their number
-start-least : (l : List ℕ) → ((i : ℕ) → 1 ≤ latency l i) → (m : ℕ) → m ≤ start_at l m
-start-least l each zero = omega arith
-start-least l each (suc m) = omega (arith, start-least l each m, each m)
+start_least : (l : List ℕ) → ((i : ℕ) → 1 ≤ latency l i) → (m : ℕ) → m ≤ start_at l m
+start_least l each zero = omega arith
+start_least l each (suc m) = omega (arith, start_least l each m, each m)
 
 -- The states along the cycle
 
-before_at : (cv : ℕ) (l : List ℕ) (m : ℕ) → stateBefore cv l m ≡ stateAt cv cv l m
-unfolding stateBefore
+before_at : (cv : ℕ) (l : List ℕ) (m : ℕ) → state_before cv l m ≡ state_at cv cv l m
+unfolding state_before
 before_at cv l zero = refl
 before_at cv l (suc m) = ap (λ x. next cv x (latency l m)) (before_at cv l m)
 
-along-run : (cv s : ℕ) (l : List ℕ) (j : ℕ) → j < length l → run cv s (take j l) ≡ get_or (statesAlong cv s l) j 0
-along-run cv s [] j h = absurd (not-suc-le-zero h)
-along-run cv s (t ∷ l) zero h = refl
-along-run cv s (t ∷ l) (suc j) h = along-run cv (next cv s t) l j (le_of_suc-le-suc h)
+along_run : (cv s : ℕ) (l : List ℕ) (j : ℕ) → j < length l → run cv s (take j l) ≡ get_or (states_along cv s l) j 0
+along_run cv s [] j h = absurd (not-suc-le-zero h)
+along_run cv s (t ∷ l) zero h = refl
+along_run cv s (t ∷ l) (suc j) h = along_run cv (next cv s t) l j (le_of_suc-le-suc h)
 
-walk-below : {g n cv a e : ℕ} {l : List ℕ} → Walk g n cv a l e → cv < 2 ^ 32 → a < 2 ^ 32 → e < 2 ^ 32
-walk-below stay h k = k
-walk-below {cv = cv} (step {s = s} {t = t} p w) h k = walk-below w h (next-lt 32 cv s t h k)
+walk_below : {g n cv a e : ℕ} {l : List ℕ} → Walk g n cv a l e → cv < 2 ^ 32 → a < 2 ^ 32 → e < 2 ^ 32
+walk_below stay h k = k
+walk_below {cv = cv} (step {s = s} {t = t} p w) h k = walk_below w h (next_lt 32 cv s t h k)
 
 module _ {g n cv : ℕ} {l : List ℕ} (c : CycleFrom g n cv l) (small : cv < 2 ^ 32) where
   -- the noted states are those of the cycle
-  turn-state : (j : ℕ) → j < length l → stateBefore cv l (32 * length l + j) ≡ get_or (statesAlong cv c.state l) j 0
+  turn-state : (j : ℕ) → j < length l → state_before cv l (32 * length l + j) ≡ get_or (states_along cv c.state l) j 0
   turn-state j h =
       let m : ℕ = 32 * length l + j in
       let some : 0 < length l = omega arith in
-      let first : c.state < 2 ^ 32 = walk-below c.reached.walk small small in
-      let least = start-least l (λ i. (cycle-permits c.closed some i).positive) m in
+      let first : c.state < 2 ^ 32 = walk_below c.reached.walk small small in
+      let least = start_least l (λ i. (cycle-permits c.closed some i).positive) m in
       let far : 32 ≤ start_at l m = omega (arith, least) in
       let k : m % length l ≡ j = mul-add-mod_self_right 32 (length l) j ∙ mod-eq_of_lt h in
       before_at cv l m
       ∙ forgotten cv cv l m small small far
       ∙ sym (forgotten cv c.state l m small first far)
-      ∙ stateAt-run cv c.state l some (walk-run c.closed) m
+      ∙ state_at_run cv c.state l some (walk-run c.closed) m
       ∙ ap (λ i. run cv c.state (take i l)) k
-      ∙ along-run cv c.state l j h
+      ∙ along_run cv c.state l j h
 
   -- an arc is bold exactly if the cycle takes it
-  pub bold-means : (s t : ℕ) → (onCycle cv l s t ≡ true) ↔ LeavesBy cv c.state l s t
-  unfolding onCycle
+  pub bold-means : (s t : ℕ) → (on_cycle cv l s t ≡ true) ↔ LeavesBy cv c.state l s t
+  unfolding on_cycle
   bold-means s t = (
     (λ e.
-        let r = some-elim (length l) test e in
+        let r = some_elim (length l) test e in
         let j = r.at in
         record {
           start = j;
           inside = r.inside;
-          from = sym (turn-state j r.inside) ∙ eqb-true (stateBefore cv l (32 * length l + j)) s (and_left (eqb (stateBefore cv l (32 * length l + j)) s) _ r.passed);
-          by = eqb-true (get_or l j 0) t (and_right (eqb (stateBefore cv l (32 * length l + j)) s) _ r.passed);
+          from = sym (turn-state j r.inside) ∙ eqb-true (state_before cv l (32 * length l + j)) s (and_left (eqb (state_before cv l (32 * length l + j)) s) _ r.passed);
+          by = eqb-true (get_or l j 0) t (and_right (eqb (state_before cv l (32 * length l + j)) s) _ r.passed);
         }),
     (λ r.
         let j = r.start in
-        some-intro (length l) test j r.inside
-        (and-true (eq-eqb (stateBefore cv l (32 * length l + j)) s (turn-state j r.inside ∙ r.from)) (eq-eqb (get_or l j 0) t r.by))),
+        some_intro (length l) test j r.inside
+        (and_true (eq-eqb (state_before cv l (32 * length l + j)) s (turn-state j r.inside ∙ r.from)) (eq-eqb (get_or l j 0) t r.by))),
   )
     where
       test : ℕ → Bool
-      test j = eqb (stateBefore cv l (32 * length l + j)) s && eqb (get_or l j 0) t
+      test j = eqb (state_before cv l (32 * length l + j)) s && eqb (get_or l j 0) t

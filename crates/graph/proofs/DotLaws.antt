@@ -13,54 +13,54 @@ use lib.Dec.{eqb}
 use lib.ListN.{length, get_or, set, length-set}
 use lib.Seq.{get_or-set_same, get_or-set_other}
 use Rattle.words.specs.Bits.{is_set}
-use Rattle.words.specs.Below.{someBelow, joinBelow}
-use Rattle.words.proofs.BelowLaws.{some_same, some-intro, span-most}
-use Rattle.text.specs.Text.{ascii, decimal, vectorText}
-use Rattle.text.proofs.RowLaws.{vector-length}
+use Rattle.words.specs.Below.{some_below, join_below}
+use Rattle.words.proofs.BelowLaws.{some_same, some_intro, span_most}
+use Rattle.text.specs.Text.{ascii, decimal, vector_text}
+use Rattle.text.proofs.RowLaws.{vector_length}
 use Rattle.collision.specs.Pipeline.{latency}
 use Rattle.diagram.specs.Diagram.{width, next}
 use Rattle.diagram.specs.States.{Each, arc}
-use Rattle.diagram.proofs.StateLaws.{arc-test}
-use Rattle.graph.specs.Dot.{stateBefore, onCycle, stateText, styleText, arcText, arcsText, dotText}
-use Rattle.graph.specs.Inner.{Turn, leaves, labelText, permittedText, statesText, Listing}
+use Rattle.diagram.proofs.StateLaws.{arc_test}
+use Rattle.graph.specs.Dot.{state_before, on_cycle, state_text, style_text, arc_text, arcs_text, dot_text}
+use Rattle.graph.specs.Inner.{Turn, leaves, label_text, permitted_text, states_text, Listing}
 
 -- Where a latency leads
 
-pub next-long : (cv s t : ℕ) → s < 2 ^ 32 → 32 ≤ t → cv ≡ next cv s t
-next-long cv s t h l = sym (ap (λ (x : ℕ). bit_or x cv) (div-eq_of_lt (lt_of_lt_of_le h (pow_mono l))) ∙ or_zero_l cv)
+pub next_long : (cv s t : ℕ) → s < 2 ^ 32 → 32 ≤ t → cv ≡ next cv s t
+next_long cv s t h l = sym (ap (λ (x : ℕ). bit_or x cv) (div-eq_of_lt (lt_of_lt_of_le h (pow_mono l))) ∙ or_zero_l cv)
 
-pub next-short : (cv s t x : ℕ) → t < 32 → x ≡ s / 2 ^ (t % 64) → bit_or x cv ≡ next cv s t
-next-short cv s t x l e = ap (λ (y : ℕ). bit_or y cv) (e ∙ ap (λ (k : ℕ). s / 2 ^ k) (mod-eq_of_lt (omega arith)))
+pub next_short : (cv s t x : ℕ) → t < 32 → x ≡ s / 2 ^ (t % 64) → bit_or x cv ≡ next cv s t
+next_short cv s t x l e = ap (λ (y : ℕ). bit_or y cv) (e ∙ ap (λ (k : ℕ). s / 2 ^ k) (mod-eq_of_lt (omega arith)))
 
 -- The states on the cycle
 
-pub before-start : (cv : ℕ) (cycle : List ℕ) → cv ≡ stateBefore cv cycle 0
-unfolding stateBefore
-before-start cv cycle = refl
+pub before_start : (cv : ℕ) (cycle : List ℕ) → cv ≡ state_before cv cycle 0
+unfolding state_before
+before_start cv cycle = refl
 
-pub before_more : (cv : ℕ) (cycle : List ℕ) (m : ℕ) {s r : ℕ} → s ≡ stateBefore cv cycle m → r ≡ next cv s (latency cycle m) → r ≡ stateBefore cv cycle (m + 1)
-unfolding stateBefore
-before_more cv cycle m e n = n ∙ ap (λ x. next cv x (latency cycle m)) e ∙ ap (stateBefore cv cycle) (sym (add-one m))
+pub before_more : (cv : ℕ) (cycle : List ℕ) (m : ℕ) {s r : ℕ} → s ≡ state_before cv cycle m → r ≡ next cv s (latency cycle m) → r ≡ state_before cv cycle (m + 1)
+unfolding state_before
+before_more cv cycle m e n = n ∙ ap (λ x. next cv x (latency cycle m)) e ∙ ap (state_before cv cycle) (sym (add-one m))
 
 -- a latency of the turn after the 32nd
-turn-latency : (cycle : List ℕ) (j : ℕ) → j < length cycle → latency cycle (32 * length cycle + j) ≡ get_or cycle j 0
-turn-latency cycle j h = ap (λ k. get_or cycle k 0) (mul-add-mod_self_right 32 (length cycle) j ∙ mod-eq_of_lt h)
+turn_latency : (cycle : List ℕ) (j : ℕ) → j < length cycle → latency cycle (32 * length cycle + j) ≡ get_or cycle j 0
+turn_latency cycle j h = ap (λ k. get_or cycle k 0) (mul-add-mod_self_right 32 (length cycle) j ∙ mod-eq_of_lt h)
 
 -- the states before the first j starts of that turn are noted, and the next one is at hand
 pub record Turning (cv : ℕ) (cycle on : List ℕ) (state j : ℕ) : Type 0 where
   pub few : length cycle ≤ 256
   pub most : j ≤ length cycle
   pub room : length on ≡ 256
-  pub at : state ≡ stateBefore cv cycle (32 * length cycle + j)
-  pub noted : (i : ℕ) → i < j → get_or on i 0 ≡ stateBefore cv cycle (32 * length cycle + i)
+  pub at : state ≡ state_before cv cycle (32 * length cycle + j)
+  pub noted : (i : ℕ) → i < j → get_or on i 0 ≡ state_before cv cycle (32 * length cycle + i)
 
-pub turning-start : (cv : ℕ) (cycle on : List ℕ) {state : ℕ} → length cycle ≤ 256 → length on ≡ 256 → state ≡ stateBefore cv cycle (32 * length cycle)
+pub turning_start : (cv : ℕ) (cycle on : List ℕ) {state : ℕ} → length cycle ≤ 256 → length on ≡ 256 → state ≡ state_before cv cycle (32 * length cycle)
     → Turning cv cycle on state 0
-turning-start cv cycle on f r e = record {
+turning_start cv cycle on f r e = record {
   few = f;
   most = omega arith;
   room = r;
-  at = e ∙ ap (stateBefore cv cycle) (sym (add-zero (32 * length cycle)));
+  at = e ∙ ap (state_before cv cycle) (sym (add-zero (32 * length cycle)));
   noted = λ i h. absurd (omega arith);
 }
 
@@ -72,11 +72,11 @@ module _ {cv : ℕ} {cycle on : List ℕ} {state j : ℕ} (t : Turning cv cycle 
     room = length-set on j state ∙ t.room;
     at =
         let k : 32 * length cycle + j + 1 ≡ 32 * length cycle + (j + 1) = omega arith in
-        before_more cv cycle (32 * length cycle + j) t.at (e ∙ ap (next cv state) (sym (turn-latency cycle j h))) ∙ ap (stateBefore cv cycle) k;
+        before_more cv cycle (32 * length cycle + j) t.at (e ∙ ap (next cv state) (sym (turn_latency cycle j h))) ∙ ap (state_before cv cycle) k;
     noted = λ i l. go i l (ℕ_discrete i j);
   }
     where
-      go : (i : ℕ) → i < j + 1 → Dec (i ≡ j) → get_or (set on j state) i 0 ≡ stateBefore cv cycle (32 * length cycle + i)
+      go : (i : ℕ) → i < j + 1 → Dec (i ≡ j) → get_or (set on j state) i 0 ≡ state_before cv cycle (32 * length cycle + i)
       go i l (yes e) = rw (e, get_or-set_same on j state 0 (omega (arith, t.room, t.few))) t.at
       go i l (no ne) = get_or-set_other on j i state 0 ne ∙ t.noted i (omega arith)
 
@@ -89,47 +89,47 @@ module _ {cv : ℕ} {cycle on : List ℕ} {state j : ℕ} (t : Turning cv cycle 
 abbrev pub takes : List ℕ → List ℕ → ℕ → ℕ → ℕ → Bool
 takes on cycle s t j = eqb (get_or on j 0) s && eqb (get_or cycle j 0) t
 
-pub takes-start : (on cycle : List ℕ) (s t : ℕ) → someBelow 0 (takes on cycle s t) ≡ false
-unfolding someBelow
-takes-start on cycle s t = refl
+pub takes_start : (on cycle : List ℕ) (s t : ℕ) → some_below 0 (takes on cycle s t) ≡ false
+unfolding some_below
+takes_start on cycle s t = refl
 
-pub takes-more : (on cycle : List ℕ) (s t j : ℕ) → takes on cycle s t j ≡ false → someBelow j (takes on cycle s t) ≡ false
-    → someBelow (j + 1) (takes on cycle s t) ≡ false
-unfolding someBelow
-takes-more on cycle s t j h e = ap (λ k. someBelow k (takes on cycle s t)) (add-one j) ∙ ap₂ (λ x y. x || y) h e
+pub takes_more : (on cycle : List ℕ) (s t j : ℕ) → takes on cycle s t j ≡ false → some_below j (takes on cycle s t) ≡ false
+    → some_below (j + 1) (takes on cycle s t) ≡ false
+unfolding some_below
+takes_more on cycle s t j h e = ap (λ k. some_below k (takes on cycle s t)) (add-one j) ∙ ap₂ (λ x y. x || y) h e
 
-pub takes-here : (on cycle : List ℕ) (s t j : ℕ) → j < length cycle → takes on cycle s t j ≡ true → true ≡ leaves on cycle s t
+pub takes_here : (on cycle : List ℕ) (s t j : ℕ) → j < length cycle → takes on cycle s t j ≡ true → true ≡ leaves on cycle s t
 unfolding leaves
-takes-here on cycle s t j h e = sym (some-intro (length cycle) (takes on cycle s t) j h e)
+takes_here on cycle s t j h e = sym (some_intro (length cycle) (takes on cycle s t) j h e)
 
-pub takes_none : (on cycle : List ℕ) (s t j : ℕ) → j ≡ length cycle → someBelow j (takes on cycle s t) ≡ false → false ≡ leaves on cycle s t
+pub takes_none : (on cycle : List ℕ) (s t j : ℕ) → j ≡ length cycle → some_below j (takes on cycle s t) ≡ false → false ≡ leaves on cycle s t
 unfolding leaves
 takes_none on cycle s t j h e = sym (rw h at e)
 
 -- the cycle takes the arcs of its noted states
-pub leaves-on : {cv : ℕ} {cycle on : List ℕ} (s t : ℕ) → Turn cv cycle on → leaves on cycle s t ≡ onCycle cv cycle s t
-unfolding leaves onCycle
-leaves-on {cv} {cycle} {on} s t r =
-    some_same (length cycle) (takes on cycle s t) (λ j. eqb (stateBefore cv cycle (32 * length cycle + j)) s && eqb (get_or cycle j 0) t)
+pub leaves_on : {cv : ℕ} {cycle on : List ℕ} (s t : ℕ) → Turn cv cycle on → leaves on cycle s t ≡ on_cycle cv cycle s t
+unfolding leaves on_cycle
+leaves_on {cv} {cycle} {on} s t r =
+    some_same (length cycle) (takes on cycle s t) (λ j. eqb (state_before cv cycle (32 * length cycle + j)) s && eqb (get_or cycle j 0) t)
     (λ j h. ap (λ x. eqb x s && eqb (get_or cycle j 0) t) (r.states j h))
 
 -- The text
 
 -- the columns of a state are at most 32 bytes
-pub vector-few : (n s : ℕ) → n ≤ 32 → length (vectorText n s) ≤ 32
-vector-few n s h = go (ℕ_discrete n 0)
+pub vector_few : (n s : ℕ) → n ≤ 32 → length (vector_text n s) ≤ 32
+vector_few n s h = go (ℕ_discrete n 0)
   where
-    go : Dec (n ≡ 0) → length (vectorText n s) ≤ 32
+    go : Dec (n ≡ 0) → length (vector_text n s) ≤ 32
     go (yes e) = rw e (omega arith)
-    go (no ne) = omega (arith, vector-length n s ne)
+    go (no ne) = omega (arith, vector_length n s ne)
 
 -- an arc from its parts
-pub arc-parts : {cv : ℕ} {cycle on : List ℕ} (n s t : ℕ) {x : ℕ} {b : Bool} → Turn cv cycle on → x ≡ next cv s t → b ≡ leaves on cycle s t
-    → ascii "  " ++ stateText n s ++ ascii " -> " ++ stateText n x ++ labelText t b ≡ arcText n cv cycle s t
-unfolding arcText
-arc-parts {cv} {cycle} n s t r e f =
-    ap₂ (λ (x : ℕ) b. ascii "  " ++ stateText n s ++ ascii " -> " ++ stateText n x ++ labelText t b) e (f ∙ leaves-on s t r)
-    ∙ assoc (ascii "  " ++ stateText n s ++ ascii " -> " ++ stateText n (next cv s t)) (ascii " [label=") (decimal t) (styleText (onCycle cv cycle s t)) (ascii "];\n")
+pub arc_parts : {cv : ℕ} {cycle on : List ℕ} (n s t : ℕ) {x : ℕ} {b : Bool} → Turn cv cycle on → x ≡ next cv s t → b ≡ leaves on cycle s t
+    → ascii "  " ++ state_text n s ++ ascii " -> " ++ state_text n x ++ label_text t b ≡ arc_text n cv cycle s t
+unfolding arc_text
+arc_parts {cv} {cycle} n s t r e f =
+    ap₂ (λ (x : ℕ) b. ascii "  " ++ state_text n s ++ ascii " -> " ++ state_text n x ++ label_text t b) e (f ∙ leaves_on s t r)
+    ∙ assoc (ascii "  " ++ state_text n s ++ ascii " -> " ++ state_text n (next cv s t)) (ascii " [label=") (decimal t) (style_text (on_cycle cv cycle s t)) (ascii "];\n")
   where
     assoc : (p a b d e : List ℕ) → p ++ (a ++ b ++ d ++ e) ≡ p ++ a ++ b ++ d ++ e
     assoc p a b d e = simp append_assoc
@@ -138,33 +138,33 @@ module _ (n cv : ℕ) (cycle : List ℕ) (s i : ℕ) (small : s < 2 ^ n) (most :
   permitted : (b : Bool) → is_set s i ≡ b → arc 1 n s (i + 1) ≡ not b
   permitted b e =
       let k : i + 1 - 1 ≡ i = omega arith in
-      arc-test n s (i + 1) small (omega arith) (omega arith) ∙ ap (λ j. not (is_set s j)) k ∙ ap not e
+      arc_test n s (i + 1) small (omega arith) (omega arith) ∙ ap (λ j. not (is_set s j)) k ∙ ap not e
 
-  pub permitted-not : is_set s i ≡ true → [] ≡ permittedText n cv cycle s i
-  permitted-not e = sym (ap (λ b. cond b (arcText n cv cycle s (i + 1)) []) (permitted true e))
+  pub permitted-not : is_set s i ≡ true → [] ≡ permitted_text n cv cycle s i
+  permitted-not e = sym (ap (λ b. cond b (arc_text n cv cycle s (i + 1)) []) (permitted true e))
 
-  pub permitted-arc : is_set s i ≡ false → arcText n cv cycle s (i + 1) ≡ permittedText n cv cycle s i
-  permitted-arc e = sym (ap (λ b. cond b (arcText n cv cycle s (i + 1)) []) (permitted false e))
+  pub permitted-arc : is_set s i ≡ false → arc_text n cv cycle s (i + 1) ≡ permitted_text n cv cycle s i
+  permitted-arc e = sym (ap (λ b. cond b (arc_text n cv cycle s (i + 1)) []) (permitted false e))
 
-pub arcs-all : (n cv : ℕ) (cycle : List ℕ) (s : ℕ) → joinBelow (n + 1) (permittedText n cv cycle s) ≡ arcsText n cv cycle s
-unfolding arcsText
-arcs-all n cv cycle s = refl
+pub arcs_all : (n cv : ℕ) (cycle : List ℕ) (s : ℕ) → join_below (n + 1) (permitted_text n cv cycle s) ≡ arcs_text n cv cycle s
+unfolding arcs_text
+arcs_all n cv cycle s = refl
 
 -- the diagram from its parts
-pub dot-parts : (q cv : ℕ) (cycle states : List ℕ) {n : ℕ} → n ≡ width cv
-    → ascii "digraph function_" ++ decimal q ++ ascii " {\n" ++ statesText n cv cycle states ++ ascii "}\n" ≡ dotText q (width cv) cv cycle states
-unfolding dotText
-dot-parts q cv cycle states e =
-    ap (λ n. ascii "digraph function_" ++ decimal q ++ ascii " {\n" ++ statesText n cv cycle states ++ ascii "}\n") e
+pub dot_parts : (q cv : ℕ) (cycle states : List ℕ) {n : ℕ} → n ≡ width cv
+    → ascii "digraph function_" ++ decimal q ++ ascii " {\n" ++ states_text n cv cycle states ++ ascii "}\n" ≡ dot_text q (width cv) cv cycle states
+unfolding dot_text
+dot_parts q cv cycle states e =
+    ap (λ n. ascii "digraph function_" ++ decimal q ++ ascii " {\n" ++ states_text n cv cycle states ++ ascii "}\n") e
 
 -- the arcs of the state i
-abbrev pub arcsAt : ℕ → ℕ → List ℕ → List ℕ → ℕ → List ℕ
-arcsAt n cv cycle states i = arcsText n cv cycle (get_or states i 0)
+abbrev pub arcs_at : ℕ → ℕ → List ℕ → List ℕ → ℕ → List ℕ
+arcs_at n cv cycle states i = arcs_text n cv cycle (get_or states i 0)
 
 -- What is listed
 
 pub width_narrow : (n cv : ℕ) → n ≡ width cv → n ≤ 32
-width_narrow n cv e = omega (arith, e, span-most 32 (is_set cv))
+width_narrow n cv e = omega (arith, e, span_most 32 (is_set cv))
 
-pub listing-small : {states : List ℕ} {n : ℕ} → Listing states → n ≡ width (get_or states 0 0) → Each (λ s. s < 2 ^ n) states
-listing-small l e = rw e l.small
+pub listing_small : {states : List ℕ} {n : ℕ} → Listing states → n ≡ width (get_or states 0 0) → Each (λ s. s < 2 ^ n) states
+listing_small l e = rw e l.small

@@ -4,21 +4,21 @@ use Rattle.unit.specs.declared.FunctionUnit.{FunctionUnit}
 use Rattle.unit.specs.declared.Refusal.TheVariants.{ShortOutput}
 use Rattle.unit.specs.declared.Answer.{Answer}
 use Rattle.unit.specs.Unit.{marked}
-use Rattle.unit.specs.Calls.{check, andThen, tagAnswer}
-use Rattle.diagram.specs.Answers.{fewStates, written}
+use Rattle.unit.specs.Calls.{check, and_then, tag_answer}
+use Rattle.diagram.specs.Answers.{few_states, written}
 use Rattle.drawing.specs.declared.Drawn.{Drawn}
 use Rattle.drawing.specs.Answers.{drawn}
-use Rattle.graph.specs.Dot.{diagramText}
+use Rattle.graph.specs.Dot.{diagram_text}
 
 -- the area that suffices for every diagram
-abbrev pub dotArea : ℕ
-dotArea = 1048576
+abbrev pub dot_area : ℕ
+dot_area = 1048576
 
-unfoldable pub dotRefusal : FunctionUnit → ℕ → ℕ → Answer
-dotRefusal u q room = andThen (tagAnswer u q) (check (leb dotArea room) ShortOutput (fewStates 1 (marked u) q))
+unfoldable pub dot_refusal : FunctionUnit → ℕ → ℕ → Answer
+dot_refusal u q room = and_then (tag_answer u q) (check (leb dot_area room) ShortOutput (few_states 1 (marked u) q))
 
-unfoldable pub dotAnswer : FunctionUnit → ℕ → ℕ → Drawn
-dotAnswer u q room = drawn (dotRefusal u q room) (diagramText u q)
+unfoldable pub dot_answer : FunctionUnit → ℕ → ℕ → Drawn
+dot_answer u q room = drawn (dot_refusal u q room) (diagram_text u q)
 
-unfoldable pub dotOut : FunctionUnit → ℕ → List ℕ → List ℕ
-dotOut u q bytes = written (dotRefusal u q (length bytes)) (diagramText u q) bytes
+unfoldable pub dot_out : FunctionUnit → ℕ → List ℕ → List ℕ
+dot_out u q bytes = written (dot_refusal u q (length bytes)) (diagram_text u q) bytes

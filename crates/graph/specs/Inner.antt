@@ -1,25 +1,25 @@
 -- What the private functions write and find. No public contract cites this file.
 use Rattle.std.specs.Prelude.{◌≡◌, Bool, cond, ◌&&◌, List, [], ◌++◌, ℕ, ◌+◌, ◌*◌, ◌^◌, ◌≤◌, ◌<◌, eqb, length, get_or}
-use Rattle.words.specs.Below.{someBelow, joinBelow}
+use Rattle.words.specs.Below.{some_below, join_below}
 use Rattle.text.specs.Text.{ascii, decimal}
 use Rattle.unit.specs.declared.Plan.{Plan}
 use Rattle.diagram.specs.Diagram.{width}
 use Rattle.diagram.specs.States.{Each, arc}
-use Rattle.graph.specs.Dot.{stateBefore, styleText, arcText, arcsText, dotText}
+use Rattle.graph.specs.Dot.{state_before, style_text, arc_text, arcs_text, dot_text}
 
 -- the states before the starts of a turn in which nothing is left of the state where the cycle began
 pub record Turn (cv : ℕ) (cycle on : List ℕ) : Type 0 where
   pub few : length cycle ≤ 256
   pub room : length on ≡ 256
-  pub states : (j : ℕ) → j < length cycle → get_or on j 0 ≡ stateBefore cv cycle (32 * length cycle + j)
+  pub states : (j : ℕ) → j < length cycle → get_or on j 0 ≡ state_before cv cycle (32 * length cycle + j)
 
 -- how many latencies of the plan are the tag's
-abbrev pub planLength : Plan → ℕ → ℕ
-planLength plan q = cond (eqb plan.tag q) plan.count 0
+abbrev pub plan_length : Plan → ℕ → ℕ
+plan_length plan q = cond (eqb plan.tag q) plan.count 0
 
 -- one of these states is s, and its latency t
 unfoldable pub leaves : List ℕ → List ℕ → ℕ → ℕ → Bool
-leaves on cycle s t = someBelow (length cycle) (λ j. eqb (get_or on j 0) s && eqb (get_or cycle j 0) t)
+leaves on cycle s t = some_below (length cycle) (λ j. eqb (get_or on j 0) s && eqb (get_or cycle j 0) t)
 
 -- what is drawn of a vector with n columns
 pub record Drawing (n cv : ℕ) (cycle on : List ℕ) : Type 0 where
@@ -27,16 +27,16 @@ pub record Drawing (n cv : ℕ) (cycle on : List ℕ) : Type 0 where
   pub turn : Turn cv cycle on
 
 -- what stands after an arc, to the end of the line
-abbrev pub labelText : ℕ → Bool → List ℕ
-labelText t bold = ascii " [label=" ++ decimal t ++ styleText bold ++ ascii "];\n"
+abbrev pub label_text : ℕ → Bool → List ℕ
+label_text t bold = ascii " [label=" ++ decimal t ++ style_text bold ++ ascii "];\n"
 
 -- the arc from s by the latency i + 1, if s permits it
-abbrev pub permittedText : ℕ → ℕ → List ℕ → ℕ → ℕ → List ℕ
-permittedText n cv cycle s i = cond (arc 1 n s (i + 1)) (arcText n cv cycle s (i + 1)) []
+abbrev pub permitted_text : ℕ → ℕ → List ℕ → ℕ → ℕ → List ℕ
+permitted_text n cv cycle s i = cond (arc 1 n s (i + 1)) (arc_text n cv cycle s (i + 1)) []
 
 -- the arcs of all states
-abbrev pub statesText : ℕ → ℕ → List ℕ → List ℕ → List ℕ
-statesText n cv cycle states = joinBelow (length states) (λ i. arcsText n cv cycle (get_or states i 0))
+abbrev pub states_text : ℕ → ℕ → List ℕ → List ℕ → List ℕ
+states_text n cv cycle states = join_below (length states) (λ i. arcs_text n cv cycle (get_or states i 0))
 
 -- the states of a diagram, the first of them its vector
 pub record Listing (states : List ℕ) : Type 0 where
@@ -44,5 +44,5 @@ pub record Listing (states : List ℕ) : Type 0 where
   pub few : length states ≤ 256
   pub small : Each (λ s. s < 2 ^ width (get_or states 0 0)) states
 
-abbrev pub listedText : ℕ → List ℕ → List ℕ → List ℕ
-listedText q cycle states = dotText q (width (get_or states 0 0)) (get_or states 0 0) cycle states
+abbrev pub listed_text : ℕ → List ℕ → List ℕ → List ℕ
+listed_text q cycle states = dot_text q (width (get_or states 0 0)) (get_or states 0 0) cycle states

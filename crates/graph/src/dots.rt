@@ -3,9 +3,9 @@ ghost use Rattle.std.specs.Prelude.{◌+◌, ◌*◌, ◌^◌, ◌≤◌, ◌<�
 ghost use Rattle.text.specs.Wrote.{Put};
 ghost use Rattle.diagram.specs.Diagram.{next};
 ghost use Rattle.diagram.specs.States.{Each};
-ghost use Rattle.graph.specs.Dot.{stateBefore, stateText, styleText, arcText, arcsText};
-ghost use Rattle.graph.specs.Answers.{dotArea};
-ghost use Rattle.graph.specs.Inner.{Turn, leaves, Drawing, Listing, labelText, permittedText, statesText, listedText};
+ghost use Rattle.graph.specs.Dot.{state_before, state_text, style_text, arc_text, arcs_text};
+ghost use Rattle.graph.specs.Answers.{dot_area};
+ghost use Rattle.graph.specs.Inner.{Turn, leaves, Drawing, Listing, label_text, permitted_text, states_text, listed_text};
 
 // The state to which a latency leads. From 32 places on nothing of the state is left.
 fn next_of(vector: u32, state: u32, latency: u32) -> u32
@@ -20,7 +20,7 @@ fn next_of(vector: u32, state: u32, latency: u32) -> u32
 // The state after 32 turns of a cycle.
 fn settled(vector: u32, cycle: &[u8]) -> u32
     requires { length cycle.now ≤ 256 }
-    ensures { result ≡ stateBefore vector cycle.now (32 * length cycle.now) }
+    ensures { result ≡ state_before vector cycle.now (32 * length cycle.now) }
 {
     let mut state = vector;
     let mut passed = 0;
@@ -75,7 +75,7 @@ fn is_on_cycle(on: &[u32], cycle: &[u8], state: u32, latency: u32) -> bool
 // A state in quotes, its columns from the highest down.
 fn put_state(out: &mut [u8], at: usize, columns: u32, state: u32) -> usize
     requires { (columns ≤ 32) × (at + 34 ≤ length out.old) }
-    ensures { Put 34 out.old at (stateText columns state) out.new result }
+    ensures { Put 34 out.old at (state_text columns state) out.new result }
 {
     let after_quote = text::put(out, at, b"\"");
     let after_state = column_text::put_columns(out, after_quote, columns, state);
@@ -85,7 +85,7 @@ fn put_state(out: &mut [u8], at: usize, columns: u32, state: u32) -> usize
 // The style of an arc of the cycle, nothing for another.
 fn put_style(out: &mut [u8], at: usize, bold: bool) -> usize
     requires { at + 12 ≤ length out.old }
-    ensures { Put 12 out.old at (styleText bold) out.new result }
+    ensures { Put 12 out.old at (style_text bold) out.new result }
 {
     if bold {
         return text::put(out, at, b", style=bold");
@@ -96,7 +96,7 @@ fn put_style(out: &mut [u8], at: usize, bold: bool) -> usize
 // What stands after an arc, to the end of the line.
 fn put_label(out: &mut [u8], at: usize, latency: u32, bold: bool) -> usize
     requires { at + 33 ≤ length out.old }
-    ensures { Put 33 out.old at (labelText latency bold) out.new result }
+    ensures { Put 33 out.old at (label_text latency bold) out.new result }
 {
     let after_word = text::put(out, at, b" [label=");
     let after_latency = text::put_number(out, after_word, latency);
@@ -116,7 +116,7 @@ fn put_arc(
     latency: u32,
 ) -> usize
     requires { Drawing columns vector cycle.now on.now × (at + 107 ≤ length out.old) }
-    ensures { Put 107 out.old at (arcText columns vector cycle.now state latency) out.new result }
+    ensures { Put 107 out.old at (arc_text columns vector cycle.now state latency) out.new result }
 {
     let after_indent = text::put(out, at, b"  ");
     let after_state = put_state(out, after_indent, columns, state);
@@ -142,7 +142,7 @@ fn put_permitted(
     index: u32,
 ) -> usize
     requires { Drawing columns vector cycle.now on.now × (state < 2 ^ columns) × (index ≤ columns) × (at + 107 ≤ length out.old) }
-    ensures { Put 107 out.old at (permittedText columns vector cycle.now state index) out.new result }
+    ensures { Put 107 out.old at (permitted_text columns vector cycle.now state index) out.new result }
 {
     if words::test(state, index) {
         return at;
@@ -161,7 +161,7 @@ fn put_arcs(
     state: u32,
 ) -> usize
     requires { Drawing columns vector cycle.now on.now × (state < 2 ^ columns) × (at + 3531 ≤ length out.old) }
-    ensures { Put 3531 out.old at (arcsText columns vector cycle.now state) out.new result }
+    ensures { Put 3531 out.old at (arcs_text columns vector cycle.now state) out.new result }
 {
     let mut end = at;
     let mut index = 0;
@@ -183,7 +183,7 @@ fn put_states(
     states: &[u32],
 ) -> usize
     requires { Drawing columns vector cycle.now on.now × Each (λ s. s < 2 ^ columns) states.now × (at + 3531 * length states.now ≤ length out.old) }
-    ensures { Put (3531 * length states.now) out.old at (statesText columns vector cycle.now states.now) out.new result }
+    ensures { Put (3531 * length states.now) out.old at (states_text columns vector cycle.now states.now) out.new result }
 {
     let mut end = at;
     let mut i = 0;
@@ -196,8 +196,8 @@ fn put_states(
 
 // The diagram of the listed states, the first of them the vector.
 pub fn put_diagram(out: &mut [u8], tag: u32, states: &[u32], cycle: &[u8]) -> usize
-    requires { Listing states.now × (length cycle.now ≤ 256) × (dotArea ≤ length out.old) }
-    ensures { Put dotArea out.old 0 (listedText tag cycle.now states.now) out.new result }
+    requires { Listing states.now × (length cycle.now ≤ 256) × (dot_area ≤ length out.old) }
+    ensures { Put dot_area out.old 0 (listed_text tag cycle.now states.now) out.new result }
 {
     let vector = states[0];
     let columns = diagram::width_of(vector);

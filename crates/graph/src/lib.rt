@@ -4,9 +4,9 @@ mod dots;
 
 ghost use Rattle.std.specs.Prelude.{◌≡◌, length, ◌≤◌};
 ghost use Rattle.unit.specs.declared.Answer.TheVariants.{Done};
-ghost use Rattle.unit.specs.Calls.{tagAnswer};
-ghost use Rattle.graph.specs.Answers.{dotArea, dotAnswer, dotOut};
-ghost use Rattle.graph.specs.Inner.{planLength};
+ghost use Rattle.unit.specs.Calls.{tag_answer};
+ghost use Rattle.graph.specs.Answers.{dot_area, dot_answer, dot_out};
+ghost use Rattle.graph.specs.Inner.{plan_length};
 
 use collision::Number;
 use drawing::Drawn;
@@ -17,7 +17,7 @@ pub const DOT: usize = 1048576;
 
 // How many latencies of the plan are the tag's.
 fn cycle_length(plan: Plan, tag: Tag) -> usize
-    ensures { result ≡ planLength plan tag.0 }
+    ensures { result ≡ plan_length plan tag.0 }
 {
     if plan.tag == tag.0 {
         return plan.count as usize;
@@ -27,8 +27,8 @@ fn cycle_length(plan: Plan, tag: Tag) -> usize
 
 // The diagram of a function, if its states are not too many.
 fn dot_states(u: FunctionUnit, tag: Tag, out: &mut [u8]) -> Drawn
-    requires { (tagAnswer u tag.0 ≡ Done) × (dotArea ≤ length out.old) }
-    ensures { (result ≡ dotAnswer u tag.0 (length out.old)) × (out.new ≡ dotOut u tag.0 out.old) }
+    requires { (tag_answer u tag.0 ≡ Done) × (dot_area ≤ length out.old) }
+    ensures { (result ≡ dot_answer u tag.0 (length out.old)) × (out.new ≡ dot_out u tag.0 out.old) }
 {
     let mut list = [0u32; 256];
     let counted = state_list::states(u, tag, &mut list);
@@ -45,8 +45,8 @@ fn dot_states(u: FunctionUnit, tag: Tag, out: &mut [u8]) -> Drawn
 
 // The state diagram of a function, the arcs of the present plan's cycle bold if the plan is one of the tag.
 pub fn dot(u: FunctionUnit, tag: Tag, out: &mut [u8]) -> Drawn
-    ensures value { result ≡ dotAnswer u tag.0 (length out.old) }
-    ensures out_after { out.new ≡ dotOut u tag.0 out.old }
+    ensures value { result ≡ dot_answer u tag.0 (length out.old) }
+    ensures out_after { out.new ≡ dot_out u tag.0 out.old }
 {
     let checked = unit::check_tag(u, tag);
     match checked {

@@ -9,11 +9,11 @@ use native.Mathlib.Omega.{arith}
 use lib.Dec.{T, ltb, ltb→lt, nltb→le}
 use lib.ListN.{length, get_or}
 use borrow.Author.Tests.{lt-ltb, le-ltb}
-use Rattle.words.proofs.Tests.{cond-elim, clash-not, true-T, T_true}
+use Rattle.words.proofs.Tests.{cond_elim, clash_not, true_T, T_true}
 use Rattle.graphs.specs.Graph.{Graph, Walk, stay, step, Reachable, Listed, Each, Distinct}
 use Rattle.graphs.specs.States.{Tests, Right, add, expand, list_from, states}
 use Rattle.graphs.proofs.Walks.{reach-first, reach-on}
-use Rattle.graphs.proofs.ListLaws.{Extends, extends-refl, extends-trans, keep, append-each, one-distinct, add-extends, add-listed, add-each, add-distinct}
+use Rattle.graphs.proofs.ListLaws.{Extends, extends_refl, extends_trans, keep, append_each, one_distinct, add_extends, add_listed, add_each, add_distinct}
 
 -- every arc from the state s leads into l; every arc from a state of l does
 abbrev pub Followed : (G : Graph) → List G.State → G.State → Type 0
@@ -42,9 +42,9 @@ module _ (G : Graph) (S : Tests G) where
   expand-more s t m l = refl
 
   -- the search goes on while a state is left to expand, and then ends
-  pub list-more : (f k : ℕ) (l : List G.State) → k < length l → list_from G S (suc f) k l ≡ list_from G S f (suc k) (turn G S k l)
+  pub list_more : (f k : ℕ) (l : List G.State) → k < length l → list_from G S (suc f) k l ≡ list_from G S f (suc k) (turn G S k l)
   unfolding list_from
-  list-more f k l h = ap (λ b. cond b (list_from G S f (suc k) (turn G S k l)) l) (lt-ltb k (length l) h)
+  list_more f k l h = ap (λ b. cond b (list_from G S f (suc k) (turn G S k l)) l) (lt-ltb k (length l) h)
 
   pub list-end : (f k : ℕ) (l : List G.State) → length l ≤ k → list_from G S f k l ≡ l
   unfolding list_from
@@ -56,10 +56,10 @@ module _ (G : Graph) (S : Tests G) (right : Right G S) where
 
   pub expand-extends : (s : G.State) (t m : ℕ) (l : List G.State) → Extends G l (expand G S s t m l)
   unfolding expand
-  expand-extends s t zero l = extends-refl G l
+  expand-extends s t zero l = extends_refl G l
   expand-extends s t (suc m) l =
-      extends-trans G
-      (cond-elim (Extends G l) (S.arc s t) (add G S (G.next s t) l) l (λ b. add-extends G S right (G.next s t) l) (λ b. extends-refl G l))
+      extends_trans G
+      (cond_elim (Extends G l) (S.arc s t) (add G S (G.next s t) l) l (λ b. add_extends G S right (G.next s t) l) (λ b. extends_refl G l))
       (expand-extends s (suc t) m (visit G S s t l))
 
   expand-distinct : (s : G.State) (t m : ℕ) (l : List G.State) → Distinct G l → Distinct G (expand G S s t m l)
@@ -67,7 +67,7 @@ module _ (G : Graph) (S : Tests G) (right : Right G S) where
   expand-distinct s t zero l d = d
   expand-distinct s t (suc m) l d =
       expand-distinct s (suc t) m (visit G S s t l)
-      (cond-elim (Distinct G) (S.arc s t) (add G S (G.next s t) l) l (λ b. add-distinct G S right (G.next s t) l d) (λ b. d))
+      (cond_elim (Distinct G) (S.arc s t) (add G S (G.next s t) l) l (λ b. add_distinct G S right (G.next s t) l d) (λ b. d))
 
   -- what the labels of s keep, they keep all together
   pub expand-each : (P : G.State → Type 0) (s : G.State) (t m : ℕ) (l : List G.State)
@@ -76,13 +76,13 @@ module _ (G : Graph) (S : Tests G) (right : Right G S) where
   expand-each P s t zero l leads f = f
   expand-each P s t (suc m) l leads f =
       expand-each P s (suc t) m (visit G S s t l) (λ u h k b. leads u (omega arith) (omega arith) b)
-      (cond-elim (Each G P) (S.arc s t) (add G S (G.next s t) l) l
-      (λ b. add-each G S right P (G.next s t) l f (leads t (le_refl t) (omega arith) b)) (λ b. f))
+      (cond_elim (Each G P) (S.arc s t) (add G S (G.next s t) l) l
+      (λ b. add_each G S right P (G.next s t) l f (leads t (le_refl t) (omega arith) b)) (λ b. f))
 
   visit-listed : (s : G.State) (t : ℕ) → G.Permits s t → (l : List G.State) → Listed G (G.next s t) (visit G S s t l)
   visit-listed s t p l =
-      cond-elim (Listed G (G.next s t)) (S.arc s t) (add G S (G.next s t) l) l (λ b. add-listed G S right (G.next s t) l)
-      (λ b. absurd (clash-not (S.arc s t) (true-T (right.permits s t p).2) b))
+      cond_elim (Listed G (G.next s t)) (S.arc s t) (add G S (G.next s t) l) l (λ b. add_listed G S right (G.next s t) l)
+      (λ b. absurd (clash_not (S.arc s t) (true_T (right.permits s t p).2) b))
 
   expand-listed : (s : G.State) (u : ℕ) → G.Permits s u → (t m : ℕ) (l : List G.State) → t ≤ u → u < t + m → Listed G (G.next s u) (expand G S s t m l)
   unfolding expand
@@ -100,16 +100,16 @@ module _ (G : Graph) (S : Tests G) (right : Right G S) where
 
   pub list-extends : (f k : ℕ) (l : List G.State) → Extends G l (list_from G S f k l)
   unfolding list_from
-  list-extends zero k l = extends-refl G l
+  list-extends zero k l = extends_refl G l
   list-extends (suc f) k l =
-      cond-elim (Extends G l) (ltb k (length l)) (list_from G S f (suc k) (turn G S k l)) l
-      (λ b. extends-trans G (expand-extends (get_or l k G.first) 1 S.longest l) (list-extends f (suc k) (turn G S k l))) (λ b. extends-refl G l)
+      cond_elim (Extends G l) (ltb k (length l)) (list_from G S f (suc k) (turn G S k l)) l
+      (λ b. extends_trans G (expand-extends (get_or l k G.first) 1 S.longest l) (list-extends f (suc k) (turn G S k l))) (λ b. extends_refl G l)
 
   list-distinct : (f k : ℕ) (l : List G.State) → Distinct G l → Distinct G (list_from G S f k l)
   unfolding list_from
   list-distinct zero k l d = d
   list-distinct (suc f) k l d =
-      cond-elim (Distinct G) (ltb k (length l)) (list_from G S f (suc k) (turn G S k l)) l
+      cond_elim (Distinct G) (ltb k (length l)) (list_from G S f (suc k) (turn G S k l)) l
       (λ b. list-distinct f (suc k) (turn G S k l) (expand-distinct (get_or l k G.first) 1 S.longest l d)) (λ b. d)
 
   -- what every arc keeps holds of every state listed
@@ -118,7 +118,7 @@ module _ (G : Graph) (S : Tests G) (right : Right G S) where
   unfolding list_from
   list-each P leads zero k l r = r
   list-each P leads (suc f) k l r =
-      cond-elim (Each G P) (ltb k (length l)) (list_from G S f (suc k) (turn G S k l)) l
+      cond_elim (Each G P) (ltb k (length l)) (list_from G S f (suc k) (turn G S k l)) l
       (λ b. list-each P leads f (suc k) (turn G S k l)
       (expand-each P (get_or l k G.first) 1 S.longest l
       (λ u h m a. leads (get_or l k G.first) u (r k (ltb→lt k (length l) b)) (right.arc (get_or l k G.first) u h (omega arith) (T_true (S.arc (get_or l k G.first) u) a))) r))
@@ -149,7 +149,7 @@ module _ (G : Graph) (S : Tests G) (right : Right G S) where
   unfolding list_from
   list-closed zero k l h done = λ short. absurd (omega arith)
   list-closed (suc f) k l h done =
-      cond-elim (λ m. length m < k + suc f → Closed G m) (ltb k (length l)) (list_from G S f (suc k) (turn G S k l)) l
+      cond_elim (λ m. length m < k + suc f → Closed G m) (ltb k (length l)) (list_from G S f (suc k) (turn G S k l)) l
       (λ b short. list-closed f (suc k) (turn G S k l)
       (lt_of_lt_of_le (ltb→lt k (length l) b) (expand-extends (get_or l k G.first) 1 S.longest l).longer)
       (turn-followed k l (ltb→lt k (length l) b) done) (omega arith))
@@ -162,12 +162,12 @@ module _ (G : Graph) (S : Tests G) (right : Right G S) where
     states-first = keep G (list-extends (cap + 1) 0 (G.first ∷ [])) (record { index = 0; inside = zero-lt-suc 0; found = refl })
 
     pub states-distinct : Distinct G (states cap G S)
-    states-distinct = list-distinct (cap + 1) 0 (G.first ∷ []) (one-distinct G G.first)
+    states-distinct = list-distinct (cap + 1) 0 (G.first ∷ []) (one_distinct G G.first)
 
     -- what holds of the first state and along every arc holds of every state listed
     pub states-each : (P : G.State → Type 0) → P G.first → ((s : G.State) (t : ℕ) → P s → G.Permits s t → P (G.next s t)) → Each G P (states cap G S)
     states-each P first leads =
-        list-each P leads (cap + 1) 0 (G.first ∷ []) (append-each G P [] G.first (λ i h. absurd (not-suc-le-zero h)) first)
+        list-each P leads (cap + 1) 0 (G.first ∷ []) (append_each G P [] G.first (λ i h. absurd (not-suc-le-zero h)) first)
 
     pub states-reached : Each G (Reachable G) (states cap G S)
     states-reached = states-each (Reachable G) (reach-first G) (reach-on G)

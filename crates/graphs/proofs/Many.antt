@@ -7,7 +7,7 @@ use lib.ListN.{length, get_or}
 use Rattle.graphs.specs.Graph.{Graph}
 use Rattle.graphs.specs.States.{Tests, Right, states, More}
 use Rattle.graphs.proofs.Listing.{states-distinct, states-reached, states-complete}
-use Rattle.graphs.proofs.Pigeon.{distinct-fits}
+use Rattle.graphs.proofs.Pigeon.{distinct_fits}
 
 module _ (cap : ℕ) (G : Graph) (S : Tests G) (right : Right G S) where
   listed-many : cap < length (states cap G S) → More cap G
@@ -28,7 +28,7 @@ module _ (cap : ℕ) (G : Graph) (S : Tests G) (right : Right G S) where
           absurd
           (omega (
             arith,
-            distinct-fits G r.some (states cap G S) r.distinct
+            distinct_fits G r.some (states cap G S) r.distinct
                 (λ i l. states-complete G S right cap (omega arith) (get_or r.some i G.first) (r.reached i l)),
           ))
 

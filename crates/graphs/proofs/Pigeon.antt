@@ -43,8 +43,8 @@ pigeon (suc m) (suc j) f below apart =
     omega arith
 
 -- a list without repeats is no longer than one that has all its states: the places at which they are listed are different
-pub distinct-fits : (G : Graph) (l m : List G.State) → Distinct G l → Each G (λ x. Listed G x m) l → length l ≤ length m
-distinct-fits G l m d f = pigeon (length m) (length l) (λ i. place i (dec_lt i (length l))) (λ i h. inside i h (dec_lt i (length l)))
+pub distinct_fits : (G : Graph) (l m : List G.State) → Distinct G l → Each G (λ x. Listed G x m) l → length l ≤ length m
+distinct_fits G l m d f = pigeon (length m) (length l) (λ i. place i (dec_lt i (length l))) (λ i h. inside i h (dec_lt i (length l)))
     (λ i j h k e. apart i j h k (dec_lt i (length l)) (dec_lt j (length l)) e)
   where
     place : (i : ℕ) → Dec (i < length l) → ℕ

@@ -15,21 +15,21 @@ run G s [] = s
 run G s (t ∷ l) = run G (G.next s t) l
 
 -- the state before the i-th label of the cycle l, from s on
-abbrev pub stateAt : (G : Graph) → G.State → List ℕ → ℕ → G.State
-stateAt G s l zero = s
-stateAt G s l (suc i) = G.next (stateAt G s l i) (latency l i)
+abbrev pub state_at : (G : Graph) → G.State → List ℕ → ℕ → G.State
+state_at G s l zero = s
+state_at G s l (suc i) = G.next (state_at G s l i) (latency l i)
 
 module _ (G : Graph) where
-  pub run-suc : (s : G.State) (l : List ℕ) (i : ℕ) → i < length l → run G s (take (suc i) l) ≡ G.next (run G s (take i l)) (get_or l i 0)
-  run-suc s [] i h = absurd (not-suc-le-zero h)
-  run-suc s (t ∷ l) zero h = refl
-  run-suc s (t ∷ l) (suc i) h = run-suc (G.next s t) l i (le_of_suc-le-suc h)
+  pub run_suc : (s : G.State) (l : List ℕ) (i : ℕ) → i < length l → run G s (take (suc i) l) ≡ G.next (run G s (take i l)) (get_or l i 0)
+  run_suc s [] i h = absurd (not-suc-le-zero h)
+  run_suc s (t ∷ l) zero h = refl
+  run_suc s (t ∷ l) (suc i) h = run_suc (G.next s t) l i (le_of_suc-le-suc h)
 
   -- a full turn of the cycle leads back to s, so a turn in progress is all that counts
-  pub stateAt-run : (s : G.State) (l : List ℕ) → 0 < length l → run G s l ≡ s → (j : ℕ) → stateAt G s l j ≡ run G s (take (j % length l) l)
-  stateAt-run s l h e zero = rw zero-mod
-  stateAt-run s l h e (suc j) =
-      ap (λ (x : G.State). G.next x (latency l j)) (stateAt-run s l h e j) ∙ sym (run-suc s l (j % length l) (mod-lt j h))
+  pub state_at_run : (s : G.State) (l : List ℕ) → 0 < length l → run G s l ≡ s → (j : ℕ) → state_at G s l j ≡ run G s (take (j % length l) l)
+  state_at_run s l h e zero = rw zero-mod
+  state_at_run s l h e (suc j) =
+      ap (λ (x : G.State). G.next x (latency l j)) (state_at_run s l h e j) ∙ sym (run_suc s l (j % length l) (mod-lt j h))
       ∙ turn (eq-or-lt_of_le (mod-lt j h))
     where
       turn : (suc (j % length l) ≡ length l) ⊎ (suc (j % length l) < length l) → run G s (take (suc (j % length l)) l) ≡ run G s (take (suc j % length l) l)
@@ -46,9 +46,9 @@ module _ (G : Graph) where
   walk-permits (step p w) (suc i) h = walk-permits w i (le_of_suc-le-suc h)
 
   -- a closed walk, repeated without end, goes on being permitted
-  pub cycle-permits : {s : G.State} {l : List ℕ} → Walk G s l s → 0 < length l → (j : ℕ) → G.Permits (stateAt G s l j) (latency l j)
+  pub cycle-permits : {s : G.State} {l : List ℕ} → Walk G s l s → 0 < length l → (j : ℕ) → G.Permits (state_at G s l j) (latency l j)
   cycle-permits {s} {l} w h j =
-      subst (λ (x : G.State). G.Permits x (latency l j)) (sym (stateAt-run s l h (walk-run w) j)) (walk-permits w (j % length l) (mod-lt j h))
+      subst (λ (x : G.State). G.Permits x (latency l j)) (sym (state_at_run s l h (walk-run w) j)) (walk-permits w (j % length l) (mod-lt j h))
 
   -- what every arc keeps holds at the end of a walk
   pub walk-keeps : (P : G.State → Type 0) → ((s : G.State) (t : ℕ) → P s → G.Permits s t → P (G.next s t))

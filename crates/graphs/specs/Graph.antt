@@ -32,12 +32,12 @@ abbrev pub Distinct : (G : Graph) → List G.State → Type 0
 Distinct G l = (i j : ℕ) → i < j → j < length l → get_or l i G.first ≡ get_or l j G.first → ⊥
 
 -- the states that the labels lead through from s, each before its label
-abbrev pub statesAlong : (G : Graph) → G.State → List ℕ → List G.State
-statesAlong G s [] = []
-statesAlong G s (t ∷ l) = s ∷ statesAlong G (G.next s t) l
+abbrev pub states_along : (G : Graph) → G.State → List ℕ → List G.State
+states_along G s [] = []
+states_along G s (t ∷ l) = s ∷ states_along G (G.next s t) l
 
 -- a cycle through the state s: the labels lead from s, which is reachable, back to it, and no state occurs twice on the way
 pub record CycleAt (G : Graph) (s : G.State) (l : List ℕ) : Type 0 where
   pub reached : Reachable G s
   pub closed : Walk G s l s
-  pub apart : Distinct G (statesAlong G s l)
+  pub apart : Distinct G (states_along G s l)

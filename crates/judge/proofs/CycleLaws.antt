@@ -9,13 +9,13 @@ use lib.Dec.{leb, eqb}
 use lib.ListN.{length, get_or, take}
 use lib.Seq.{get_or-take, take-length, length-take-le}
 use borrow.Author.Tests.{leb-true, le-leb, eqb-true, eq-eqb, not-true, lt-ltb, le-ltb}
-use Rattle.words.specs.Below.{someBelow}
-use Rattle.words.proofs.Tests.{nowhere, and_left, and_right, and-true, not-passed}
-use Rattle.words.proofs.BelowLaws.{some-intro, some-elim}
+use Rattle.words.specs.Below.{some_below}
+use Rattle.words.proofs.Tests.{nowhere, and_left, and_right, and_true, not_passed}
+use Rattle.words.proofs.BelowLaws.{some_intro, some_elim}
 use Rattle.unit.specs.Unit.{inside}
 use Rattle.unit.proofs.Laws.{within, inside_of}
 use Rattle.collision.specs.Pipeline.{Cycle, total}
-use Rattle.judge.specs.Judge.{goodCycle, counted, betterOf}
+use Rattle.judge.specs.Judge.{good_cycle, counted, better_of}
 
 -- the first k of a list are a cycle of 1 to 256 latencies, none of them 0
 pub record Counted (l : List ℕ) (k : ℕ) : Type 0 where
@@ -26,36 +26,36 @@ pub record Counted (l : List ℕ) (k : ℕ) : Type 0 where
 
 -- A whole list
 
-pub good-facts : (l : List ℕ) → goodCycle l ≡ true → Counted l (length l)
-unfolding goodCycle
-good-facts l e =
+pub good_facts : (l : List ℕ) → good_cycle l ≡ true → Counted l (length l)
+unfolding good_cycle
+good_facts l e =
     let w = within (length l) 256 (and_left (inside (length l) 256) _ e) in
-    let none = not-true (someBelow (length l) (λ i. eqb (get_or l i 0) 0)) (and_right (inside (length l) 256) _ e) in
+    let none = not-true (some_below (length l) (λ i. eqb (get_or l i 0) 0)) (and_right (inside (length l) 256) _ e) in
     let never : (i : ℕ) → i < length l → get_or l i 0 ≡ 0 → ⊥ =
-    λ i h z. nowhere (sym none ∙ some-intro (length l) (λ i. eqb (get_or l i 0) 0) i h (eq-eqb (get_or l i 0) 0 z)) in
+    λ i h z. nowhere (sym none ∙ some_intro (length l) (λ i. eqb (get_or l i 0) 0) i h (eq-eqb (get_or l i 0) 0 z)) in
     record { inside = omega arith; least = w.least; most = w.most; each = λ i h. let n = never i h in omega arith }
 
-pub good_of : (l : List ℕ) → Counted l (length l) → goodCycle l ≡ true
-unfolding goodCycle
+pub good_of : (l : List ℕ) → Counted l (length l) → good_cycle l ≡ true
+unfolding good_cycle
 good_of l c =
-    and-true (inside_of (length l) 256 c.least c.most)
+    and_true (inside_of (length l) 256 c.least c.most)
     (ap not
-    (not-passed (someBelow (length l) (λ i. eqb (get_or l i 0) 0))
+    (not_passed (some_below (length l) (λ i. eqb (get_or l i 0) 0))
     (λ e.
-    let x = some-elim (length l) (λ i. eqb (get_or l i 0) 0) e in
+    let x = some_elim (length l) (λ i. eqb (get_or l i 0) 0) e in
     omega (arith, c.each x.at x.inside, eqb-true (get_or l x.at 0) 0 x.passed))))
 
-pub good-cycle : (l : List ℕ) → goodCycle l ≡ true → Cycle 1 l
-good-cycle l e = let c = good-facts l e in record { nonempty = c.least; each = c.each }
+pub good_cycle_lem : (l : List ℕ) → good_cycle l ≡ true → Cycle 1 l
+good_cycle_lem l e = let c = good_facts l e in record { nonempty = c.least; each = c.each }
 
 -- The first k of a list
 
-pub counted-facts : (l : List ℕ) (k : ℕ) → counted l k ≡ true → Counted l k
+pub counted_facts : (l : List ℕ) (k : ℕ) → counted l k ≡ true → Counted l k
 unfolding counted
-counted-facts l k e =
+counted_facts l k e =
     let h = leb-true k (length l) (and_left (leb k (length l)) _ e) in
     let n = length-take-le k l h in
-    let c = good-facts (take k l) (and_right (leb k (length l)) _ e) in
+    let c = good_facts (take k l) (and_right (leb k (length l)) _ e) in
     record {
       inside = h;
       least = omega (arith, c.least);
@@ -67,7 +67,7 @@ pub counted_of : (l : List ℕ) (k : ℕ) → Counted l k → counted l k ≡ tr
 unfolding counted
 counted_of l k c =
     let n = length-take-le k l c.inside in
-    and-true (le-leb k (length l) c.inside)
+    and_true (le-leb k (length l) c.inside)
     (good_of (take k l) (record {
       inside = omega arith;
       least = omega (arith, c.least);
@@ -79,36 +79,36 @@ counted_of l k c =
 
 -- the list is no cycle where one of its facts fails
 pub uncounted : (l : List ℕ) (k : ℕ) → (Counted l k → ⊥) → counted l k ≡ false
-uncounted l k f = not-passed (counted l k) (λ e. f (counted-facts l k e))
+uncounted l k f = not_passed (counted l k) (λ e. f (counted_facts l k e))
 
 -- all of a list
-pub counted-whole : (l : List ℕ) → counted l (length l) ≡ goodCycle l
+pub counted_whole : (l : List ℕ) → counted l (length l) ≡ good_cycle l
 unfolding counted
-counted-whole l = rw (le-leb (length l) (length l) (omega arith), take-length l)
+counted_whole l = rw (le-leb (length l) (length l) (omega arith), take-length l)
 
 -- The better of two
 
 -- sums of at most 256 bytes, times a count of at most 256
-pub product-fits : (s k n : ℕ) → s ≤ 255 * k → k ≤ 256 → n ≤ 256 → s * n < 2 ^ 64
-product-fits s k n a b d =
+pub product_fits : (s k n : ℕ) → s ≤ 255 * k → k ≤ 256 → n ≤ 256 → s * n < 2 ^ 64
+product_fits s k n a b d =
     let p : s * n ≤ 65280 * 256 = mul-le-mul {n₁ = s} {m₁ = n} {n₂ = 65280} {m₂ = 256} (omega arith) d in
     omega arith
 
-pub better-no-first : (a : List ℕ) (m : ℕ) (b : List ℕ) (n : ℕ) → counted a m ≡ false → betterOf a m b n ≡ []
-unfolding betterOf
-better-no-first a m b n e = rw e
+pub better_no_first : (a : List ℕ) (m : ℕ) (b : List ℕ) (n : ℕ) → counted a m ≡ false → better_of a m b n ≡ []
+unfolding better_of
+better_no_first a m b n e = rw e
 
-pub better-no-second : (a : List ℕ) (m : ℕ) (b : List ℕ) (n : ℕ) → counted a m ≡ true → counted b n ≡ false → betterOf a m b n ≡ []
-unfolding betterOf
-better-no-second a m b n d e = rw (d, e)
+pub better_no_second : (a : List ℕ) (m : ℕ) (b : List ℕ) (n : ℕ) → counted a m ≡ true → counted b n ≡ false → better_of a m b n ≡ []
+unfolding better_of
+better_no_second a m b n d e = rw (d, e)
 
 -- the sums in hand are those of the two parts, and their products with the other's count are compared
-pub better-second : (a : List ℕ) (m : ℕ) (b : List ℕ) (n s t : ℕ) → counted a m ≡ true → counted b n ≡ true
-    → s ≡ total (take m a) → t ≡ total (take n b) → t * m < s * n → betterOf a m b n ≡ take n b
-unfolding betterOf
-better-second a m b n s t d e p q h = rw (d, e, ← p, ← q, lt-ltb (t * m) (s * n) h)
+pub better_second : (a : List ℕ) (m : ℕ) (b : List ℕ) (n s t : ℕ) → counted a m ≡ true → counted b n ≡ true
+    → s ≡ total (take m a) → t ≡ total (take n b) → t * m < s * n → better_of a m b n ≡ take n b
+unfolding better_of
+better_second a m b n s t d e p q h = rw (d, e, ← p, ← q, lt-ltb (t * m) (s * n) h)
 
-pub better-first : (a : List ℕ) (m : ℕ) (b : List ℕ) (n s t : ℕ) → counted a m ≡ true → counted b n ≡ true
-    → s ≡ total (take m a) → t ≡ total (take n b) → s * n ≤ t * m → betterOf a m b n ≡ take m a
-unfolding betterOf
-better-first a m b n s t d e p q h = rw (d, e, ← p, ← q, le-ltb (t * m) (s * n) h)
+pub better_first : (a : List ℕ) (m : ℕ) (b : List ℕ) (n s t : ℕ) → counted a m ≡ true → counted b n ≡ true
+    → s ≡ total (take m a) → t ≡ total (take n b) → s * n ≤ t * m → better_of a m b n ≡ take m a
+unfolding better_of
+better_first a m b n s t d e p q h = rw (d, e, ← p, ← q, le-ltb (t * m) (s * n) h)

@@ -8,31 +8,31 @@ use Rattle.unit.specs.declared.Refusal.{Refusal}
 use Rattle.unit.specs.declared.Refusal.TheVariants.{BadCycle}
 use Rattle.unit.specs.Unit.{marked}
 use Rattle.collision.specs.declared.Number.TheVariants as Number
-use Rattle.collision.specs.Answers.{vectorAnswer}
-use Rattle.collision.proofs.AnswerLaws.{vector-refused, vector-given}
-use Rattle.collision.proofs.VectorLaws.{marked-bounded}
+use Rattle.collision.specs.Answers.{vector_answer}
+use Rattle.collision.proofs.AnswerLaws.{vector_refused, vector_given}
+use Rattle.collision.proofs.VectorLaws.{marked_bounded}
 use Rattle.judge.specs.declared.Verdict.{Verdict}
 use Rattle.judge.specs.declared.Verdict.TheVariants as Verdict
-use Rattle.judge.specs.Judge.{goodCycle, meets, cycleAnswer, judgeAnswer}
-use Rattle.judge.specs.Inner.{turnMeets}
-use Rattle.judge.proofs.CycleLaws.{good-cycle}
-use Rattle.judge.proofs.IntervalLaws.{turn-vector}
+use Rattle.judge.specs.Judge.{good_cycle, meets, cycle_answer, judge_answer}
+use Rattle.judge.specs.Inner.{turn_meets}
+use Rattle.judge.proofs.CycleLaws.{good_cycle_lem}
+use Rattle.judge.proofs.IntervalLaws.{turn_vector}
 
-pub judge-refused : (u : FunctionUnit) (q : ℕ) (l : List ℕ) (why : Refusal) → vectorAnswer u q ≡ Number.Refused why
-    → judgeAnswer u q l ≡ Verdict.Refused why
-unfolding judgeAnswer cycleAnswer
-judge-refused u q l why e = rw (vector-refused u q why e)
+pub judge_refused : (u : FunctionUnit) (q : ℕ) (l : List ℕ) (why : Refusal) → vector_answer u q ≡ Number.Refused why
+    → judge_answer u q l ≡ Verdict.Refused why
+unfolding judge_answer cycle_answer
+judge_refused u q l why e = rw (vector_refused u q why e)
 
-pub judge-bad : (u : FunctionUnit) (q : ℕ) (l : List ℕ) (w : ℕ) → vectorAnswer u q ≡ Number.Value w → goodCycle l ≡ false
-    → judgeAnswer u q l ≡ Verdict.Refused BadCycle
-unfolding judgeAnswer cycleAnswer
-judge-bad u q l w e g = rw ((vector-given u q w e).done, g)
+pub judge_bad : (u : FunctionUnit) (q : ℕ) (l : List ℕ) (w : ℕ) → vector_answer u q ≡ Number.Value w → good_cycle l ≡ false
+    → judge_answer u q l ≡ Verdict.Refused BadCycle
+unfolding judge_answer cycle_answer
+judge_bad u q l w e g = rw ((vector_given u q w e).done, g)
 
-pub judge-good : (u : FunctionUnit) (q : ℕ) (l : List ℕ) (w : ℕ) (b : Bool) → vectorAnswer u q ≡ Number.Value w → goodCycle l ≡ true
-    → turnMeets w l ≡ b → judgeAnswer u q l ≡ cond b Verdict.No Verdict.Yes
-unfolding judgeAnswer cycleAnswer
-judge-good u q l w b e g m =
-    let v = vector-given u q w e in
+pub judge_good : (u : FunctionUnit) (q : ℕ) (l : List ℕ) (w : ℕ) (b : Bool) → vector_answer u q ≡ Number.Value w → good_cycle l ≡ true
+    → turn_meets w l ≡ b → judge_answer u q l ≡ cond b Verdict.No Verdict.Yes
+unfolding judge_answer cycle_answer
+judge_good u q l w b e g m =
+    let v = vector_given u q w e in
     let same : meets (marked u) q l ≡ b =
-    sym (turn-vector (marked u) q l (marked-bounded u) (good-cycle l g)) ∙ ap (λ x. turnMeets x l) v.value ∙ m in
+    sym (turn_vector (marked u) q l (marked_bounded u) (good_cycle_lem l g)) ∙ ap (λ x. turn_meets x l) v.value ∙ m in
     rw (v.done, g, same)

@@ -1,13 +1,13 @@
 -- Judging a cycle, and the better of two.
 use Rattle.std.specs.Prelude.{Bool, cond, not, ◌&&◌, List, [], ℕ, ◌+◌, ◌-◌, ◌*◌, leb, ltb, eqb, length, get_or, take}
-use Rattle.words.specs.Below.{someBelow}
+use Rattle.words.specs.Below.{some_below}
 use Rattle.unit.specs.declared.FunctionUnit.{FunctionUnit}
 use Rattle.unit.specs.declared.Refusal.TheVariants.{BadCycle}
 use Rattle.unit.specs.declared.Answer.{Answer}
 use Rattle.unit.specs.declared.Answer.TheVariants.{Done, Refused}
 use Rattle.unit.specs.Table.{Table}
 use Rattle.unit.specs.Unit.{inside, marked}
-use Rattle.unit.specs.Calls.{check, tagAnswer}
+use Rattle.unit.specs.Calls.{check, tag_answer}
 use Rattle.collision.specs.Pipeline.{start_at, total}
 use Rattle.collision.specs.Vector.{collides}
 use Rattle.judge.specs.declared.Verdict.{Verdict}
@@ -16,33 +16,33 @@ use Rattle.judge.specs.declared.Verdict.TheVariants as Verdict
 -- Judge
 
 -- 1 to 256 latencies, none of them 0
-unfoldable pub goodCycle : List ℕ → Bool
-goodCycle l = inside (length l) 256 && not (someBelow (length l) (λ i. eqb (get_or l i 0) 0))
+unfoldable pub good_cycle : List ℕ → Bool
+good_cycle l = inside (length l) 256 && not (some_below (length l) (λ i. eqb (get_or l i 0) 0))
 
 -- some start of the first turn collides with one of the 32 starts after it
 unfoldable pub meets : Table → ℕ → List ℕ → Bool
-meets T q l = someBelow (length l) (λ i. someBelow 32 (λ k. collides T q q (start_at l (i + k + 1) - start_at l i)))
+meets T q l = some_below (length l) (λ i. some_below 32 (λ k. collides T q q (start_at l (i + k + 1) - start_at l i)))
 
 abbrev pub verdict : Answer → Bool → Verdict
 verdict Done b = cond b Verdict.No Verdict.Yes
 verdict (Refused why) b = Verdict.Refused why
 
-unfoldable pub cycleAnswer : Answer → List ℕ → Answer
-cycleAnswer Done l = check (goodCycle l) BadCycle Done
-cycleAnswer (Refused why) l = Refused why
+unfoldable pub cycle_answer : Answer → List ℕ → Answer
+cycle_answer Done l = check (good_cycle l) BadCycle Done
+cycle_answer (Refused why) l = Refused why
 
-unfoldable pub judgeAnswer : FunctionUnit → ℕ → List ℕ → Verdict
-judgeAnswer u q l = verdict (cycleAnswer (tagAnswer u q) l) (meets (marked u) q l)
+unfoldable pub judge_answer : FunctionUnit → ℕ → List ℕ → Verdict
+judge_answer u q l = verdict (cycle_answer (tag_answer u q) l) (meets (marked u) q l)
 
 -- Better of two
 
 -- the first k of the list are a cycle of 1 to 256 latencies, none of them 0
 unfoldable pub counted : List ℕ → ℕ → Bool
-counted l k = leb k (length l) && goodCycle (take k l)
+counted l k = leb k (length l) && good_cycle (take k l)
 
 -- the leading part of the first list or of the second: that of lower average, the first when equal; the empty part where either is no cycle
-unfoldable pub betterOf : List ℕ → ℕ → List ℕ → ℕ → List ℕ
-betterOf a m b n =
+unfoldable pub better_of : List ℕ → ℕ → List ℕ → ℕ → List ℕ
+better_of a m b n =
     cond (counted a m && counted b n)
     (cond (ltb (total (take n b) * m) (total (take m a) * n)) (take n b) (take m a))
     []

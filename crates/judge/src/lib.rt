@@ -2,8 +2,8 @@
 // `requires`; the crate assumes nothing of its own.
 ghost use Rattle.std.specs.Prelude.{◌≡◌, true, ◌*◌, ◌≤◌, ◌<◌, length, take};
 ghost use Rattle.collision.specs.Pipeline.{total};
-ghost use Rattle.judge.specs.Judge.{goodCycle, counted, betterOf, judgeAnswer};
-ghost use Rattle.judge.specs.Inner.{startMeets, turnMeets};
+ghost use Rattle.judge.specs.Judge.{good_cycle, counted, better_of, judge_answer};
+ghost use Rattle.judge.specs.Inner.{start_meets, turn_meets};
 
 use collision::Number;
 use unit::{FunctionUnit, Refusal, Tag};
@@ -61,7 +61,7 @@ pub fn better_of_two<'a>(
     second: &'a [u8],
     second_count: usize,
 ) -> &'a [u8]
-    ensures { result.now ≡ betterOf first.now first_count second.now second_count }
+    ensures { result.now ≡ better_of first.now first_count second.now second_count }
 {
     if !is_cycle(first, first_count) {
         return &first[..0];
@@ -80,8 +80,8 @@ pub fn better_of_two<'a>(
 // Whether a word has a 1 for the interval from a start of a cycle to one of the 32 starts after it. Intervals grow from start to
 // start, and a word has no bit for one above 32.
 fn start_meets(vector: u32, cycle: &[u8], start: usize) -> bool
-    requires { (goodCycle cycle.now ≡ true) × (start < length cycle.now) }
-    ensures { result ≡ startMeets vector cycle.now start }
+    requires { (good_cycle cycle.now ≡ true) × (start < length cycle.now) }
+    ensures { result ≡ start_meets vector cycle.now start }
 {
     let mut interval: u32 = 0;
     let mut step: usize = 0;
@@ -100,8 +100,8 @@ fn start_meets(vector: u32, cycle: &[u8], start: usize) -> bool
 
 // The same for some start of the first turn. The starts of later turns lie at the same intervals from one another.
 fn turn_meets(vector: u32, cycle: &[u8]) -> bool
-    requires { goodCycle cycle.now ≡ true }
-    ensures { result ≡ turnMeets vector cycle.now }
+    requires { good_cycle cycle.now ≡ true }
+    ensures { result ≡ turn_meets vector cycle.now }
 {
     let mut start: usize = 0;
     while start < cycle.len() {
@@ -116,7 +116,7 @@ fn turn_meets(vector: u32, cycle: &[u8]) -> bool
 // Whether a cycle, repeated without end, never collides: the intervals between its starts, those that span several turns too,
 // are tested against the collision vector.
 pub fn judge(u: FunctionUnit, tag: Tag, cycle: &[u8]) -> Verdict
-    ensures { result ≡ judgeAnswer u tag.0 cycle.now }
+    ensures { result ≡ judge_answer u tag.0 cycle.now }
 {
     let asked = collision::vector(u, tag);
     match asked {

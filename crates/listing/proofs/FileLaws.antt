@@ -5,7 +5,7 @@ use mathlib.Core.List.{List, [], ◌++◌}
 use native.Mathlib.Omega.{arith}
 use lib.ListN.{length, length-append}
 use Rattle.text.specs.Text.{ascii, decimal}
-use Rattle.text.proofs.DecimalLaws.{decimal-length}
+use Rattle.text.proofs.DecimalLaws.{decimal_length}
 use Rattle.unit.specs.declared.Refusal.{Refusal}
 use Rattle.unit.specs.declared.Outcome.{Outcome}
 use Rattle.unit.specs.declared.Answer.TheVariants.{Done, Refused}
@@ -14,54 +14,54 @@ use Rattle.unit.specs.Table.{Table}
 use Rattle.unit.specs.Calls.{unit_of}
 use Rattle.unit.proofs.Laws.{never_done}
 use Rattle.unit.proofs.NumberLaws.{numbered}
-use Rattle.unit_file.specs.Read.{functionsIn, segmentsIn, columnsIn, fileTable, readAnswer, read_of}
-use Rattle.unit_file.proofs.AcceptedLaws.{Accepted, accepted, read_answer}
+use Rattle.unit_file.specs.Read.{functions_in, segments_in, columns_in, file_table, read_answer, read_of}
+use Rattle.unit_file.proofs.AcceptedLaws.{Accepted, accepted, read_answer_lem}
 use Rattle.listing.specs.declared.Listed.{Listed}
-use Rattle.listing.specs.Lines.{newline, refusedLine, unitText}
-use Rattle.listing.specs.Listing.{roomAnswer, Printed, Bests, unitRefusal, UnitListed, FileListed}
+use Rattle.listing.specs.Lines.{newline, refused_line, unit_text}
+use Rattle.listing.specs.Listing.{room_answer, Printed, Bests, unit_refusal, UnitListed, FileListed}
 
 -- A refused file
 
-refused-short : (why : Refusal) → length (refusedLine why) ≤ 8888
-refused-short why =
-    let d : length (decimal (number_of why)) ≤ 2 = decimal-length (number_of why) 2 (omega arith) (omega (arith, (numbered why).to)) in
+refused_short : (why : Refusal) → length (refused_line why) ≤ 8888
+refused_short why =
+    let d : length (decimal (number_of why)) ≤ 2 = decimal_length (number_of why) 2 (omega arith) (omega (arith, (numbered why).to)) in
     rw (length-append (ascii "refused " ++ decimal (number_of why)) newline, length-append (ascii "refused ") (decimal (number_of why))) (omega arith)
 
 -- what was read says the file's answer
-said : (file : List ℕ) {o : Outcome} → o ≡ read_of file → readAnswer file ≡ o.answer
-said file r = sym (read_answer file) ∙ sym (ap (λ o. o.answer) r)
+said : (file : List ℕ) {o : Outcome} → o ≡ read_of file → read_answer file ≡ o.answer
+said file r = sym (read_answer_lem file) ∙ sym (ap (λ o. o.answer) r)
 
-pub file-refused : {file : List ℕ} {o : Outcome} {why : Refusal} {before after : List ℕ} {answer : Listed} → o ≡ read_of file → o.answer ≡ Refused why
-    → Printed (roomAnswer (refusedLine why) (length before)) (refusedLine why) before after answer → FileListed file before after answer
-file-refused {file} {why = why} r q p =
+pub file_refused : {file : List ℕ} {o : Outcome} {why : Refusal} {before after : List ℕ} {answer : Listed} → o ≡ read_of file → o.answer ≡ Refused why
+    → Printed (room_answer (refused_line why) (length before)) (refused_line why) before after answer → FileListed file before after answer
+file_refused {file} {why = why} r q p =
     let e = said file r ∙ q in
     record {
       best = λ q. [];
       bests = λ d. never_done (sym e ∙ d);
-      suffices = rw e (refused-short why);
+      suffices = rw e (refused_short why);
       printed = rw e p;
     }
 
 -- An accepted file
 
-unit-listed : (file : List ℕ) {before after : List ℕ} {answer : Listed} → readAnswer file ≡ Done → Accepted file
-    → UnitListed (unit_of (functionsIn file) (segmentsIn file) (columnsIn file) (fileTable file)) before after answer → FileListed file before after answer
-unfolding unit_of unitRefusal
-unit-listed file {before} {after} {answer} e a l =
-    let f = functionsIn file in
-    let text : Table → List ℕ = λ T. unitText T f l.best in
+unit_listed : (file : List ℕ) {before after : List ℕ} {answer : Listed} → read_answer file ≡ Done → Accepted file
+    → UnitListed (unit_of (functions_in file) (segments_in file) (columns_in file) (file_table file)) before after answer → FileListed file before after answer
+unfolding unit_of unit_refusal
+unit_listed file {before} {after} {answer} e a l =
+    let f = functions_in file in
+    let text : Table → List ℕ = λ T. unit_text T f l.best in
     record {
       best = l.best;
       bests = λ d. subst (λ (T : Table). Bests T f l.best) a.table (l.bests a.sound);
       suffices = rw e (subst (λ (T : Table). length (text T) ≤ 8888) a.table (l.suffices a.sound));
       printed =
-          rw e (subst (λ (T : Table). Printed (roomAnswer (text T) (length before)) (text T) before after answer) a.table
+          rw e (subst (λ (T : Table). Printed (room_answer (text T) (length before)) (text T) before after answer) a.table
           (rw a.sound at l.printed));
     }
 
-pub file-accepted : {file : List ℕ} {o : Outcome} {before after : List ℕ} {answer : Listed} → o ≡ read_of file → o.answer ≡ Done
+pub file_accepted : {file : List ℕ} {o : Outcome} {before after : List ℕ} {answer : Listed} → o ≡ read_of file → o.answer ≡ Done
     → UnitListed o.unit before after answer → FileListed file before after answer
-file-accepted {file} {before = before} {after} {answer} r q listed =
+file_accepted {file} {before = before} {after} {answer} r q listed =
     let e = said file r ∙ q in
     let a = accepted file e in
-    unit-listed file e a (subst (λ (o : Outcome). UnitListed o.unit before after answer) (r ∙ a.unit) listed)
+    unit_listed file e a (subst (λ (o : Outcome). UnitListed o.unit before after answer) (r ∙ a.unit) listed)

@@ -4,5 +4,5 @@ use mathlib.Core.List.{List, ◌++◌, append_assoc}
 use Prim.Native.Nat.{ℕ}
 
 -- a line after a text, part by part
-pub append-line : (text word number end : List ℕ) → text ++ (word ++ number ++ end) ≡ text ++ word ++ number ++ end
-append-line text word number end = simp append_assoc
+pub append_line : (text word number end : List ℕ) → text ++ (word ++ number ++ end) ≡ text ++ word ++ number ++ end
+append_line text word number end = simp append_assoc

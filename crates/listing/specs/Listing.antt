@@ -5,20 +5,20 @@ use Rattle.unit.specs.declared.Refusal.TheVariants.{NotSound, ShortOutput}
 use Rattle.unit.specs.declared.Answer.{Answer}
 use Rattle.unit.specs.declared.Answer.TheVariants.{Done, Refused}
 use Rattle.unit.specs.Table.{Table}
-use Rattle.unit.specs.Unit.{inside, marked, soundOf}
+use Rattle.unit.specs.Unit.{inside, marked, sound_of}
 use Rattle.unit.specs.Calls.{check}
-use Rattle.unit_file.specs.Read.{functionsIn, fileTable, readAnswer}
-use Rattle.diagram.specs.Answers.{statesOf, written}
+use Rattle.unit_file.specs.Read.{functions_in, file_table, read_answer}
+use Rattle.diagram.specs.Answers.{states_of, written}
 use Rattle.planner.specs.Plans.{Best}
 use Rattle.listing.specs.declared.Listed.{Listed}
 use Rattle.listing.specs.declared.Listed.TheVariants as Listed
-use Rattle.listing.specs.Lines.{refusedLine, unitText}
+use Rattle.listing.specs.Lines.{refused_line, unit_text}
 
 -- Text in a lent area
 
 -- an area that is too short is refused before a byte is written
-abbrev pub roomAnswer : List ℕ → ℕ → Answer
-roomAnswer text room = check (leb (length text) room) ShortOutput Done
+abbrev pub room_answer : List ℕ → ℕ → Answer
+room_answer text room = check (leb (length text) room) ShortOutput Done
 
 -- the length of the text
 abbrev pub listed : Answer → ℕ → Listed
@@ -34,7 +34,7 @@ pub record Printed (refusal : Answer) (text before after : List ℕ) (answer : L
 
 -- for each function whose states are not too many a best cycle. Free is which of several cycles of least average.
 abbrev pub Bests : Table → ℕ → (ℕ → List ℕ) → Type 0
-Bests T functions best = (q : ℕ) → inside q functions ≡ true → leb (length (statesOf 1 T q)) 256 ≡ true → Best 1 T q (best q)
+Bests T functions best = (q : ℕ) → inside q functions ≡ true → leb (length (states_of 1 T q)) 256 ≡ true → Best 1 T q (best q)
 
 -- the area that always suffices
 abbrev pub area : ℕ
@@ -42,24 +42,24 @@ area = 8888
 
 -- The calls
 
-unfoldable pub unitRefusal : FunctionUnit → List ℕ → ℕ → Answer
-unitRefusal u text room = check (soundOf u) NotSound (roomAnswer text room)
+unfoldable pub unit_refusal : FunctionUnit → List ℕ → ℕ → Answer
+unit_refusal u text room = check (sound_of u) NotSound (room_answer text room)
 
 pub record UnitListed (u : FunctionUnit) (before after : List ℕ) (answer : Listed) : Type 0 where
   pub best : ℕ → List ℕ
-  pub bests : soundOf u ≡ true → Bests (marked u) u.functions best
-  pub suffices : soundOf u ≡ true → length (unitText (marked u) u.functions best) ≤ area
+  pub bests : sound_of u ≡ true → Bests (marked u) u.functions best
+  pub suffices : sound_of u ≡ true → length (unit_text (marked u) u.functions best) ≤ area
   pub printed :
-      Printed (unitRefusal u (unitText (marked u) u.functions best) (length before)) (unitText (marked u) u.functions best) before after answer
+      Printed (unit_refusal u (unit_text (marked u) u.functions best) (length before)) (unit_text (marked u) u.functions best) before after answer
 
 -- a refused file has one line
-abbrev pub fileText : Answer → List ℕ → (ℕ → List ℕ) → List ℕ
-fileText Done file best = unitText (fileTable file) (functionsIn file) best
-fileText (Refused why) file best = refusedLine why
+abbrev pub file_text : Answer → List ℕ → (ℕ → List ℕ) → List ℕ
+file_text Done file best = unit_text (file_table file) (functions_in file) best
+file_text (Refused why) file best = refused_line why
 
 pub record FileListed (file before after : List ℕ) (answer : Listed) : Type 0 where
   pub best : ℕ → List ℕ
-  pub bests : readAnswer file ≡ Done → Bests (fileTable file) (functionsIn file) best
-  pub suffices : length (fileText (readAnswer file) file best) ≤ area
+  pub bests : read_answer file ≡ Done → Bests (file_table file) (functions_in file) best
+  pub suffices : length (file_text (read_answer file) file best) ≤ area
   pub printed :
-      Printed (roomAnswer (fileText (readAnswer file) file best) (length before)) (fileText (readAnswer file) file best) before after answer
+      Printed (room_answer (file_text (read_answer file) file best) (length before)) (file_text (read_answer file) file best) before after answer

@@ -2,8 +2,8 @@
 ghost use Rattle.std.specs.Prelude.{◌≡◌, ◌++◌, ◌+◌, ◌≤◌, length};
 ghost use Rattle.unit.specs.Unit.{marked};
 ghost use Rattle.collision.specs.Vector.{constant_of};
-ghost use Rattle.cycles.specs.Greedy.{greedyOf};
-ghost use Rattle.listing.specs.Lines.{numberLine, cycleLine, vectorLine, boundLine, stateLines, functionText};
+ghost use Rattle.cycles.specs.Greedy.{greedy_of};
+ghost use Rattle.listing.specs.Lines.{number_line, cycle_line, vector_line, bound_line, state_lines, function_text};
 ghost use Rattle.text.specs.Wrote.{Put};
 ghost use Rattle.listing.specs.Inner.{value_of, Function, Small, Told};
 
@@ -23,7 +23,7 @@ fn value_of(asked: Number) -> u32
 
 fn put_vector_line(out: &mut [u8], at: usize, u: FunctionUnit, tag: Tag) -> usize
     requires { Function u tag.0 × (at + 40 ≤ length out.old) }
-    ensures { Put 40 out.old at (vectorLine (marked u) tag.0) out.new result }
+    ensures { Put 40 out.old at (vector_line (marked u) tag.0) out.new result }
 {
     let vector = value_of(collision::vector(u, tag));
     let after_word = text::put(out, at, b"vector ");
@@ -33,7 +33,7 @@ fn put_vector_line(out: &mut [u8], at: usize, u: FunctionUnit, tag: Tag) -> usiz
 
 fn put_bound_line(out: &mut [u8], at: usize, u: FunctionUnit, tag: Tag) -> usize
     requires { Function u tag.0 × (at + 34 ≤ length out.old) }
-    ensures { Put 34 out.old at (boundLine (marked u) tag.0) out.new result }
+    ensures { Put 34 out.old at (bound_line (marked u) tag.0) out.new result }
 {
     let bound = value_of(measures::bound(u, tag));
     let upper = value_of(measures::upper(u, tag));
@@ -44,7 +44,7 @@ fn put_bound_line(out: &mut [u8], at: usize, u: FunctionUnit, tag: Tag) -> usize
 
 fn put_constant_line(out: &mut [u8], at: usize, u: FunctionUnit, tag: Tag) -> usize
     requires { Function u tag.0 × (at + 20 ≤ length out.old) }
-    ensures { Put 20 out.old at (numberLine "constant " (constant_of (marked u) tag.0)) out.new result }
+    ensures { Put 20 out.old at (number_line "constant " (constant_of (marked u) tag.0)) out.new result }
 {
     let constant = value_of(measures::constant(u, tag));
     crate::lines::put_line(out, at, b"constant ", constant)
@@ -52,7 +52,7 @@ fn put_constant_line(out: &mut [u8], at: usize, u: FunctionUnit, tag: Tag) -> us
 
 fn put_greedy(out: &mut [u8], at: usize, u: FunctionUnit, tag: Tag) -> usize
     requires { Small u tag.0 × (at + 1046 ≤ length out.old) }
-    ensures { Put 1046 out.old at (cycleLine "greedy" (greedyOf 1 (marked u) tag.0)) out.new result }
+    ensures { Put 1046 out.old at (cycle_line "greedy" (greedy_of 1 (marked u) tag.0)) out.new result }
 {
     let mut work = [0u32; 16000];
     let mut cycle = [0u8; 256];
@@ -66,7 +66,7 @@ fn put_greedy(out: &mut [u8], at: usize, u: FunctionUnit, tag: Tag) -> usize
 
 fn put_best(out: &mut [u8], at: usize, u: FunctionUnit, tag: Tag) -> usize
     requires { Small u tag.0 × (at + 1044 ≤ length out.old) }
-    ensures { Told 1044 (cycleLine "best") u tag.0 out.old at out.new result }
+    ensures { Told 1044 (cycle_line "best") u tag.0 out.old at out.new result }
 {
     let mut work = [0u32; 16000];
     let found = planner::search(u, tag, &mut work);
@@ -80,7 +80,7 @@ fn put_best(out: &mut [u8], at: usize, u: FunctionUnit, tag: Tag) -> usize
 // The lines about the states, or that there are too many.
 fn put_states(out: &mut [u8], at: usize, u: FunctionUnit, tag: Tag) -> usize
     requires { Function u tag.0 × (at + 2108 ≤ length out.old) }
-    ensures { Told 2108 (stateLines (marked u) tag.0) u tag.0 out.old at out.new result }
+    ensures { Told 2108 (state_lines (marked u) tag.0) u tag.0 out.old at out.new result }
 {
     let mut list = [0u32; 256];
     let counted = state_list::states(u, tag, &mut list);
@@ -95,7 +95,7 @@ fn put_states(out: &mut [u8], at: usize, u: FunctionUnit, tag: Tag) -> usize
 // All the lines of a function.
 pub fn put_function(out: &mut [u8], at: usize, u: FunctionUnit, tag: Tag) -> usize
     requires { Function u tag.0 × (at + 2222 ≤ length out.old) }
-    ensures { Told 2222 (functionText (marked u) tag.0) u tag.0 out.old at out.new result }
+    ensures { Told 2222 (function_text (marked u) tag.0) u tag.0 out.old at out.new result }
 {
     let after_tag = crate::lines::put_line(out, at, b"function ", tag.0 as u32);
     let after_vector = put_vector_line(out, after_tag, u, tag);

@@ -4,9 +4,9 @@ mod function;
 mod lines;
 
 ghost use Rattle.std.specs.Prelude.{◌≡◌, true, ◌≤◌, length};
-ghost use Rattle.unit.specs.Unit.{soundOf};
-ghost use Rattle.listing.specs.Lines.{refusedLine};
-ghost use Rattle.listing.specs.Listing.{roomAnswer, Printed, UnitListed, FileListed};
+ghost use Rattle.unit.specs.Unit.{sound_of};
+ghost use Rattle.listing.specs.Lines.{refused_line};
+ghost use Rattle.listing.specs.Listing.{room_answer, Printed, UnitListed, FileListed};
 ghost use Rattle.listing.specs.Inner.{ToldAll};
 
 use unit::{Answer, FunctionUnit, Refusal, Tag};
@@ -23,7 +23,7 @@ pub enum Listed {
 
 // The lines of all functions of a sound unit.
 fn put_functions(out: &mut [u8], u: FunctionUnit) -> usize
-    requires { (soundOf u ≡ true) × (8888 ≤ length out.old) }
+    requires { (sound_of u ≡ true) × (8888 ≤ length out.old) }
     ensures { ToldAll u u.functions out.old out.new result }
 {
     let mut at = 0;
@@ -38,7 +38,7 @@ fn put_functions(out: &mut [u8], u: FunctionUnit) -> usize
 // Copies the text to the front of the area, if it has the room.
 fn hand_out(words: &[u8], out: &mut [u8]) -> Listed
     requires { length words.now ≤ 8888 }
-    ensures { Printed (roomAnswer words.now (length out.old)) words.now out.old out.new result }
+    ensures { Printed (room_answer words.now (length out.old)) words.now out.old out.new result }
 {
     if out.len() < words.len() {
         return Listed::Refused(Refusal::ShortOutput);
@@ -50,7 +50,7 @@ fn hand_out(words: &[u8], out: &mut [u8]) -> Listed
 
 // The one line of a refused file.
 fn list_refusal(why: Refusal, out: &mut [u8]) -> Listed
-    ensures { Printed (roomAnswer (refusedLine why) (length out.old)) (refusedLine why) out.old out.new result }
+    ensures { Printed (room_answer (refused_line why) (length out.old)) (refused_line why) out.old out.new result }
 {
     let mut line = [0u8; 32];
     let end = lines::put_line(

@@ -1,6 +1,6 @@
 // Lines of words, numbers and cycles.
 ghost use Rattle.std.specs.Prelude.{◌++◌, ◌+◌, ◌*◌, ◌≤◌, length};
-ghost use Rattle.text.specs.Text.{ascii, decimal, vectorText, spaced};
+ghost use Rattle.text.specs.Text.{ascii, decimal, vector_text, spaced};
 ghost use Rattle.diagram.specs.Diagram.{width};
 ghost use Rattle.listing.specs.Lines.{newline};
 ghost use Rattle.text.specs.Wrote.{Put};
@@ -18,7 +18,7 @@ pub fn put_line(out: &mut [u8], at: usize, word: &[u8], number: u32) -> usize
 // A collision vector, from its highest column down, or a dash.
 pub fn put_vector(out: &mut [u8], at: usize, vector: u32) -> usize
     requires { at + 32 ≤ length out.old }
-    ensures { Put 32 out.old at (vectorText (width vector) vector) out.new result }
+    ensures { Put 32 out.old at (vector_text (width vector) vector) out.new result }
 {
     column_text::put_columns(out, at, diagram::width_of(vector), vector)
 }

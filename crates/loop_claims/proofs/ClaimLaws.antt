@@ -8,23 +8,23 @@ use native.Mathlib.Omega.{arith}
 use borrow.Author.Tests.{le-leb, lt-leb, leb-true, leb-false}
 use lib.Dec.{leb}
 use lib.ListN.{length, get_or}
-use Rattle.words.proofs.Tests.{and-true}
+use Rattle.words.proofs.Tests.{and_true}
 use Rattle.unit.specs.declared.FunctionUnit.{FunctionUnit}
 use Rattle.unit.specs.declared.Refusal.TheVariants.{NotSound, BadLoop, NoSuchTag, ShortWork, TooManyStates}
 use Rattle.unit.specs.declared.Answer.TheVariants.{Done, Refused}
 use Rattle.unit.specs.Table.{Table}
 use Rattle.unit.specs.Numbers.{number_in}
-use Rattle.unit.specs.Unit.{marked, inside, soundOf}
+use Rattle.unit.specs.Unit.{marked, inside, sound_of}
 use Rattle.unit.specs.Calls.{check}
 use Rattle.unit.proofs.Laws.{within}
-use Rattle.collision.specs.Pipeline.{Task, Clash, Cycle, start_at, taskAt, NeverCollides}
+use Rattle.collision.specs.Pipeline.{Task, Clash, Cycle, start_at, task_at, NeverCollides}
 use Rattle.graphs.specs.States.{More}
-use Rattle.loops.specs.Loop.{Loop, Schedule, loopTask, LoopNeverCollides}
-use Rattle.loops.specs.Steps.{loopGraph, loopStates}
-use Rattle.loops.specs.Answers.{allTags, loopAnswer}
+use Rattle.loops.specs.Loop.{Loop, Schedule, loop_task, LoopNeverCollides}
+use Rattle.loops.specs.Steps.{loop_graph, loop_states}
+use Rattle.loops.specs.Answers.{all_tags, loop_answer}
 use Rattle.loop_claims.specs.Claims.{Asked, SevenExactly, OneAverage, OneTag}
-use Rattle.loops.proofs.StateLaws.{loop-many}
-use Rattle.loops.proofs.RulingLaws.{all_known, all-tags}
+use Rattle.loops.proofs.StateLaws.{loop_many}
+use Rattle.loops.proofs.RulingLaws.{all_known, all_tags_lem}
 
 -- 7
 
@@ -46,48 +46,48 @@ passed true true true false f e = let n : ◌≡◌ {A = ℕ} 5 7 = ap number_in
 passed true true true true true e = let n : ◌≡◌ {A = ℕ} 0 7 = ap number_in e in absurd (omega arith)
 
 module _ (u : FunctionUnit) (tags : List ℕ) (room : ℕ) where
-  seven-many : loopAnswer u tags room ≡ Refused TooManyStates → Asked u tags room × More 256 (loopGraph u tags)
-  unfolding loopAnswer
+  seven-many : loop_answer u tags room ≡ Refused TooManyStates → Asked u tags room × More 256 (loop_graph u tags)
+  unfolding loop_answer
   seven-many e =
-      let p = passed (soundOf u) (inside (length tags) 8) (allTags u tags) (leb 16000 room) (leb (length (loopStates u tags)) 256) e in
+      let p = passed (sound_of u) (inside (length tags) 8) (all_tags u tags) (leb 16000 room) (leb (length (loop_states u tags)) 256) e in
       let k = within (length tags) 8 p.list in
       let loop : Loop u tags = record { some = k.least; few = k.most; tag = all_known u tags p.tags } in (
         record { sound = p.unit; loop = loop; enough = leb-true 16000 room p.words },
-        (loop-many u tags p.unit loop).1 (leb-false (length (loopStates u tags)) 256 p.many),
+        (loop_many u tags p.unit loop).1 (leb-false (length (loop_states u tags)) 256 p.many),
       )
 
-  many-seven : Asked u tags room × More 256 (loopGraph u tags) → loopAnswer u tags room ≡ Refused TooManyStates
-  unfolding loopAnswer
+  many-seven : Asked u tags room × More 256 (loop_graph u tags) → loop_answer u tags room ≡ Refused TooManyStates
+  unfolding loop_answer
   many-seven m =
       let a = m.0 in
       let loop = a.loop in
       simp (
         a.sound,
-        and-true (le-leb 1 (length tags) loop.some) (le-leb (length tags) 8 loop.few),
-        all-tags u tags loop.tag,
+        and_true (le-leb 1 (length tags) loop.some) (le-leb (length tags) 8 loop.few),
+        all_tags_lem u tags loop.tag,
         le-leb 16000 room a.enough,
-        lt-leb (length (loopStates u tags)) 256 ((loop-many u tags a.sound loop).0 m.1),
+        lt-leb (length (loop_states u tags)) 256 ((loop_many u tags a.sound loop).0 m.1),
       )
 
-pub seven-exactly : SevenExactly
-seven-exactly u tags room = (seven-many u tags room, many-seven u tags room)
+pub seven_exactly : SevenExactly
+seven_exactly u tags room = (seven-many u tags room, many-seven u tags room)
 
 -- Averages
 
-pub one-average : OneAverage
-one-average u tags a b p q = omega (arith, p.least b q.schedule q.never, q.least a p.schedule p.never)
+pub one_average : OneAverage
+one_average u tags a b p q = omega (arith, p.least b q.schedule q.never, q.least a p.schedule p.never)
 
 -- One tag
 
 module _ (T : Table) (q : ℕ) (l : List ℕ) where
-  task-same : (i : ℕ) → loopTask (q ∷ []) l i ≡ taskAt q l i
+  task-same : (i : ℕ) → loop_task (q ∷ []) l i ≡ task_at q l i
   task-same i = ap (λ (t : ℕ). record { tag = t; start = start_at l i }) (ap (λ p. get_or (q ∷ []) p 0) (mod-one i))
 
   loop-cycle : LoopNeverCollides T (q ∷ []) l → NeverCollides T q l
-  loop-cycle n i j h c = n i j h (subst (λ (x : Task). Clash T x (loopTask (q ∷ []) l j)) (sym (task-same i)) (subst (Clash T (taskAt q l i)) (sym (task-same j)) c))
+  loop-cycle n i j h c = n i j h (subst (λ (x : Task). Clash T x (loop_task (q ∷ []) l j)) (sym (task-same i)) (subst (Clash T (task_at q l i)) (sym (task-same j)) c))
 
   cycle-loop : NeverCollides T q l → LoopNeverCollides T (q ∷ []) l
-  cycle-loop n i j h c = n i j h (subst (λ (x : Task). Clash T x (taskAt q l j)) (task-same i) (subst (Clash T (loopTask (q ∷ []) l i)) (task-same j) c))
+  cycle-loop n i j h c = n i j h (subst (λ (x : Task). Clash T x (task_at q l j)) (task-same i) (subst (Clash T (loop_task (q ∷ []) l i)) (task-same j) c))
 
   one-schedule : Cycle 1 l → Schedule (q ∷ []) l
   one-schedule c = record { latencies = c; turns = length l; whole = sym (mul-one (length l)) }

@@ -3,25 +3,25 @@ use Rattle.std.specs.Prelude.{◌≡◌, true, List, [], ◌∷◌, ◌↔◌, �
 use Rattle.unit.specs.declared.FunctionUnit.{FunctionUnit}
 use Rattle.unit.specs.declared.Refusal.TheVariants.{TooManyStates}
 use Rattle.unit.specs.declared.Answer.TheVariants.{Refused}
-use Rattle.unit.specs.Unit.{marked, soundOf}
+use Rattle.unit.specs.Unit.{marked, sound_of}
 use Rattle.collision.specs.Pipeline.{total}
 use Rattle.planner.specs.Plans.{Best}
 use Rattle.graphs.specs.States.{More}
 use Rattle.loops.specs.Loop.{Loop}
-use Rattle.loops.specs.Steps.{loopGraph}
+use Rattle.loops.specs.Steps.{loop_graph}
 use Rattle.loops.specs.Best.{BestLoop}
-use Rattle.loops.specs.Answers.{loopAnswer}
+use Rattle.loops.specs.Answers.{loop_answer}
 
 -- what the tests before 7 ask
 pub record Asked (u : FunctionUnit) (tags : List ℕ) (room : ℕ) : Type 0 where
-  pub sound : soundOf u ≡ true
+  pub sound : sound_of u ≡ true
   pub loop : Loop u tags
   pub enough : 16000 ≤ room
 
 -- 7 is answered exactly where no test before it applies and more than 256 states are reached by steps, of any number of ticks
 abbrev pub SevenExactly : Type 0
 SevenExactly = (u : FunctionUnit) (tags : List ℕ) (room : ℕ)
-    → (loopAnswer u tags room ≡ Refused TooManyStates) ↔ (Asked u tags room × More 256 (loopGraph u tags))
+    → (loop_answer u tags room ≡ Refused TooManyStates) ↔ (Asked u tags room × More 256 (loop_graph u tags))
 
 -- which of several loops is given does not show in the average
 abbrev pub OneAverage : Type 0

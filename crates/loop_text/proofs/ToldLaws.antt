@@ -15,17 +15,17 @@ use Rattle.unit.specs.declared.Plan.{Plan}
 use Rattle.unit.specs.declared.Refusal.{Refusal}
 use Rattle.unit.specs.declared.Refusal.TheVariants.{NotSound, BadLoop}
 use Rattle.unit.specs.declared.Answer.TheVariants.{Done, Refused}
-use Rattle.unit.specs.Unit.{inside, soundOf}
-use Rattle.unit.proofs.Laws.{never_done, check-ok, check-next}
+use Rattle.unit.specs.Unit.{inside, sound_of}
+use Rattle.unit.proofs.Laws.{never_done, check_ok, check_next}
 use Rattle.collision.specs.Pipeline.{total}
-use Rattle.listing.specs.Lines.{newline, cycleLine, refusedLine}
+use Rattle.listing.specs.Lines.{newline, cycle_line, refused_line}
 use Rattle.session.specs.Sessions.{Line}
-use Rattle.command.specs.Lines.{inFront}
+use Rattle.command.specs.Lines.{in_front}
 use Rattle.command.proofs.FrontLaws.{front-taken}
 use Rattle.planner.specs.declared.Handed.{Handed}
-use Rattle.loops.specs.Answers.{loopAnswer, LoopFound, LoopPromise}
+use Rattle.loops.specs.Answers.{loop_answer, LoopFound, LoopPromise}
 use Rattle.loop_text.specs.Told.{LoopTold}
-use Rattle.loop_text.specs.Inner.{heldLine}
+use Rattle.loop_text.specs.Inner.{held_line}
 
 -- The line
 
@@ -36,32 +36,32 @@ module _ (u : FunctionUnit) (tags : List ℕ) (plan : Plan) (f : LoopFound u tag
   pub count-few : plan.count ≤ 256
   count-few = omega (arith, count-is, f.few)
 
-  pub held-is : heldLine plan ≡ cycleLine "loop cycle" f.latencies
+  pub held-is : held_line plan ≡ cycle_line "loop cycle" f.latencies
   held-is =
-      ap heldLine f.held
+      ap held_line f.held
       ∙ ap (λ (l : List ℕ). ascii "loop cycle" ++ spaced l ++ ascii " sum " ++ decimal (total f.latencies) ++ newline)
       (take_at f.latencies (replicate (256 - length f.latencies) 0) (length f.latencies) refl)
 
 -- What is told
 
 module _ (u : FunctionUnit) (tags words after : List ℕ) (r : Handed) (p : LoopPromise u tags words after r) (room : length words ≡ 16000) where
-  says : r.answer ≡ loopAnswer u tags 16000
-  says = p.says ∙ ap (loopAnswer u tags) room
+  says : r.answer ≡ loop_answer u tags 16000
+  says = p.says ∙ ap (loop_answer u tags) room
 
-  pub told-found : (before bytes : List ℕ) (end : ℕ) → r.answer ≡ Done → Line (heldLine r.plan) before bytes end → LoopTold u tags before bytes end
+  pub told-found : (before bytes : List ℕ) (end : ℕ) → r.answer ≡ Done → Line (held_line r.plan) before bytes end → LoopTold u tags before bytes end
   told-found before bytes end d l = record {
-    text = heldLine r.plan;
+    text = held_line r.plan;
     found = λ e. let f = p.found d in record { latencies = f.latencies; best = f.best; spelled = held-is u tags r.plan f };
     refused = λ why e. never_done (sym e ∙ sym says ∙ d);
     line = l;
   }
 
-  pub told-refused : (before bytes : List ℕ) (end : ℕ) (why : Refusal) → r.answer ≡ Refused why → Line (refusedLine why) before bytes end
+  pub told-refused : (before bytes : List ℕ) (end : ℕ) (why : Refusal) → r.answer ≡ Refused why → Line (refused_line why) before bytes end
       → LoopTold u tags before bytes end
   told-refused before bytes end why d l = record {
-    text = refusedLine why;
+    text = refused_line why;
     found = λ e. never_done (sym d ∙ says ∙ e);
-    refused = λ other e. let same : why ≡ other = only (sym d ∙ says ∙ e) in ap refusedLine same;
+    refused = λ other e. let same : why ≡ other = only (sym d ∙ says ∙ e) in ap refused_line same;
     line = l;
   }
     where
@@ -70,35 +70,35 @@ module _ (u : FunctionUnit) (tags words after : List ℕ) (r : Handed) (p : Loop
 
 -- The tags of a line
 
-long-out : (n : ℕ) → 8 < n → inside n 8 ≡ false
-long-out n h = rw (le-leb 1 n (omega arith), lt-leb n 8 h)
+long_out : (n : ℕ) → 8 < n → inside n 8 ≡ false
+long_out n h = rw (le-leb 1 n (omega arith), lt-leb n 8 h)
 
 -- a list of nine tags or more is refused as its first nine are
-long-cut : (u : FunctionUnit) (tags : List ℕ) → 8 < length tags → loopAnswer u (take 9 tags) 16000 ≡ loopAnswer u tags 16000
-unfolding loopAnswer
-long-cut u tags h =
+long_cut : (u : FunctionUnit) (tags : List ℕ) → 8 < length tags → loop_answer u (take 9 tags) 16000 ≡ loop_answer u tags 16000
+unfolding loop_answer
+long_cut u tags h =
     let n : length (take 9 tags) ≡ 9 = length-take-le 9 tags (omega arith) in
-    simp (long-out (length (take 9 tags)) (omega arith), long-out (length tags) h)
+    simp (long_out (length (take 9 tags)) (omega arith), long_out (length tags) h)
 
-long-never : {A : Type 0} (u : FunctionUnit) (tags : List ℕ) → 8 < length tags → loopAnswer u tags 16000 ≡ Done → A
-unfolding loopAnswer
-long-never u tags h e =
-    nowhere (sym (long-out (length tags) h) ∙ check-ok (inside (length tags) 8) BadLoop _ (check-next (soundOf u) NotSound _ e))
+long_never : {A : Type 0} (u : FunctionUnit) (tags : List ℕ) → 8 < length tags → loop_answer u tags 16000 ≡ Done → A
+unfolding loop_answer
+long_never u tags h e =
+    nowhere (sym (long_out (length tags) h) ∙ check_ok (inside (length tags) 8) BadLoop _ (check_next (sound_of u) NotSound _ e))
 
 -- what is told of the first nine tags is told of all
-told-cut : (u : FunctionUnit) (tags before after : List ℕ) (end : ℕ) → LoopTold u (take 9 tags) before after end → LoopTold u tags before after end
-told-cut u tags before after end t = go (dec_le (length tags) 8)
+told_cut : (u : FunctionUnit) (tags before after : List ℕ) (end : ℕ) → LoopTold u (take 9 tags) before after end → LoopTold u tags before after end
+told_cut u tags before after end t = go (dec_le (length tags) 8)
   where
     go : Dec (length tags ≤ 8) → LoopTold u tags before after end
     go (yes h) = subst (λ (l : List ℕ). LoopTold u l before after end) (take_all 9 tags (omega arith)) t
     go (no h) = record {
       text = t.text;
-      found = λ e. long-never u tags (omega arith) e;
-      refused = λ why e. t.refused why (long-cut u tags (omega arith) ∙ e);
+      found = λ e. long_never u tags (omega arith) e;
+      refused = λ why e. t.refused why (long_cut u tags (omega arith) ∙ e);
       line = t.line;
     }
 
 pub told_line : (u : FunctionUnit) (tags before after : List ℕ) (end count : ℕ) (bytes : List ℕ) → count ≡ min (length tags) 9
-    → bytes ≡ inFront tags (replicate 9 0) → LoopTold u (take count bytes) before after end → LoopTold u tags before after end
+    → bytes ≡ in_front tags (replicate 9 0) → LoopTold u (take count bytes) before after end → LoopTold u tags before after end
 told_line u tags before after end count bytes n e t =
-    told-cut u tags before after end (subst (λ (l : List ℕ). LoopTold u l before after end) (front-taken tags (replicate 9 0) n e) t)
+    told_cut u tags before after end (subst (λ (l : List ℕ). LoopTold u l before after end) (front-taken tags (replicate 9 0) n e) t)

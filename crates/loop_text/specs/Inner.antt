@@ -5,5 +5,5 @@ use Rattle.unit.specs.declared.Plan.{Plan}
 use Rattle.listing.specs.Lines.{newline}
 
 -- the latencies that a plan holds, and their sum
-abbrev pub heldLine : Plan → List ℕ
-heldLine p = ascii "loop cycle" ++ spaced (take p.count p.latencies) ++ ascii " sum " ++ decimal p.sum ++ newline
+abbrev pub held_line : Plan → List ℕ
+held_line p = ascii "loop cycle" ++ spaced (take p.count p.latencies) ++ ascii " sum " ++ decimal p.sum ++ newline

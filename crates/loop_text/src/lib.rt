@@ -4,10 +4,10 @@ ghost use Rattle.std.specs.Prelude.{◌++◌, ◌≤◌, length};
 ghost use Rattle.text.specs.Text.{ascii, decimal, spaced};
 ghost use Rattle.text.specs.Wrote.{Wrote};
 ghost use Rattle.listing.specs.Lines.{newline};
-ghost use Rattle.command.specs.Lines.{tagsIn};
+ghost use Rattle.command.specs.Lines.{tags_in};
 ghost use Rattle.session.specs.Sessions.{Line};
 ghost use Rattle.loop_text.specs.Told.{LoopTold};
-ghost use Rattle.loop_text.specs.Inner.{heldLine};
+ghost use Rattle.loop_text.specs.Inner.{held_line};
 
 use unit::{Answer, FunctionUnit, Plan};
 
@@ -26,7 +26,7 @@ fn write_loop(line: &mut [u8], latencies: &[u8], sum: u32) -> usize
 // The latencies that a plan holds.
 fn put_loop(out: &mut [u8], plan: Plan) -> usize
     requires { plan.count ≤ 256 }
-    ensures { Line (heldLine plan) out.old out.new result }
+    ensures { Line (held_line plan) out.old out.new result }
 {
     let mut line = [0u8; 2048];
     let latencies = plan.latencies;
@@ -50,7 +50,7 @@ fn tell(u: FunctionUnit, tags: &[u8], out: &mut [u8]) -> usize
 
 // Puts the line that answers a `loop` with the tags of a line. Nine of them suffice, since more than eight are refused.
 pub fn answer(u: FunctionUnit, line: &[u8], out: &mut [u8]) -> usize
-    ensures { LoopTold u (tagsIn line.now) out.old out.new result }
+    ensures { LoopTold u (tags_in line.now) out.old out.new result }
 {
     let mut tags = [0u8; 9];
     let count = command::tags(line, &mut tags);

@@ -8,26 +8,26 @@ use native.Mathlib.Decide.{dec_lt}
 use native.Mathlib.Omega.{arith}
 use lib.ListN.{length, take, length-take}
 use Rattle.unit.specs.declared.FunctionUnit.{FunctionUnit}
-use Rattle.unit.specs.Unit.{soundOf}
+use Rattle.unit.specs.Unit.{sound_of}
 use Rattle.collision.specs.Pipeline.{total}
 use Rattle.graphs.specs.Graph.{Walk, CycleAt}
 use Rattle.graphs.proofs.Walks.{run}
 use Rattle.graphs.specs.Rotation.{rotate}
-use Rattle.graphs.proofs.Rotations.{rotate-length, rotate-total, rotate-cycle}
+use Rattle.graphs.proofs.Rotations.{rotate_length, rotate_total, rotate_cycle}
 use Rattle.loops.specs.Loop.{Loop}
 use Rattle.loops.specs.declared.State.{State}
-use Rattle.loops.specs.Steps.{firstState, loopGraph, arcGraph}
+use Rattle.loops.specs.Steps.{first_state, loop_graph, arc_graph}
 use Rattle.loops.specs.Best.{BestLoop}
-use Rattle.loops.proofs.StepLaws.{run-position, kept-arcs}
+use Rattle.loops.proofs.StepLaws.{run_position, kept-arcs}
 use Rattle.loops.proofs.Sound.{sound-loop, closed-whole, closed-schedule}
-use Rattle.loops.proofs.Complete.{rival-loop}
+use Rattle.loops.proofs.Complete.{rival_loop}
 use Rattle.loops.proofs.StateLaws.{cycle_steps}
 
 -- how many latencies a cycle through s is turned by, so that it begins at position 0
-abbrev pub toStart : List ℕ → State → ℕ
-toStart tags s = (length tags - s.position) % length tags
+abbrev pub to_start : List ℕ → State → ℕ
+to_start tags s = (length tags - s.position) % length tags
 
-module _ (u : FunctionUnit) (tags : List ℕ) (sound : soundOf u ≡ true) (loop : Loop u tags) where
+module _ (u : FunctionUnit) (tags : List ℕ) (sound : sound_of u ≡ true) (loop : Loop u tags) where
   start-reached : (p n : ℕ) → p < n → (p + (n - p) % n) % n ≡ 0
   start-reached p n h =
       let e : p + (n - p) ≡ n = omega arith in
@@ -40,11 +40,11 @@ module _ (u : FunctionUnit) (tags : List ℕ) (sound : soundOf u ≡ true) (loop
       go (yes l) = absurd (omega (arith, mod-eq_of_lt l))
       go (no l) = omega arith
 
-  module _ (s : State) (l : List ℕ) (c : CycleAt (arcGraph u tags) s l) (some : 0 < length l) where
+  module _ (s : State) (l : List ℕ) (c : CycleAt (arc_graph u tags) s l) (some : 0 < length l) where
     place : s.position < length tags
     place = (kept-arcs u tags sound loop s c.reached).place
 
-    turn_low : toStart tags s ≤ length l
+    turn_low : to_start tags s ≤ length l
     turn_low =
         let w = cycle_steps u tags s l c in
         omega (
@@ -54,34 +54,34 @@ module _ (u : FunctionUnit) (tags : List ℕ) (sound : soundOf u ≡ true) (loop
         )
 
     turned : List ℕ
-    turned = rotate l (toStart tags s)
+    turned = rotate l (to_start tags s)
 
     begin : State
-    begin = run (loopGraph u tags) s (take (toStart tags s) l)
+    begin = run (loop_graph u tags) s (take (to_start tags s) l)
 
     begin-position : begin.position ≡ 0
     unfolding begin
     begin-position =
-        let n : length (take (toStart tags s) l) ≡ toStart tags s = omega (arith, length-take (toStart tags s) l, turn_low) in
-        run-position u tags loop.some s place (take (toStart tags s) l)
+        let n : length (take (to_start tags s) l) ≡ to_start tags s = omega (arith, length-take (to_start tags s) l, turn_low) in
+        run_position u tags loop.some s place (take (to_start tags s) l)
         ∙ ap (λ m. (s.position + m) % length tags) n ∙ start-reached s.position (length tags) place
 
     -- a cycle of least average of the arcs, from position 0 on, is the best
-    pub best-loop : (E : ℕ) → ((w : List ℕ) (e : State) → Walk (arcGraph u tags) (firstState u tags) w e → total l * length w ≤ length l * total w + E)
-        → BestLoop u tags (rotate l (toStart tags s))
+    pub best-loop : (E : ℕ) → ((w : List ℕ) (e : State) → Walk (arc_graph u tags) (first_state u tags) w e → total l * length w ≤ length l * total w + E)
+        → BestLoop u tags (rotate l (to_start tags s))
     unfolding begin
     best-loop E floor =
-        let k : CycleAt (loopGraph u tags) begin (rotate l (toStart tags s)) = rotate-cycle (loopGraph u tags) s l (toStart tags s) turn_low (cycle_steps u tags s l c) in
-        let n : length (rotate l (toStart tags s)) ≡ length l = rotate-length l (toStart tags s) in
-        let t : total (rotate l (toStart tags s)) ≡ total l = rotate-total l (toStart tags s) in
-        let more : 0 < length (rotate l (toStart tags s)) = omega arith in
+        let k : CycleAt (loop_graph u tags) begin (rotate l (to_start tags s)) = rotate_cycle (loop_graph u tags) s l (to_start tags s) turn_low (cycle_steps u tags s l c) in
+        let n : length (rotate l (to_start tags s)) ≡ length l = rotate_length l (to_start tags s) in
+        let t : total (rotate l (to_start tags s)) ≡ total l = rotate_total l (to_start tags s) in
+        let more : 0 < length (rotate l (to_start tags s)) = omega arith in
         let zero-place : begin.position < length tags = omega (arith, begin-position, loop.some) in
         record {
-          schedule = closed-schedule u tags sound loop begin (rotate l (toStart tags s)) zero-place k.closed more;
+          schedule = closed-schedule u tags sound loop begin (rotate l (to_start tags s)) zero-place k.closed more;
           state = begin;
           start = begin-position;
           cycle = k;
-          never = sound-loop u tags sound loop begin (rotate l (toStart tags s)) k.reached begin-position k.closed more;
+          never = sound-loop u tags sound loop begin (rotate l (to_start tags s)) k.reached begin-position k.closed more;
           least = λ rival p never.
-              rw (t, n) (omega (arith, rival-loop u tags sound loop (total l) (length l) E floor rival p never, mul_comm (length l) (total rival)));
+              rw (t, n) (omega (arith, rival_loop u tags sound loop (total l) (length l) E floor rival p never, mul_comm (length l) (total rival)));
         }

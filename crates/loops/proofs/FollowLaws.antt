@@ -11,45 +11,45 @@ use borrow.Author.Count.{below_more}
 use lib.ListN.{length, get_or, set, length-set}
 use lib.Seq.{get_or-set_same, get_or-set_other}
 use Rattle.graphs.specs.States.{add, expand, list_from}
-use Rattle.graphs.proofs.Listing.{visit, turn, expand-end, expand-more, expand-extends, list-more, list-end, list-extends}
-use Rattle.mean_cycle.specs.Nodes.{arcWord}
+use Rattle.graphs.proofs.Listing.{visit, turn, expand-end, expand-more, expand-extends, list_more, list-end, list-extends}
+use Rattle.mean_cycle.specs.Nodes.{arc_word}
 use Rattle.loops.specs.declared.State.{State}
 use Rattle.loops.specs.declared.Rules.{Rules}
-use Rattle.loops.specs.Inner.{masked, advanced, ruleArc, ruleFirst, ruleGraph, ruleTests, ruleStates, state_of, putState, listIn, Stocked, Target, visited, Turned, Listable, expanded, Followed, Entered, Explored}
-use Rattle.loops.proofs.StoreLaws.{put-size, put-high, put-state, state-kept, list_length, list_at, list_same}
-use Rattle.loops.proofs.TurnLaws.{rule-right}
+use Rattle.loops.specs.Inner.{masked, advanced, rule_arc, rule_first, rule_graph, rule_tests, rule_states, state_of, put_state, list_in, Stocked, Target, visited, Turned, Listable, expanded, Followed, Entered, Explored}
+use Rattle.loops.proofs.StoreLaws.{put-size, put-high, put-state, state_kept, list_length, list_at, list_same}
+use Rattle.loops.proofs.TurnLaws.{rule_right}
 
 -- the place of a word of the table
 abbrev slot_of : ℕ → ℕ → ℕ
 slot_of at t = 1791 + at * 32 + t
 
 -- the list after a latency that has an arc, or has none
-visited-short : (R : Rules) (s : State) (t : ℕ) (l : List State) → t ≤ R.width + 1 → visited R s t l ≡ visit (ruleGraph R) (ruleTests R) s t l
-visited-short R s t l h = ap (λ c. cond c (cond (ruleArc R s t) (add (ruleGraph R) (ruleTests R) (advanced R s t) l) l) l) (le-leb t (R.width + 1) h)
+visited_short : (R : Rules) (s : State) (t : ℕ) (l : List State) → t ≤ R.width + 1 → visited R s t l ≡ visit (rule_graph R) (rule_tests R) s t l
+visited_short R s t l h = ap (λ c. cond c (cond (rule_arc R s t) (add (rule_graph R) (rule_tests R) (advanced R s t) l) l) l) (le-leb t (R.width + 1) h)
 
-visited-long : (R : Rules) (s : State) (t : ℕ) (l : List State) → R.width + 1 < t → visited R s t l ≡ l
-visited-long R s t l h = ap (λ c. cond c (cond (ruleArc R s t) (add (ruleGraph R) (ruleTests R) (advanced R s t) l) l) l) (lt-leb t (R.width + 1) h)
+visited_long : (R : Rules) (s : State) (t : ℕ) (l : List State) → R.width + 1 < t → visited R s t l ≡ l
+visited_long R s t l h = ap (λ c. cond c (cond (rule_arc R s t) (add (rule_graph R) (rule_tests R) (advanced R s t) l) l) l) (lt-leb t (R.width + 1) h)
 
 -- what is left to do after a latency
 rest_more : (R : Rules) (s : State) (t : ℕ) (l : List State)
-    → expand (ruleGraph R) (ruleTests R) s t (R.width + 2 - t) l ≡ expand (ruleGraph R) (ruleTests R) s (t + 1) (R.width + 2 - (t + 1)) (visited R s t l)
+    → expand (rule_graph R) (rule_tests R) s t (R.width + 2 - t) l ≡ expand (rule_graph R) (rule_tests R) s (t + 1) (R.width + 2 - (t + 1)) (visited R s t l)
 rest_more R s t l = go (dec_le t (R.width + 1))
   where
     go : Dec (t ≤ R.width + 1)
-        → expand (ruleGraph R) (ruleTests R) s t (R.width + 2 - t) l ≡ expand (ruleGraph R) (ruleTests R) s (t + 1) (R.width + 2 - (t + 1)) (visited R s t l)
+        → expand (rule_graph R) (rule_tests R) s t (R.width + 2 - t) l ≡ expand (rule_graph R) (rule_tests R) s (t + 1) (R.width + 2 - (t + 1)) (visited R s t l)
     go (yes h) =
         let m : ℕ = R.width + 2 - (t + 1) in
         let e : R.width + 2 - t ≡ suc m = omega arith in
         let f : suc t ≡ t + 1 = omega arith in
-        ap (λ n. expand (ruleGraph R) (ruleTests R) s t n l) e ∙ expand-more (ruleGraph R) (ruleTests R) s t m l
-        ∙ ap (λ n. expand (ruleGraph R) (ruleTests R) s n m (visit (ruleGraph R) (ruleTests R) s t l)) f
-        ∙ ap (expand (ruleGraph R) (ruleTests R) s (t + 1) m) (sym (visited-short R s t l h))
+        ap (λ n. expand (rule_graph R) (rule_tests R) s t n l) e ∙ expand-more (rule_graph R) (rule_tests R) s t m l
+        ∙ ap (λ n. expand (rule_graph R) (rule_tests R) s n m (visit (rule_graph R) (rule_tests R) s t l)) f
+        ∙ ap (expand (rule_graph R) (rule_tests R) s (t + 1) m) (sym (visited_short R s t l h))
     go (no h) =
         let e : R.width + 2 - t ≡ 0 = omega arith in
         let f : R.width + 2 - (t + 1) ≡ 0 = omega arith in
-        ap (λ n. expand (ruleGraph R) (ruleTests R) s t n l) e ∙ expand-end (ruleGraph R) (ruleTests R) s t l
-        ∙ sym (visited-long R s t l (omega arith)) ∙ sym (expand-end (ruleGraph R) (ruleTests R) s (t + 1) (visited R s t l))
-        ∙ ap (λ n. expand (ruleGraph R) (ruleTests R) s (t + 1) n (visited R s t l)) (sym f)
+        ap (λ n. expand (rule_graph R) (rule_tests R) s t n l) e ∙ expand-end (rule_graph R) (rule_tests R) s t l
+        ∙ sym (visited_long R s t l (omega arith)) ∙ sym (expand-end (rule_graph R) (rule_tests R) s (t + 1) (visited R s t l))
+        ∙ ap (λ n. expand (rule_graph R) (rule_tests R) s (t + 1) n (visited R s t l)) (sym f)
 
 -- the latencies below t are done
 pub record Following (w₁ w : List ℕ) (R : Rules) (k at : ℕ) (s : State) (found t : ℕ) : Type 0 where
@@ -58,15 +58,15 @@ pub record Following (w₁ w : List ℕ) (R : Rules) (k at : ℕ) (s : State) (f
   pub upto : t ≤ 33
   pub grown : k ≤ found
   pub few : found ≤ 256
-  pub list : expanded R s (listIn w₁ k) ≡ expand (ruleGraph R) (ruleTests R) s t (R.width + 2 - t) (listIn w found)
+  pub list : expanded R s (list_in w₁ k) ≡ expand (rule_graph R) (rule_tests R) s t (R.width + 2 - t) (list_in w found)
   pub row : (b : ℕ) → b < t → 1 ≤ b → Target w R found s at b
   pub states : (i : ℕ) → i < k → state_of w i ≡ state_of w₁ i
   pub words : (j : ℕ) → j < 9984 → ((b : ℕ) → 1 ≤ b → b ≤ 32 → j ≡ slot_of at b → ⊥) → get_or w j 0 ≡ get_or w₁ j 0
   pub high : (j : ℕ) → 11264 ≤ j → get_or w j 0 ≡ get_or w₁ j 0
   pub stocked : Stocked w found
 
-pub follow-start : (w : List ℕ) (R : Rules) (k at : ℕ) (s : State) → k ≤ 256 → Stocked w k → Following w w R k at s k 1
-follow-start w R k at s few stocked =
+pub follow_start : (w : List ℕ) (R : Rules) (k at : ℕ) (s : State) → k ≤ 256 → Stocked w k → Following w w R k at s k 1
+follow_start w R k at s few stocked =
     let e : R.width + 1 ≡ R.width + 2 - 1 = omega arith in
     record {
       size = refl;
@@ -74,7 +74,7 @@ follow-start w R k at s few stocked =
       upto = omega arith;
       grown = omega arith;
       few = few;
-      list = ap (λ n. expand (ruleGraph R) (ruleTests R) s 1 n (listIn w k)) e;
+      list = ap (λ n. expand (rule_graph R) (rule_tests R) s 1 n (list_in w k)) e;
       row = λ b l m. absurd (omega arith);
       states = λ i l. refl;
       words = λ j l n. refl;
@@ -83,18 +83,18 @@ follow-start w R k at s few stocked =
     }
 
 -- what the table tells of another latency stays
-target-kept : {w w' : List ℕ} {R : Rules} {k r : ℕ} {s : State} {at b : ℕ} → k ≤ r → arcWord w' at b ≡ arcWord w at b
+target_kept : {w w' : List ℕ} {R : Rules} {k r : ℕ} {s : State} {at b : ℕ} → k ≤ r → arc_word w' at b ≡ arc_word w at b
     → ((i : ℕ) → i < k → state_of w' i ≡ state_of w i) → Target w R k s at b → Target w' R r s at b
-target-kept {w} {w'} {R} {k} {r} {s} {at} {b} g e same h =
+target_kept {w} {w'} {R} {k} {r} {s} {at} {b} g e same h =
     let x = h.inside in
     record {
       inside = omega arith;
-      leads = λ l f. ap (state_of w') e ∙ same (arcWord w at b) x ∙ h.leads l f;
+      leads = λ l f. ap (state_of w') e ∙ same (arc_word w at b) x ∙ h.leads l f;
     }
 
-pub follow-more : {w₁ w w' : List ℕ} {R : Rules} {k at : ℕ} {s : State} {found t r : ℕ} → Following w₁ w R k at s found t → at < k → t ≤ 32
+pub follow_more : {w₁ w w' : List ℕ} {R : Rules} {k at : ℕ} {s : State} {found t r : ℕ} → Following w₁ w R k at s found t → at < k → t ≤ 32
     → Turned w w' R found s at t r → r ≤ 256 → Following w₁ w' R k at s r (t + 1)
-follow-more {w₁} {w} {w'} {R} {k} {at} {s} {found} {t} {r} h inside le u few =
+follow_more {w₁} {w} {w'} {R} {k} {at} {s} {found} {t} {r} h inside le u few =
     let some = h.some in
     let grown = h.grown in
     let more = u.grown in
@@ -104,10 +104,10 @@ follow-more {w₁} {w} {w'} {R} {k} {at} {s} {found} {t} {r} h inside le u few =
       upto = omega arith;
       grown = omega arith;
       few = few;
-      list = h.list ∙ rest_more R s t (listIn w found) ∙ ap (expand (ruleGraph R) (ruleTests R) s (t + 1) (R.width + 2 - (t + 1))) (sym (u.list few));
+      list = h.list ∙ rest_more R s t (list_in w found) ∙ ap (expand (rule_graph R) (rule_tests R) s (t + 1) (R.width + 2 - (t + 1))) (sym (u.list few));
       row =
           below_more (λ (b : ℕ). 1 ≤ b → Target w' R r s at b) t
-          (λ b l m. target-kept more (u.words (slot_of at b) (omega (arith, h.few)) (λ e. omega arith)) u.states (h.row b l m))
+          (λ b l m. target_kept more (u.words (slot_of at b) (omega (arith, h.few)) (λ e. omega arith)) u.states (h.row b l m))
           (λ m. u.target few);
       states = λ i l. u.states i (omega arith) ∙ h.states i l;
       words = λ j l n. u.words j l (n t some le) ∙ h.words j l n;
@@ -115,14 +115,14 @@ follow-more {w₁} {w} {w'} {R} {k} {at} {s} {found} {t} {r} h inside le u few =
       stocked = u.stocked few h.stocked;
     }
 
-longer : (R : Rules) (s : State) (t m : ℕ) (l : List State) → length l ≤ length (expand (ruleGraph R) (ruleTests R) s t m l)
-longer R s t m l = (expand-extends (ruleGraph R) (ruleTests R) (rule-right R) s t m l).longer
+longer : (R : Rules) (s : State) (t m : ℕ) (l : List State) → length l ≤ length (expand (rule_graph R) (rule_tests R) s t m l)
+longer R s t m l = (expand-extends (rule_graph R) (rule_tests R) (rule_right R) s t m l).longer
 
-pub follow-over : {w₁ w w' : List ℕ} {R : Rules} {k at : ℕ} {s : State} {found t r : ℕ} → Following w₁ w R k at s found t
-    → Turned w w' R found s at t r → 256 < r → 256 < length (expanded R s (listIn w₁ k))
-follow-over {w₁} {w} {w'} {R} {k} {at} {s} {found} {t} {r} h u many =
-    let e = ap length (h.list ∙ rest_more R s t (listIn w found)) in
-    omega (arith, u.over many, longer R s (t + 1) (R.width + 2 - (t + 1)) (visited R s t (listIn w found)))
+pub follow_over : {w₁ w w' : List ℕ} {R : Rules} {k at : ℕ} {s : State} {found t r : ℕ} → Following w₁ w R k at s found t
+    → Turned w w' R found s at t r → 256 < r → 256 < length (expanded R s (list_in w₁ k))
+follow_over {w₁} {w} {w'} {R} {k} {at} {s} {found} {t} {r} h u many =
+    let e = ap length (h.list ∙ rest_more R s t (list_in w found)) in
+    omega (arith, u.over many, longer R s (t + 1) (R.width + 2 - (t + 1)) (visited R s t (list_in w found)))
 
 -- The word of the state is written first
 
@@ -134,17 +134,17 @@ module _ (w : List ℕ) (R : Rules) (k at : ℕ) (ready : Listable w k at) (word
   at_low = omega (arith, ready.inside, ready.few)
 
   mark-state : (i : ℕ) → i < 256 → state_of w₁ i ≡ state_of w i
-  mark-state i l = state-kept w w₁ (λ j a b. get_or-set_other w at j word 0 (λ e. omega (arith, at_low))) i l
+  mark-state i l = state_kept w w₁ (λ j a b. get_or-set_other w at j word 0 (λ e. omega (arith, at_low))) i l
 
-  mark-list : listIn w₁ k ≡ listIn w k
+  mark-list : list_in w₁ k ≡ list_in w k
   mark-list = list_same w w₁ k (λ i l. mark-state i (omega (arith, ready.few)))
 
   pub mark-stocked : Stocked w₁ k
   mark-stocked i l = subst (λ (x : State). x.position < 8) (sym (mark-state i (omega (arith, ready.few)))) (ready.stocked i l)
 
   module _ (s : State) (is : s ≡ state_of w at) (mask : word ≡ masked R s) where
-    list_back : expanded R s (listIn w₁ k) ≡ expanded R (state_of w at) (listIn w k)
-    list_back = ap (λ (x : State). expanded R x (listIn w₁ k)) is ∙ ap (expanded R (state_of w at)) mark-list
+    list_back : expanded R s (list_in w₁ k) ≡ expanded R (state_of w at) (list_in w k)
+    list_back = ap (λ (x : State). expanded R x (list_in w₁ k)) is ∙ ap (expanded R (state_of w at)) mark-list
 
     masked-at : masked R s ≡ masked R (state_of w at)
     masked-at = ap (masked R) is
@@ -168,7 +168,7 @@ module _ (w : List ℕ) (R : Rules) (k at : ℕ) (ready : Listable w k at) (word
           size = u.size ∙ h.size ∙ length-set w at word;
           grown = omega (arith, u.grown);
           list = λ z. absurd (omega arith);
-          over = λ z. subst (λ (l : List State). 256 < length l) list_back (follow-over h u many);
+          over = λ z. subst (λ (l : List State). 256 < length l) list_back (follow_over h u many);
           row = λ z. absurd (omega arith);
           mask = word_kept w' words;
           states = λ i l. u.states i (omega arith) ∙ h.states i l ∙ mark-state i (omega (arith, ready.few));
@@ -180,8 +180,8 @@ module _ (w : List ℕ) (R : Rules) (k at : ℕ) (ready : Listable w k at) (word
     pub followed-all : (w' : List ℕ) (found t : ℕ) → Following w₁ w' R k at s found t → 32 < t → R.width ≤ 31 → Followed w w' R k at found
     followed-all w' found t h le slim =
         let e : R.width + 2 - t ≡ 0 = omega arith in
-        let all : expanded R s (listIn w₁ k) ≡ listIn w' found =
-        h.list ∙ ap (λ n. expand (ruleGraph R) (ruleTests R) s t n (listIn w' found)) e ∙ expand-end (ruleGraph R) (ruleTests R) s t (listIn w' found) in
+        let all : expanded R s (list_in w₁ k) ≡ list_in w' found =
+        h.list ∙ ap (λ n. expand (rule_graph R) (rule_tests R) s t n (list_in w' found)) e ∙ expand-end (rule_graph R) (rule_tests R) s t (list_in w' found) in
         record {
           size = h.size ∙ length-set w at word;
           grown = h.grown;
@@ -205,12 +205,12 @@ pub record Exploring (w₀ w : List ℕ) (R : Rules) (k at : ℕ) : Type 0 where
   pub few : k ≤ 256
   pub upto : at ≤ k
   pub stocked : Stocked w k
-  pub list : ruleStates R ≡ list_from (ruleGraph R) (ruleTests R) (257 - at) at (listIn w k)
+  pub list : rule_states R ≡ list_from (rule_graph R) (rule_tests R) (257 - at) at (list_in w k)
   pub done : (v : ℕ) → v < at → Entered w R k v
 
-pub explore-start : (w : List ℕ) (R : Rules) (first : State) → 11264 ≤ length w → first ≡ ruleFirst R → Exploring (putState w 0 first) (putState w 0 first) R 1 0
-explore-start w R first room e =
-    let is : state_of (putState w 0 first) 0 ≡ ruleFirst R = put-state w 0 first (omega arith) room ∙ e in
+pub explore_start : (w : List ℕ) (R : Rules) (first : State) → 11264 ≤ length w → first ≡ rule_first R → Exploring (put_state w 0 first) (put_state w 0 first) R 1 0
+explore_start w R first room e =
+    let is : state_of (put_state w 0 first) 0 ≡ rule_first R = put-state w 0 first (omega arith) room ∙ e in
     record {
       size = refl;
       high = λ j l. refl;
@@ -219,23 +219,23 @@ explore-start w R first room e =
       upto = omega arith;
       stocked = λ i l.
           let z : 0 ≡ i = omega arith in
-          subst (λ (j : ℕ). (state_of (putState w 0 first) j).position < 8) z (subst (λ (x : State). x.position < 8) (sym is) (omega arith));
-      list = ap (λ (x : State). list_from (ruleGraph R) (ruleTests R) 257 0 (x ∷ [])) (sym is);
+          subst (λ (j : ℕ). (state_of (put_state w 0 first) j).position < 8) z (subst (λ (x : State). x.position < 8) (sym is) (omega arith));
+      list = ap (λ (x : State). list_from (rule_graph R) (rule_tests R) 257 0 (x ∷ [])) (sym is);
       done = λ v l. absurd (not-suc-le-zero l);
     }
 
-done-kept : {w w' : List ℕ} {R : Rules} {k at r v : ℕ} → k ≤ 256 → at < k → Followed w w' R k at r → v < k → (v ≡ at → ⊥) → Entered w R k v → Entered w' R r v
-done-kept {w} {w'} {R} {k} {at} {r} {v} few inside f l ne h =
+done_kept : {w w' : List ℕ} {R : Rules} {k at r v : ℕ} → k ≤ 256 → at < k → Followed w w' R k at r → v < k → (v ≡ at → ⊥) → Entered w R k v → Entered w' R r v
+done_kept {w} {w'} {R} {k} {at} {r} {v} few inside f l ne h =
     let same : state_of w' v ≡ state_of w v = f.states v l in
     record {
       mask = f.words v (omega arith) ne (λ b p q e. omega arith) ∙ h.mask ∙ ap (masked R) (sym same);
       row = λ t p q.
           subst (λ (x : State). Target w' R r x v t) (sym same)
-          (target-kept f.grown (f.words (slot_of v t) (omega arith) (λ e. omega arith) (λ b p' q' e. ne (omega arith))) f.states (h.row t p q));
+          (target_kept f.grown (f.words (slot_of v t) (omega arith) (λ e. omega arith) (λ b p' q' e. ne (omega arith))) f.states (h.row t p q));
     }
 
-done-here : {w w' : List ℕ} {R : Rules} {k at r : ℕ} → at < k → r ≤ 256 → Followed w w' R k at r → Entered w' R r at
-done-here {w} {w'} {R} {k} {at} {r} inside few f =
+done_here : {w w' : List ℕ} {R : Rules} {k at r : ℕ} → at < k → r ≤ 256 → Followed w w' R k at r → Entered w' R r at
+done_here {w} {w'} {R} {k} {at} {r} inside few f =
     let same : state_of w' at ≡ state_of w at = f.states at inside in
     record {
       mask = f.mask ∙ ap (masked R) (sym same);
@@ -244,19 +244,19 @@ done-here {w} {w'} {R} {k} {at} {r} inside few f =
 
 -- the list goes on with the state at a place
 list_on : (w : List ℕ) (R : Rules) (k at : ℕ) → at < k → at ≤ 256
-    → list_from (ruleGraph R) (ruleTests R) (257 - at) at (listIn w k)
-    ≡ list_from (ruleGraph R) (ruleTests R) (257 - (at + 1)) (at + 1) (expanded R (state_of w at) (listIn w k))
+    → list_from (rule_graph R) (rule_tests R) (257 - at) at (list_in w k)
+    ≡ list_from (rule_graph R) (rule_tests R) (257 - (at + 1)) (at + 1) (expanded R (state_of w at) (list_in w k))
 list_on w R k at inside low =
     let e : 257 - at ≡ suc (257 - (at + 1)) = omega arith in
     let f : suc at ≡ at + 1 = omega arith in
-    ap (λ n. list_from (ruleGraph R) (ruleTests R) n at (listIn w k)) e
-    ∙ list-more (ruleGraph R) (ruleTests R) (257 - (at + 1)) at (listIn w k) (omega (arith, list_length w k))
-    ∙ ap (λ n. list_from (ruleGraph R) (ruleTests R) (257 - (at + 1)) n (turn (ruleGraph R) (ruleTests R) at (listIn w k))) f
-    ∙ ap (λ (x : State). list_from (ruleGraph R) (ruleTests R) (257 - (at + 1)) (at + 1) (expanded R x (listIn w k))) (list_at w (ruleFirst R) k at inside)
+    ap (λ n. list_from (rule_graph R) (rule_tests R) n at (list_in w k)) e
+    ∙ list_more (rule_graph R) (rule_tests R) (257 - (at + 1)) at (list_in w k) (omega (arith, list_length w k))
+    ∙ ap (λ n. list_from (rule_graph R) (rule_tests R) (257 - (at + 1)) n (turn (rule_graph R) (rule_tests R) at (list_in w k))) f
+    ∙ ap (λ (x : State). list_from (rule_graph R) (rule_tests R) (257 - (at + 1)) (at + 1) (expanded R x (list_in w k))) (list_at w (rule_first R) k at inside)
 
-pub explore-more : {w₀ w w' : List ℕ} {R : Rules} {k at r : ℕ} → Exploring w₀ w R k at → at < k → Followed w w' R k at r → r ≤ 256
+pub explore_more : {w₀ w w' : List ℕ} {R : Rules} {k at r : ℕ} → Exploring w₀ w R k at → at < k → Followed w w' R k at r → r ≤ 256
     → Exploring w₀ w' R r (at + 1)
-explore-more {w₀} {w} {w'} {R} {k} {at} {r} h inside f few =
+explore_more {w₀} {w} {w'} {R} {k} {at} {r} h inside f few =
     let grown = f.grown in
     let was = h.few in
     record {
@@ -268,13 +268,13 @@ explore-more {w₀} {w} {w'} {R} {k} {at} {r} h inside f few =
       stocked = f.stocked few;
       list =
           h.list ∙ list_on w R k at inside (omega arith)
-          ∙ ap (list_from (ruleGraph R) (ruleTests R) (257 - (at + 1)) (at + 1)) (sym (f.list few));
-      done = below_more (λ (v : ℕ). Entered w' R r v) at (λ v l. done-kept was inside f (omega arith) (λ e. omega arith) (h.done v l)) (done-here inside few f);
+          ∙ ap (list_from (rule_graph R) (rule_tests R) (257 - (at + 1)) (at + 1)) (sym (f.list few));
+      done = below_more (λ (v : ℕ). Entered w' R r v) at (λ v l. done_kept was inside f (omega arith) (λ e. omega arith) (h.done v l)) (done_here inside few f);
     }
 
-pub explored-over : {w w₀ w₁ w' : List ℕ} {R : Rules} {k at r : ℕ} → length w₀ ≡ length w → ((j : ℕ) → 11264 ≤ j → get_or w₀ j 0 ≡ get_or w j 0)
+pub explored_over : {w w₀ w₁ w' : List ℕ} {R : Rules} {k at r : ℕ} → length w₀ ≡ length w → ((j : ℕ) → 11264 ≤ j → get_or w₀ j 0 ≡ get_or w j 0)
     → Exploring w₀ w₁ R k at → at < k → Followed w₁ w' R k at r → 256 < r → Explored w w' R r
-explored-over {w} {w₀} {w₁} {w'} {R} {k} {at} {r} size high h inside f many =
+explored_over {w} {w₀} {w₁} {w'} {R} {k} {at} {r} size high h inside f many =
     let was = h.few in
     let e = ap length (h.list ∙ list_on w₁ R k at inside (omega arith)) in
     record {
@@ -287,30 +287,30 @@ explored-over {w} {w₀} {w₁} {w'} {R} {k} {at} {r} size high h inside f many 
           omega (
             arith,
             f.over many,
-            (list-extends (ruleGraph R) (ruleTests R) (rule-right R) (257 - (at + 1)) (at + 1) (expanded R (state_of w₁ at) (listIn w₁ k))).longer,
+            (list-extends (rule_graph R) (rule_tests R) (rule_right R) (257 - (at + 1)) (at + 1) (expanded R (state_of w₁ at) (list_in w₁ k))).longer,
           );
     }
 
-pub explored-all : {w w₀ w' : List ℕ} {R : Rules} {k at : ℕ} → length w₀ ≡ length w → ((j : ℕ) → 11264 ≤ j → get_or w₀ j 0 ≡ get_or w j 0)
+pub explored_all : {w w₀ w' : List ℕ} {R : Rules} {k at : ℕ} → length w₀ ≡ length w → ((j : ℕ) → 11264 ≤ j → get_or w₀ j 0 ≡ get_or w j 0)
     → Exploring w₀ w' R k at → k ≤ at → Explored w w' R k
-explored-all {w} {w₀} {w'} {R} {k} {at} size high h end =
+explored_all {w} {w₀} {w'} {R} {k} {at} size high h end =
     let e : at ≡ k = omega (arith, h.upto) in
     record {
       size = h.size ∙ size;
       high = λ j l. h.high j l ∙ high j l;
       some = h.some;
-      list = λ z. sym (h.list ∙ list-end (ruleGraph R) (ruleTests R) (257 - at) at (listIn w' k) (omega (arith, list_length w' k)));
+      list = λ z. sym (h.list ∙ list-end (rule_graph R) (rule_tests R) (257 - at) at (list_in w' k) (omega (arith, list_length w' k)));
       done = λ z v l. h.done v (omega arith);
       over = λ z. absurd (omega (arith, h.few));
     }
 
 -- the first state is written before the loop
-module _ (w w₀ : List ℕ) (first : State) (put : w₀ ≡ putState w 0 first) where
+module _ (w w₀ : List ℕ) (first : State) (put : w₀ ≡ put_state w 0 first) where
   pub begin-size : length w₀ ≡ length w
   begin-size = ap length put ∙ put-size w 0 first
 
   pub begin-high : (j : ℕ) → 11264 ≤ j → get_or w₀ j 0 ≡ get_or w j 0
   begin-high j l = ap (λ (v : List ℕ). get_or v j 0) put ∙ put-high w 0 first j (omega arith) l
 
-  pub explore-begin : (R : Rules) → 11264 ≤ length w → first ≡ ruleFirst R → Exploring w₀ w₀ R 1 0
-  explore-begin R room e = subst (λ (v : List ℕ). Exploring v v R 1 0) (sym put) (explore-start w R first room e)
+  pub explore-begin : (R : Rules) → 11264 ≤ length w → first ≡ rule_first R → Exploring w₀ w₀ R 1 0
+  explore-begin R room e = subst (λ (v : List ℕ). Exploring v v R 1 0) (sym put) (explore_start w R first room e)

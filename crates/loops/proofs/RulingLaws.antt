@@ -11,71 +11,71 @@ use borrow.Author.Tests.{le-leb}
 use lib.ListN.{length, get_or, set}
 use lib.Seq.{get_or-set_same, get_or-set_other}
 use Rattle.words.specs.Bits.{is_set}
-use Rattle.words.specs.Below.{maxBelow, spanBelow, wordBelow}
-use Rattle.words.proofs.Tests.{not-passed, and_left, and_right, and-true}
+use Rattle.words.specs.Below.{max_below, span_below, word_below}
+use Rattle.words.proofs.Tests.{not_passed, and_left, and_right, and_true}
 use Rattle.words.proofs.BelowLaws.{span_same, word_set}
 use Rattle.unit.specs.declared.FunctionUnit.{FunctionUnit}
 use Rattle.unit.specs.Table.{Table}
-use Rattle.unit.specs.Unit.{marked, inside, columnsOf}
+use Rattle.unit.specs.Unit.{marked, inside, columns_of}
 use Rattle.unit.proofs.Laws.{within}
-use Rattle.collision.specs.Vector.{collides, rowWord, rowOfColumns, largestColumn}
-use Rattle.collision.proofs.RowLaws.{row-columns}
-use Rattle.collision.proofs.MatrixLaws.{largest-31}
-use Rattle.controller.specs.Bank.{rowFor}
+use Rattle.collision.specs.Vector.{collides, row_word, row_of_columns, largest_column}
+use Rattle.collision.proofs.RowLaws.{row_columns}
+use Rattle.collision.proofs.MatrixLaws.{largest_31}
+use Rattle.controller.specs.Bank.{row_for}
 use Rattle.diagram.specs.Diagram.{width}
 use Rattle.loops.specs.declared.Rules.{Rules}
-use Rattle.loops.specs.Answers.{allTags}
+use Rattle.loops.specs.Answers.{all_tags}
 use Rattle.loops.specs.Inner.{RowsOf, TagsOf, Ruled}
 
 -- n
 
-row-span : (T : Table) (q r : ℕ) → width (rowWord T q r) ≡ spanBelow 32 (λ k. collides T q r (k + 1))
-unfolding rowWord
-row-span T q r = span_same 32 (is_set (wordBelow 32 (λ k. collides T q r (k + 1)))) (λ k. collides T q r (k + 1)) (λ k h. word_set 32 (λ k. collides T q r (k + 1)) k h)
+row_span : (T : Table) (q r : ℕ) → width (row_word T q r) ≡ span_below 32 (λ k. collides T q r (k + 1))
+unfolding row_word
+row_span T q r = span_same 32 (is_set (word_below 32 (λ k. collides T q r (k + 1)))) (λ k. collides T q r (k + 1)) (λ k h. word_set 32 (λ k. collides T q r (k + 1)) k h)
 
-pub span-is : (u : FunctionUnit) (q r : ℕ) (later earlier : List ℕ) (row n : ℕ) → later ≡ columnsOf u q → earlier ≡ columnsOf u r
-    → row ≡ rowOfColumns later earlier → n ≡ width row → n ≡ spanBelow 32 (λ k. collides (marked u) q r (k + 1))
-span-is u q r later earlier row n a b e f =
-    let is : row ≡ rowWord (marked u) q r = e ∙ ap₂ (λ (x y : List ℕ). rowOfColumns x y) a b ∙ row-columns u q r in
-    f ∙ ap width is ∙ row-span (marked u) q r
+pub span_is : (u : FunctionUnit) (q r : ℕ) (later earlier : List ℕ) (row n : ℕ) → later ≡ columns_of u q → earlier ≡ columns_of u r
+    → row ≡ row_of_columns later earlier → n ≡ width row → n ≡ span_below 32 (λ k. collides (marked u) q r (k + 1))
+span_is u q r later earlier row n a b e f =
+    let is : row ≡ row_word (marked u) q r = e ∙ ap₂ (λ (x y : List ℕ). row_of_columns x y) a b ∙ row_columns u q r in
+    f ∙ ap width is ∙ row_span (marked u) q r
 
 -- the largest value so far
-pub max-begin : (f : ℕ → ℕ) → 0 ≡ maxBelow 0 f
-unfolding maxBelow
-max-begin f = refl
+pub max_begin : (f : ℕ → ℕ) → 0 ≡ max_below 0 f
+unfolding max_below
+max_begin f = refl
 
-pub max-more : (f : ℕ → ℕ) (i best one r : ℕ) → best ≡ maxBelow i f → one ≡ f i → r ≡ max one best → r ≡ maxBelow (i + 1) f
-unfolding maxBelow
-max-more f i best one r a b c = c ∙ ap₂ (λ (x y : ℕ). max x y) b a ∙ ap (λ n. maxBelow n f) (sym (add-one i))
+pub max_more : (f : ℕ → ℕ) (i best one r : ℕ) → best ≡ max_below i f → one ≡ f i → r ≡ max one best → r ≡ max_below (i + 1) f
+unfolding max_below
+max_more f i best one r a b c = c ∙ ap₂ (λ (x y : ℕ). max x y) b a ∙ ap (λ n. max_below n f) (sym (add-one i))
 
-pub max-all : (f : ℕ → ℕ) (i best : ℕ) → best ≡ maxBelow i f → i ≤ 5 → 5 ≤ i → best ≡ maxBelow 5 f
-max-all f i best a l m = let e : i ≡ 5 = omega arith in a ∙ ap (λ n. maxBelow n f) e
+pub max_all : (f : ℕ → ℕ) (i best : ℕ) → best ≡ max_below i f → i ≤ 5 → 5 ≤ i → best ≡ max_below 5 f
+max_all f i best a l m = let e : i ≡ 5 = omega arith in a ∙ ap (λ n. max_below n f) e
 
-pub largest-is : (T : Table) (n : ℕ) → n ≡ maxBelow 5 (λ q. maxBelow 5 (λ r. spanBelow 32 (λ k. collides T q r (k + 1)))) → n ≡ largestColumn T
-unfolding largestColumn
-largest-is T n e = e
+pub largest_is : (T : Table) (n : ℕ) → n ≡ max_below 5 (λ q. max_below 5 (λ r. span_below 32 (λ k. collides T q r (k + 1)))) → n ≡ largest_column T
+unfolding largest_column
+largest_is T n e = e
 
 -- Tags
 
-pub tags-more : (u : FunctionUnit) (tags : List ℕ) (i tag : ℕ)
+pub tags_more : (u : FunctionUnit) (tags : List ℕ) (i tag : ℕ)
     → ((j : ℕ) → j < i → inside (get_or tags j 0) u.functions ≡ true) → tag ≡ get_or tags i 0 → (tag ≡ 0 → ⊥) → tag ≤ u.functions
     → (j : ℕ) → j < i + 1 → inside (get_or tags j 0) u.functions ≡ true
-tags-more u tags i tag h e nz le =
+tags_more u tags i tag h e nz le =
     below_more (λ (j : ℕ). inside (get_or tags j 0) u.functions ≡ true) i h
-    (subst (λ (t : ℕ). inside t u.functions ≡ true) e (and-true (le-leb 1 tag (omega arith)) (le-leb tag u.functions le)))
+    (subst (λ (t : ℕ). inside t u.functions ≡ true) e (and_true (le-leb 1 tag (omega arith)) (le-leb tag u.functions le)))
 
-pub all_known : (u : FunctionUnit) (tags : List ℕ) → allTags u tags ≡ true → (i : ℕ) → i < length tags → inside (get_or tags i 0) u.functions ≡ true
+pub all_known : (u : FunctionUnit) (tags : List ℕ) → all_tags u tags ≡ true → (i : ℕ) → i < length tags → inside (get_or tags i 0) u.functions ≡ true
 all_known u [] e i l = absurd (not-suc-le-zero l)
 all_known u (t ∷ tags) e zero l = and_left (inside t u.functions) _ e
 all_known u (t ∷ tags) e (suc i) l = all_known u tags (and_right (inside t u.functions) _ e) i (le_of_suc-le-suc l)
 
-pub all-tags : (u : FunctionUnit) (tags : List ℕ) → ((i : ℕ) → i < length tags → inside (get_or tags i 0) u.functions ≡ true) → allTags u tags ≡ true
-all-tags u [] h = refl
-all-tags u (t ∷ tags) h = and-true (h 0 (omega arith)) (all-tags u tags (λ i l. h (suc i) (omega arith)))
+pub all_tags_lem : (u : FunctionUnit) (tags : List ℕ) → ((i : ℕ) → i < length tags → inside (get_or tags i 0) u.functions ≡ true) → all_tags u tags ≡ true
+all_tags_lem u [] h = refl
+all_tags_lem u (t ∷ tags) h = and_true (h 0 (omega arith)) (all_tags_lem u tags (λ i l. h (suc i) (omega arith)))
 
-pub tags-wrong : (u : FunctionUnit) (tags : List ℕ) (i tag : ℕ) → i < length tags → tag ≡ get_or tags i 0 → ((1 ≤ tag) × (tag ≤ u.functions) → ⊥)
-    → false ≡ allTags u tags
-tags-wrong u tags i tag l e bad = sym (not-passed (allTags u tags) (λ h.
+pub tags_wrong : (u : FunctionUnit) (tags : List ℕ) (i tag : ℕ) → i < length tags → tag ≡ get_or tags i 0 → ((1 ≤ tag) × (tag ≤ u.functions) → ⊥)
+    → false ≡ all_tags u tags
+tags_wrong u tags i tag l e bad = sym (not_passed (all_tags u tags) (λ h.
     let w = within tag u.functions (subst (λ (t : ℕ). inside t u.functions ≡ true) (sym e) (all_known u tags h i l)) in
     bad (w.least, w.most)))
 
@@ -88,16 +88,16 @@ fill_more f l i x h g e =
 -- The rules
 
 pub ruled : (u : FunctionUnit) (tags : List ℕ) (R : Rules) → 1 ≤ length tags → length tags ≤ 8 → RowsOf u tags R.rows → TagsOf tags R.tags
-    → R.count ≡ length tags → R.width ≡ largestColumn (marked u) → Ruled u tags R
+    → R.count ≡ length tags → R.width ≡ largest_column (marked u) → Ruled u tags R
 ruled u tags R some few rows copied count wide = record {
   rules = record {
     rows = λ p r h k.
         let d : (p * 4 + r) / 4 ≡ p = omega arith in
         let m : (p * 4 + r) % 4 + 1 ≡ r + 1 = omega arith in
-        rows.each (p * 4 + r) (omega arith) ∙ ap₂ (λ (a b : ℕ). rowFor u (get_or tags a 0) b) d m;
+        rows.each (p * 4 + r) (omega arith) ∙ ap₂ (λ (a b : ℕ). row_for u (get_or tags a 0) b) d m;
     tag = copied.each;
     count = count;
     width = wide;
   };
-  sane = record { some = omega arith; few = omega arith; slim = omega (arith, largest-31 u) };
+  sane = record { some = omega arith; few = omega arith; slim = omega (arith, largest_31 u) };
 }

@@ -13,100 +13,100 @@ use Rattle.unit.specs.declared.FunctionUnit.{FunctionUnit}
 use Rattle.unit.specs.declared.Refusal.{Refusal}
 use Rattle.unit.specs.declared.Refusal.TheVariants.{NotSound, BadLoop, NoSuchTag, ShortWork, TooManyStates}
 use Rattle.unit.specs.declared.Answer.TheVariants.{Done, Refused}
-use Rattle.unit.specs.Unit.{inside, soundOf}
-use Rattle.unit.specs.Calls.{check, noPlan}
+use Rattle.unit.specs.Unit.{inside, sound_of}
+use Rattle.unit.specs.Calls.{check, no_plan}
 use Rattle.unit.proofs.Laws.{never_done, within}
 use Rattle.collision.specs.Pipeline.{total}
 use Rattle.graphs.specs.Graph.{Reachable}
 use Rattle.graphs.specs.States.{More}
 use Rattle.graphs.proofs.Many.{too_many}
 use Rattle.graphs.specs.Rotation.{rotate}
-use Rattle.graphs.proofs.Rotations.{rotate-length}
+use Rattle.graphs.proofs.Rotations.{rotate_length}
 use Rattle.planner.specs.declared.Handed.{Handed}
 use Rattle.planner.specs.Plans.{plan_of}
 use Rattle.mean_cycle.specs.declared.Cycle.{Cycle}
 use Rattle.mean_cycle.specs.declared.Answer.TheVariants.{No, Found}
 use Rattle.mean_cycle.specs.Nodes.{Least, cyc}
 use Rattle.mean_cycle.specs.Table.{tabled, TableSearched}
-use Rattle.mean_cycle.proofs.Cycles.{cycle-spell, total-spell}
+use Rattle.mean_cycle.proofs.Cycles.{cycle_spell, total_spell}
 use Rattle.mean_cycle.proofs.Sums.{sum_below}
 use Rattle.loops.specs.declared.State.{State}
 use Rattle.loops.specs.declared.Rules.{Rules}
 use Rattle.loops.specs.Loop.{Loop}
-use Rattle.loops.specs.Steps.{firstState, loopStates, arcGraph, arcTests}
+use Rattle.loops.specs.Steps.{first_state, loop_states, arc_graph, arc_tests}
 use Rattle.loops.specs.Best.{BestLoop}
-use Rattle.loops.specs.Answers.{allTags, loopAnswer, LoopPromise}
-use Rattle.loops.specs.Inner.{Ruled, ruleGraph, ruleTests, ruleStates, ruleFirst, state_of, Explored, cycleIn, Standing, Turnable, turn_of, Checked, Sought}
-use Rattle.loops.proofs.StateLaws.{tests-right}
-use Rattle.loops.proofs.BestLaws.{toStart}
-use Rattle.loops.proofs.StoreLaws.{state-kept}
-use Rattle.loops.proofs.TurnLaws.{rule-right}
+use Rattle.loops.specs.Answers.{all_tags, loop_answer, LoopPromise}
+use Rattle.loops.specs.Inner.{Ruled, rule_graph, rule_tests, rule_states, rule_first, state_of, Explored, cycle_in, Standing, Turnable, turn_of, Checked, Sought}
+use Rattle.loops.proofs.StateLaws.{tests_right}
+use Rattle.loops.proofs.BestLaws.{to_start}
+use Rattle.loops.proofs.StoreLaws.{state_kept}
+use Rattle.loops.proofs.TurnLaws.{rule_right}
 use Rattle.loops.proofs.NodeLaws.{first-same, rules-reached, reached-rules, node_kept, node-count, explored-table, explored-best}
-use Rattle.loops.proofs.PlanLaws.{standing-length}
+use Rattle.loops.proofs.PlanLaws.{standing_length}
 use Rattle.loops.proofs.RulingLaws.{all_known}
 
 -- How many states there are, by the rules and by the steps
 
 module _ (u : FunctionUnit) (tags : List ℕ) (loop : Loop u tags) (R : Rules) (h : Ruled u tags R) where
-  other-default : (l : List State) (i : ℕ) → get_or l i (ruleFirst R) ≡ get_or l i (firstState u tags)
+  other-default : (l : List State) (i : ℕ) → get_or l i (rule_first R) ≡ get_or l i (first_state u tags)
   other-default l i = ap (get_or l i) (first-same u tags loop R h.rules)
 
-  rules-more : More 256 (ruleGraph R) → More 256 (arcGraph u tags)
+  rules-more : More 256 (rule_graph R) → More 256 (arc_graph u tags)
   rules-more m = record {
     some = m.some;
     many = m.many;
     distinct = λ i j l k e. m.distinct i j l k (other-default m.some i ∙ e ∙ sym (other-default m.some j));
     reached = λ i l.
-        subst (Reachable (arcGraph u tags)) (other-default m.some i)
-        (rules-reached u tags loop R h.rules (get_or m.some i (ruleFirst R)) (m.reached i l));
+        subst (Reachable (arc_graph u tags)) (other-default m.some i)
+        (rules-reached u tags loop R h.rules (get_or m.some i (rule_first R)) (m.reached i l));
   }
 
-  more-rules : More 256 (arcGraph u tags) → More 256 (ruleGraph R)
+  more-rules : More 256 (arc_graph u tags) → More 256 (rule_graph R)
   more-rules m = record {
     some = m.some;
     many = m.many;
     distinct = λ i j l k e. m.distinct i j l k (sym (other-default m.some i) ∙ e ∙ other-default m.some j);
     reached = λ i l.
-        subst (Reachable (ruleGraph R)) (sym (other-default m.some i))
-        (reached-rules u tags loop R h.rules (get_or m.some i (firstState u tags)) (m.reached i l));
+        subst (Reachable (rule_graph R)) (sym (other-default m.some i))
+        (reached-rules u tags loop R h.rules (get_or m.some i (first_state u tags)) (m.reached i l));
   }
 
-  pub many-states : 256 < length (ruleStates R) → 256 < length (loopStates u tags)
+  pub many-states : 256 < length (rule_states R) → 256 < length (loop_states u tags)
   many-states l =
-      (too_many 256 (arcGraph u tags) (arcTests u tags) (tests-right u tags)).0
-      (rules-more ((too_many 256 (ruleGraph R) (ruleTests R) (rule-right R)).1 l))
+      (too_many 256 (arc_graph u tags) (arc_tests u tags) (tests_right u tags)).0
+      (rules-more ((too_many 256 (rule_graph R) (rule_tests R) (rule_right R)).1 l))
 
-  pub few-states : length (ruleStates R) ≤ 256 → length (loopStates u tags) ≤ 256
-  few-states l = go (dec_lt 256 (length (loopStates u tags)))
+  pub few-states : length (rule_states R) ≤ 256 → length (loop_states u tags) ≤ 256
+  few-states l = go (dec_lt 256 (length (loop_states u tags)))
     where
-      go : Dec (256 < length (loopStates u tags)) → length (loopStates u tags) ≤ 256
+      go : Dec (256 < length (loop_states u tags)) → length (loop_states u tags) ≤ 256
       go (yes m) =
           absurd
           (omega (
             arith,
-            (too_many 256 (ruleGraph R) (ruleTests R) (rule-right R)).0
-                (more-rules ((too_many 256 (arcGraph u tags) (arcTests u tags) (tests-right u tags)).1 m)),
+            (too_many 256 (rule_graph R) (rule_tests R) (rule_right R)).0
+                (more-rules ((too_many 256 (arc_graph u tags) (arc_tests u tags) (tests_right u tags)).1 m)),
           ))
       go (no m) = omega arith
 
 -- Refused by 7
 
-pub sought-many : (u : FunctionUnit) (tags w w' : List ℕ) (R : Rules) (r : ℕ) (a : Handed) → Checked u tags w → Ruled u tags R → Explored w w' R r → 256 < r
-    → a.answer ≡ Refused TooManyStates → a.plan ≡ noPlan → Sought u tags w w' a
-sought-many u tags w w' R r a k h x l e p =
+pub sought_many : (u : FunctionUnit) (tags w w' : List ℕ) (R : Rules) (r : ℕ) (a : Handed) → Checked u tags w → Ruled u tags R → Explored w w' R r → 256 < r
+    → a.answer ≡ Refused TooManyStates → a.plan ≡ no_plan → Sought u tags w w' a
+sought_many u tags w w' R r a k h x l e p =
     record {
       size = x.size;
       beyond = λ j m. x.high j (omega arith);
-      says = e ∙ sym (ap (λ b. check b TooManyStates Done) (lt-leb (length (loopStates u tags)) 256 (many-states u tags k.loop R h (x.over l))));
+      says = e ∙ sym (ap (λ b. check b TooManyStates Done) (lt-leb (length (loop_states u tags)) 256 (many-states u tags k.loop R h (x.over l))));
       found = λ f. never_done (sym e ∙ f);
       none = λ why f. p;
     }
 
 -- The table is always one
 
-pub never-no : (u : FunctionUnit) (tags w w₁ w₂ : List ℕ) (R : Rules) (r : ℕ) → Checked u tags w → Ruled u tags R → Explored w w₁ R r → r ≤ 256
+pub never_no : (u : FunctionUnit) (tags w w₁ w₂ : List ℕ) (R : Rules) (r : ℕ) → Checked u tags w → Ruled u tags R → Explored w w₁ R r → r ≤ 256
     → TableSearched r R.width w₁ w₂ No → ⊥
-never-no u tags w w₁ w₂ R r k h x few s =
+never_no u tags w w₁ w₂ R r k h x few s =
     nowhere (s.found (explored-table u tags k.loop R h.rules k.sound h.sane w w₁ r x few (omega (arith, k.room))))
 
 -- Found
@@ -122,14 +122,14 @@ module _ (u : FunctionUnit) (tags w w₁ w₂ : List ℕ) (R : Rules) (r : ℕ) 
   room : 11264 ≤ length w
   room = omega (arith, k.room)
 
-  best : BestLoop u tags (rotate (cycleIn w₂ c.count) (toStart tags (state_of w₁ c.start)))
+  best : BestLoop u tags (rotate (cycle_in w₂ c.count) (to_start tags (state_of w₁ c.start)))
   best = explored-best u tags k.loop R h.rules k.sound h.sane w w₁ r x few room w₂ c least
 
   start-low : c.start < r
   start-low = subst (λ (v : ℕ). v < r) least.cycle.begins (least.cycle.arcs 0 least.cycle.some).leaves
 
-  state-same : state_of w₂ c.start ≡ state_of w₁ c.start
-  state-same = state-kept w₁ w₂ (λ j a b. least.frame.high j (omega arith)) c.start (omega (arith, start-low))
+  state_same : state_of w₂ c.start ≡ state_of w₁ c.start
+  state_same = state_kept w₁ w₂ (λ j a b. least.frame.high j (omega arith)) c.start (omega (arith, start-low))
 
   standing : Standing w₂ c.count
   standing = record {
@@ -142,10 +142,10 @@ module _ (u : FunctionUnit) (tags w w₁ w₂ : List ℕ) (R : Rules) (r : ℕ) 
   long : length tags ≤ c.count
   long = go best.schedule.turns best.schedule.whole
     where
-      n : length (rotate (cycleIn w₂ c.count) (toStart tags (state_of w₁ c.start))) ≡ c.count
-      n = rotate-length (cycleIn w₂ c.count) (toStart tags (state_of w₁ c.start)) ∙ standing-length w₂ c.count standing
+      n : length (rotate (cycle_in w₂ c.count) (to_start tags (state_of w₁ c.start))) ≡ c.count
+      n = rotate_length (cycle_in w₂ c.count) (to_start tags (state_of w₁ c.start)) ∙ standing_length w₂ c.count standing
 
-      go : (t : ℕ) → length (rotate (cycleIn w₂ c.count) (toStart tags (state_of w₁ c.start))) ≡ t * length tags → length tags ≤ c.count
+      go : (t : ℕ) → length (rotate (cycle_in w₂ c.count) (to_start tags (state_of w₁ c.start))) ≡ t * length tags → length tags ≤ c.count
       go zero e = absurd (omega (arith, n, least.cycle.some))
       go (suc t) e = omega (arith, n)
 
@@ -153,30 +153,30 @@ module _ (u : FunctionUnit) (tags w w₁ w₂ : List ℕ) (R : Rules) (r : ℕ) 
   turnable = record {
     standing = standing;
     start = omega (arith, start-low);
-    place = subst (λ (y : State). y.position < length tags) (sym state-same) (node_kept u tags k.loop R h.rules k.sound h.sane w w₁ r x few room c.start start-low).place;
+    place = subst (λ (y : State). y.position < length tags) (sym state_same) (node_kept u tags k.loop R h.rules k.sound h.sane w w₁ r x few room c.start start-low).place;
     short = k.loop.few;
     long = long;
-    adds = least.cycle.total ∙ sym (ap total (cycle-spell w₂ c.count (omega (arith, standing.room, count-few))) ∙ total-spell (cyc w₂) c.count);
+    adds = least.cycle.total ∙ sym (ap total (cycle_spell w₂ c.count (omega (arith, standing.room, count-few))) ∙ total_spell (cyc w₂) c.count);
     low = omega (arith, least.cycle.total, sum_below (cyc w₂) c.count 32 (λ i l. (least.cycle.arcs i l).high), count-few);
   }
 
   pub sought-found : (a : Handed) → a.answer ≡ Done
-      → a.plan ≡ plan_of 0 (rotate (cycleIn w₂ c.count) (turn_of w₂ (length tags) c)) → Sought u tags w w₂ a
+      → a.plan ≡ plan_of 0 (rotate (cycle_in w₂ c.count) (turn_of w₂ (length tags) c)) → Sought u tags w w₂ a
   sought-found a e p =
-      let same : turn_of w₂ (length tags) c ≡ toStart tags (state_of w₁ c.start) = ap (toStart tags) state-same in
-      let l : List ℕ = rotate (cycleIn w₂ c.count) (toStart tags (state_of w₁ c.start)) in
+      let same : turn_of w₂ (length tags) c ≡ to_start tags (state_of w₁ c.start) = ap (to_start tags) state_same in
+      let l : List ℕ = rotate (cycle_in w₂ c.count) (to_start tags (state_of w₁ c.start)) in
       record {
         size = least.frame.size ∙ x.size;
         beyond = λ j m. least.frame.high j (omega arith) ∙ x.high j (omega arith);
         says =
             e
-            ∙ sym (ap (λ b. check b TooManyStates Done) (le-leb (length (loopStates u tags)) 256
+            ∙ sym (ap (λ b. check b TooManyStates Done) (le-leb (length (loop_states u tags)) 256
             (few-states u tags k.loop R h (omega (arith, node-count u tags k.loop R h.rules k.sound h.sane w w₁ r x few room)))));
         found = λ f. record {
-          latencies = rotate (cycleIn w₂ c.count) (toStart tags (state_of w₁ c.start));
-          few = omega (arith, rotate-length (cycleIn w₂ c.count) (toStart tags (state_of w₁ c.start)), standing-length w₂ c.count standing, count-few);
+          latencies = rotate (cycle_in w₂ c.count) (to_start tags (state_of w₁ c.start));
+          few = omega (arith, rotate_length (cycle_in w₂ c.count) (to_start tags (state_of w₁ c.start)), standing_length w₂ c.count standing, count-few);
           best = best;
-          held = p ∙ ap (λ t. plan_of 0 (rotate (cycleIn w₂ c.count) t)) same;
+          held = p ∙ ap (λ t. plan_of 0 (rotate (cycle_in w₂ c.count) t)) same;
         };
         none = λ why f. never_done (sym f ∙ e);
       }
@@ -185,7 +185,7 @@ module _ (u : FunctionUnit) (tags w w₁ w₂ : List ℕ) (R : Rules) (r : ℕ) 
 
 module _ (u : FunctionUnit) (tags w : List ℕ) where
   -- a call that is refused before it searches
-  promised-refused : (a : Handed) (why : Refusal) → loopAnswer u tags (length w) ≡ Refused why → (a.answer ≡ Refused why) × (a.plan ≡ noPlan)
+  promised-refused : (a : Handed) (why : Refusal) → loop_answer u tags (length w) ≡ Refused why → (a.answer ≡ Refused why) × (a.plan ≡ no_plan)
       → LoopPromise u tags w w a
   promised-refused a why says e = record {
     says = e.0 ∙ sym says;
@@ -194,23 +194,23 @@ module _ (u : FunctionUnit) (tags w : List ℕ) where
     work = record { size = refl; beyond = λ j l. refl; kept = λ other f ne. refl };
   }
 
-  pub promised-unsound : (a : Handed) → soundOf u ≡ false → (a.answer ≡ Refused NotSound) × (a.plan ≡ noPlan) → LoopPromise u tags w w a
-  unfolding loopAnswer
+  pub promised-unsound : (a : Handed) → sound_of u ≡ false → (a.answer ≡ Refused NotSound) × (a.plan ≡ no_plan) → LoopPromise u tags w w a
+  unfolding loop_answer
   promised-unsound a s e = promised-refused a NotSound (simp s) e
 
-  pub promised-list : (a : Handed) → soundOf u ≡ true → inside (length tags) 8 ≡ false → (a.answer ≡ Refused BadLoop) × (a.plan ≡ noPlan)
+  pub promised-list : (a : Handed) → sound_of u ≡ true → inside (length tags) 8 ≡ false → (a.answer ≡ Refused BadLoop) × (a.plan ≡ no_plan)
       → LoopPromise u tags w w a
-  unfolding loopAnswer
+  unfolding loop_answer
   promised-list a s l e = promised-refused a BadLoop (simp (s, l)) e
 
-  pub promised-tag : (a : Handed) → soundOf u ≡ true → inside (length tags) 8 ≡ true → allTags u tags ≡ false
-      → (a.answer ≡ Refused NoSuchTag) × (a.plan ≡ noPlan) → LoopPromise u tags w w a
-  unfolding loopAnswer
+  pub promised-tag : (a : Handed) → sound_of u ≡ true → inside (length tags) 8 ≡ true → all_tags u tags ≡ false
+      → (a.answer ≡ Refused NoSuchTag) × (a.plan ≡ no_plan) → LoopPromise u tags w w a
+  unfolding loop_answer
   promised-tag a s l t e = promised-refused a NoSuchTag (simp (s, l, t)) e
 
-  module _ (s : soundOf u ≡ true) (l : inside (length tags) 8 ≡ true) (known : allTags u tags ≡ true) where
-    pub promised-short : (a : Handed) → length w < 16000 → (a.answer ≡ Refused ShortWork) × (a.plan ≡ noPlan) → LoopPromise u tags w w a
-    unfolding loopAnswer
+  module _ (s : sound_of u ≡ true) (l : inside (length tags) 8 ≡ true) (known : all_tags u tags ≡ true) where
+    pub promised-short : (a : Handed) → length w < 16000 → (a.answer ≡ Refused ShortWork) × (a.plan ≡ no_plan) → LoopPromise u tags w w a
+    unfolding loop_answer
     promised-short a h e = promised-refused a ShortWork (simp (s, l, known, lt-leb 16000 (length w) h)) e
 
     pub checked : 16000 ≤ length w → Checked u tags w
@@ -219,7 +219,7 @@ module _ (u : FunctionUnit) (tags w : List ℕ) where
         record { sound = s; loop = record { some = k.least; few = k.most; tag = all_known u tags known }; room = h }
 
     pub promised-sought : (w' : List ℕ) (a : Handed) → 16000 ≤ length w → Sought u tags w w' a → LoopPromise u tags w w' a
-    unfolding loopAnswer
+    unfolding loop_answer
     promised-sought w' a h r = record {
       says = r.says ∙ sym (simp (s, l, known, le-leb 16000 (length w) h));
       found = r.found;
@@ -227,7 +227,7 @@ module _ (u : FunctionUnit) (tags w : List ℕ) where
       work = record {
         size = r.size;
         beyond = r.beyond;
-        kept = λ why e ne. absurd (ne (only-7 (leb (length (loopStates u tags)) 256) why (sym r.says ∙ e)));
+        kept = λ why e ne. absurd (ne (only-7 (leb (length (loop_states u tags)) 256) why (sym r.says ∙ e)));
       };
     }
       where

@@ -7,19 +7,19 @@ use native.Mathlib.Nat.{add-zero, mod-lt, mod-eq_of_lt, mod-add-mod, zero-mod, m
 use native.Mathlib.Decide.{dec_le}
 use native.Mathlib.Omega.{arith}
 use lib.ListN.{length, get_or}
-use Rattle.words.proofs.BitLaws.{bit-above, zero-unset}
+use Rattle.words.proofs.BitLaws.{bit_above, zero_unset}
 use Rattle.unit.specs.declared.FunctionUnit.{FunctionUnit}
-use Rattle.unit.specs.Unit.{marked, inside, soundOf}
-use Rattle.unit.proofs.Laws.{Within, within, sound-has}
-use Rattle.collision.specs.Vector.{largestColumn}
+use Rattle.unit.specs.Unit.{marked, inside, sound_of}
+use Rattle.unit.proofs.Laws.{Within, within, sound_has}
+use Rattle.collision.specs.Vector.{largest_column}
 use Rattle.controller.specs.Bank.{register, empty, ticked, started, granted}
-use Rattle.controller.proofs.TickLaws.{Below, ticked-below, started_below, empty-below, register-below, bit-granted}
+use Rattle.controller.proofs.TickLaws.{Below, ticked_below, started_below, empty_below, register_below, bit_granted}
 use Rattle.graphs.specs.Graph.{step, Reachable}
-use Rattle.graphs.proofs.Walks.{run, stateAt, reach-keeps}
+use Rattle.graphs.proofs.Walks.{run, state_at, reach-keeps}
 use Rattle.loops.specs.Loop.{Loop, tag_at}
 use Rattle.loops.specs.declared.State.{State}
-use Rattle.loops.specs.Steps.{Steps, ShortStep, following, nextTag, firstState, stepped, loopGraph, arcGraph}
-use Rattle.loops.proofs.BankLaws.{ticked-empty}
+use Rattle.loops.specs.Steps.{Steps, ShortStep, following, next_tag, first_state, stepped, loop_graph, arc_graph}
+use Rattle.loops.proofs.BankLaws.{ticked_empty}
 
 -- Tags
 
@@ -30,34 +30,34 @@ module _ (u : FunctionUnit) (tags : List ℕ) (loop : Loop u tags) where
   pub tag-within : (i : ℕ) → Within (tag_at tags i) u.functions
   tag-within i = within (tag_at tags i) u.functions (tag-inside i)
 
-  pub next-within : (s : State) → Within (nextTag tags s) u.functions
+  pub next-within : (s : State) → Within (next_tag tags s) u.functions
   next-within s = tag-within (s.position + 1)
 
   pub first-within : Within (get_or tags 0 0) u.functions
   first-within = within (get_or tags 0 0) u.functions (loop.tag 0 loop.some)
 
-pub four : (u : FunctionUnit) → soundOf u ≡ true → u.functions ≤ 4
-four u sound = (within u.functions 4 (sound-has u sound).functions).most
+pub four : (u : FunctionUnit) → sound_of u ≡ true → u.functions ≤ 4
+four u sound = (within u.functions 4 (sound_has u sound).functions).most
 
 -- Positions
 
-pub run-position : (u : FunctionUnit) (tags : List ℕ) → 1 ≤ length tags → (s : State) → s.position < length tags → (l : List ℕ)
-    → (run (loopGraph u tags) s l).position ≡ (s.position + length l) % length tags
-run-position u tags some s h [] = sym (ap (λ n. n % length tags) (add-zero s.position) ∙ mod-eq_of_lt h)
-run-position u tags some s h (t ∷ l) =
+pub run_position : (u : FunctionUnit) (tags : List ℕ) → 1 ≤ length tags → (s : State) → s.position < length tags → (l : List ℕ)
+    → (run (loop_graph u tags) s l).position ≡ (s.position + length l) % length tags
+run_position u tags some s h [] = sym (ap (λ n. n % length tags) (add-zero s.position) ∙ mod-eq_of_lt h)
+run_position u tags some s h (t ∷ l) =
     let e : s.position + 1 + length l ≡ s.position + suc (length l) = omega arith in
-    run-position u tags some (stepped u tags s t) (mod-lt (s.position + 1) some) l
+    run_position u tags some (stepped u tags s t) (mod-lt (s.position + 1) some) l
     ∙ mod-add-mod (s.position + 1) (length tags) (length l) ∙ ap (λ n. n % length tags) e
 
 module _ (u : FunctionUnit) (tags : List ℕ) (s : State) (l : List ℕ) (start : s.position ≡ 0) where
-  pub position_at : (j : ℕ) → (stateAt (loopGraph u tags) s l j).position ≡ j % length tags
+  pub position_at : (j : ℕ) → (state_at (loop_graph u tags) s l j).position ≡ j % length tags
   position_at zero = start ∙ sym (zero-mod (length tags))
   position_at (suc j) =
       let e : j + 1 ≡ suc j = omega arith in
       ap (λ p. (p + 1) % length tags) (position_at j) ∙ mod-add-mod j (length tags) 1 ∙ ap (λ n. n % length tags) e
 
   -- the tag that follows the j-th task is that of the next
-  pub next-at : (j : ℕ) → nextTag tags (stateAt (loopGraph u tags) s l j) ≡ tag_at tags (suc j)
+  pub next-at : (j : ℕ) → next_tag tags (state_at (loop_graph u tags) s l j) ≡ tag_at tags (suc j)
   next-at j = ap (λ p. get_or tags p 0) (position_at (suc j))
 
 -- Latencies longer than n + 1
@@ -65,57 +65,57 @@ module _ (u : FunctionUnit) (tags : List ℕ) (s : State) (l : List ℕ) (start 
 -- the position is one of the list, and no register has a bit from n on
 pub record Kept (u : FunctionUnit) (tags : List ℕ) (s : State) : Type 0 where
   pub place : s.position < length tags
-  pub below : Below (largestColumn (marked u)) s.bank
+  pub below : Below (largest_column (marked u)) s.bank
 
-module _ (u : FunctionUnit) (tags : List ℕ) (sound : soundOf u ≡ true) (loop : Loop u tags) where
-  pub kept-first : Kept u tags (firstState u tags)
+module _ (u : FunctionUnit) (tags : List ℕ) (sound : sound_of u ≡ true) (loop : Loop u tags) where
+  pub kept-first : Kept u tags (first_state u tags)
   kept-first = record {
     place = loop.some;
-    below = started_below u (get_or tags 0 0) empty (omega (arith, first-within u tags loop, four u sound)) (empty-below (largestColumn (marked u)));
+    below = started_below u (get_or tags 0 0) empty (omega (arith, first-within u tags loop, four u sound)) (empty_below (largest_column (marked u)));
   }
 
   pub kept_step : (s : State) (t : ℕ) → Kept u tags s → Kept u tags (stepped u tags s t)
   kept_step s t k = record {
     place = mod-lt (s.position + 1) loop.some;
     below =
-        started_below u (nextTag tags s) (ticked (t - 1) s.bank) (omega (arith, next-within u tags loop s, four u sound))
-        (ticked-below (largestColumn (marked u)) (t - 1) s.bank k.below);
+        started_below u (next_tag tags s) (ticked (t - 1) s.bank) (omega (arith, next-within u tags loop s, four u sound))
+        (ticked_below (largest_column (marked u)) (t - 1) s.bank k.below);
   }
 
-  pub kept-reached : (s : State) → Reachable (loopGraph u tags) s → Kept u tags s
-  kept-reached s r = reach-keeps (loopGraph u tags) (Kept u tags) kept-first (λ s t k p. kept_step s t k) r
+  pub kept-reached : (s : State) → Reachable (loop_graph u tags) s → Kept u tags s
+  kept-reached s r = reach-keeps (loop_graph u tags) (Kept u tags) kept-first (λ s t k p. kept_step s t k) r
 
-  pub kept-arcs : (s : State) → Reachable (arcGraph u tags) s → Kept u tags s
-  kept-arcs s r = reach-keeps (arcGraph u tags) (Kept u tags) kept-first (λ s t k p. kept_step s t k) r
+  pub kept-arcs : (s : State) → Reachable (arc_graph u tags) s → Kept u tags s
+  kept-arcs s r = reach-keeps (arc_graph u tags) (Kept u tags) kept-first (λ s t k p. kept_step s t k) r
 
   -- a latency above n is always granted, and all such lead to one state
-  pub far-granted : (s : State) (t : ℕ) → Kept u tags s → largestColumn (marked u) + 1 ≤ t → Steps tags s t
+  pub far-granted : (s : State) (t : ℕ) → Kept u tags s → largest_column (marked u) + 1 ≤ t → Steps tags s t
   far-granted s t k h = record {
     least = omega arith;
     granted =
-        bit-granted s.bank t (nextTag tags s)
-        (zero-unset _ (t - 1) (bit-above (register s.bank (nextTag tags s)) (largestColumn (marked u)) (t - 1) (register-below (largestColumn (marked u)) s.bank (nextTag tags s) k.below) (omega arith)));
+        bit_granted s.bank t (next_tag tags s)
+        (zero_unset _ (t - 1) (bit_above (register s.bank (next_tag tags s)) (largest_column (marked u)) (t - 1) (register_below (largest_column (marked u)) s.bank (next_tag tags s) k.below) (omega arith)));
   }
 
-  pub step-far : (s : State) (t t' : ℕ) → Kept u tags s → largestColumn (marked u) + 1 ≤ t → largestColumn (marked u) + 1 ≤ t'
+  pub step-far : (s : State) (t t' : ℕ) → Kept u tags s → largest_column (marked u) + 1 ≤ t → largest_column (marked u) + 1 ≤ t'
       → stepped u tags s t ≡ stepped u tags s t'
   step-far s t t' k h h' =
       let e : ticked (t - 1) s.bank ≡ ticked (t' - 1) s.bank =
-      ticked-empty (largestColumn (marked u)) (t - 1) s.bank k.below (omega arith)
-      ∙ sym (ticked-empty (largestColumn (marked u)) (t' - 1) s.bank k.below (omega arith)) in
-      λ i. record { position = following tags s; bank = started u (nextTag tags s) (e i) }
+      ticked_empty (largest_column (marked u)) (t - 1) s.bank k.below (omega arith)
+      ∙ sym (ticked_empty (largest_column (marked u)) (t' - 1) s.bank k.below (omega arith)) in
+      λ i. record { position = following tags s; bank = started u (next_tag tags s) (e i) }
 
   -- the same step, cut to n + 1
-  pub step_cut : (s : State) (t : ℕ) → Kept u tags s → stepped u tags s (min t (largestColumn (marked u) + 1)) ≡ stepped u tags s t
-  step_cut s t k = pick (dec_le t (largestColumn (marked u) + 1))
+  pub step_cut : (s : State) (t : ℕ) → Kept u tags s → stepped u tags s (min t (largest_column (marked u) + 1)) ≡ stepped u tags s t
+  step_cut s t k = pick (dec_le t (largest_column (marked u) + 1))
     where
-      pick : Dec (t ≤ largestColumn (marked u) + 1) → stepped u tags s (min t (largestColumn (marked u) + 1)) ≡ stepped u tags s t
+      pick : Dec (t ≤ largest_column (marked u) + 1) → stepped u tags s (min t (largest_column (marked u) + 1)) ≡ stepped u tags s t
       pick (yes h) = ap (stepped u tags s) (min-eq_left h)
-      pick (no h) = step-far s (min t (largestColumn (marked u) + 1)) t k (omega arith) (omega arith)
+      pick (no h) = step-far s (min t (largest_column (marked u) + 1)) t k (omega arith) (omega arith)
 
-  pub permits-cut : (s : State) (t : ℕ) → Kept u tags s → Steps tags s t → ShortStep (largestColumn (marked u)) tags s (min t (largestColumn (marked u) + 1))
-  permits-cut s t k p = record { step = pick (dec_le t (largestColumn (marked u) + 1)); most = omega arith }
+  pub permits-cut : (s : State) (t : ℕ) → Kept u tags s → Steps tags s t → ShortStep (largest_column (marked u)) tags s (min t (largest_column (marked u) + 1))
+  permits-cut s t k p = record { step = pick (dec_le t (largest_column (marked u) + 1)); most = omega arith }
     where
-      pick : Dec (t ≤ largestColumn (marked u) + 1) → Steps tags s (min t (largestColumn (marked u) + 1))
+      pick : Dec (t ≤ largest_column (marked u) + 1) → Steps tags s (min t (largest_column (marked u) + 1))
       pick (yes h) = subst (Steps tags s) (sym (min-eq_left h)) p
-      pick (no h) = far-granted s (min t (largestColumn (marked u) + 1)) k (omega arith)
+      pick (no h) = far-granted s (min t (largest_column (marked u) + 1)) k (omega arith)

@@ -8,13 +8,13 @@ use native.Mathlib.Omega.{arith}
 use mathlib.Core.Logic.{◌⊎◌, inl, inr}
 use lib.ListN.{length, get_or, set, length-set, length-append, get_or-append}
 use lib.Seq.{get_or-set_same, get_or-set_other, get_or_at}
-use Rattle.words.proofs.Tests.{T_true, true-T, not-passed}
+use Rattle.words.proofs.Tests.{T_true, true_T, not_passed}
 use Rattle.graphs.specs.Graph.{Listed}
 use Rattle.graphs.specs.States.{Right, has, add}
 use Rattle.graphs.proofs.ListLaws.{has_listed, listed_has}
 use Rattle.loops.specs.declared.State.{State}
 use Rattle.loops.specs.declared.Rules.{Rules}
-use Rattle.loops.specs.Inner.{state_of, putState, listIn, Placed, Included, ruleGraph, ruleTests, ruleFirst}
+use Rattle.loops.specs.Inner.{state_of, put_state, list_in, Placed, Included, rule_graph, rule_tests, rule_first}
 
 -- A state put into its place
 
@@ -31,51 +31,51 @@ module _ (w : List ℕ) (i : ℕ) (s : State) where
   abbrev w4 : List ℕ
   w4 = set w3 (10752 + i) s.bank.r3
 
-  pub put-size : length (putState w i s) ≡ length w
+  pub put-size : length (put_state w i s) ≡ length w
   put-size = simp length-set
 
   -- every other word stays
   pub put_other : (j : ℕ) → (j ≡ 9984 + i → ⊥) → (j ≡ 10240 + i → ⊥) → (j ≡ 10496 + i → ⊥) → (j ≡ 10752 + i → ⊥) → (j ≡ 11008 + i → ⊥)
-      → get_or (putState w i s) j 0 ≡ get_or w j 0
+      → get_or (put_state w i s) j 0 ≡ get_or w j 0
   put_other j a b c d e =
       get_or-set_other w4 (11008 + i) j s.bank.r4 0 e ∙ get_or-set_other w3 (10752 + i) j s.bank.r3 0 d
       ∙ get_or-set_other w2 (10496 + i) j s.bank.r2 0 c ∙ get_or-set_other w1 (10240 + i) j s.bank.r1 0 b
       ∙ get_or-set_other w (9984 + i) j s.position 0 a
 
-  pub put_low : (j : ℕ) → j < 9984 → get_or (putState w i s) j 0 ≡ get_or w j 0
+  pub put_low : (j : ℕ) → j < 9984 → get_or (put_state w i s) j 0 ≡ get_or w j 0
   put_low j h = put_other j (λ e. omega arith) (λ e. omega arith) (λ e. omega arith) (λ e. omega arith) (λ e. omega arith)
 
-  pub put-high : (j : ℕ) → i < 256 → 11264 ≤ j → get_or (putState w i s) j 0 ≡ get_or w j 0
+  pub put-high : (j : ℕ) → i < 256 → 11264 ≤ j → get_or (put_state w i s) j 0 ≡ get_or w j 0
   put-high j l h = put_other j (λ e. omega arith) (λ e. omega arith) (λ e. omega arith) (λ e. omega arith) (λ e. omega arith)
 
   module _ (inside : i < 256) (room : 11264 ≤ length w) where
-    put-0 : get_or (putState w i s) (9984 + i) 0 ≡ s.position
+    put-0 : get_or (put_state w i s) (9984 + i) 0 ≡ s.position
     put-0 =
         get_or-set_other w4 (11008 + i) (9984 + i) s.bank.r4 0 (λ e. omega arith) ∙ get_or-set_other w3 (10752 + i) (9984 + i) s.bank.r3 0 (λ e. omega arith)
         ∙ get_or-set_other w2 (10496 + i) (9984 + i) s.bank.r2 0 (λ e. omega arith) ∙ get_or-set_other w1 (10240 + i) (9984 + i) s.bank.r1 0 (λ e. omega arith)
         ∙ get_or-set_same w (9984 + i) s.position 0 (omega arith)
 
-    put_1 : get_or (putState w i s) (10240 + i) 0 ≡ s.bank.r1
+    put_1 : get_or (put_state w i s) (10240 + i) 0 ≡ s.bank.r1
     put_1 =
         get_or-set_other w4 (11008 + i) (10240 + i) s.bank.r4 0 (λ e. omega arith) ∙ get_or-set_other w3 (10752 + i) (10240 + i) s.bank.r3 0 (λ e. omega arith)
         ∙ get_or-set_other w2 (10496 + i) (10240 + i) s.bank.r2 0 (λ e. omega arith) ∙ get_or-set_same w1 (10240 + i) s.bank.r1 0 (simp length-set (omega arith))
 
-    put_2 : get_or (putState w i s) (10496 + i) 0 ≡ s.bank.r2
+    put_2 : get_or (put_state w i s) (10496 + i) 0 ≡ s.bank.r2
     put_2 =
         get_or-set_other w4 (11008 + i) (10496 + i) s.bank.r4 0 (λ e. omega arith) ∙ get_or-set_other w3 (10752 + i) (10496 + i) s.bank.r3 0 (λ e. omega arith)
         ∙ get_or-set_same w2 (10496 + i) s.bank.r2 0 (simp length-set (omega arith))
 
-    put_3 : get_or (putState w i s) (10752 + i) 0 ≡ s.bank.r3
+    put_3 : get_or (put_state w i s) (10752 + i) 0 ≡ s.bank.r3
     put_3 =
         get_or-set_other w4 (11008 + i) (10752 + i) s.bank.r4 0 (λ e. omega arith) ∙ get_or-set_same w3 (10752 + i) s.bank.r3 0 (simp length-set (omega arith))
 
-    put_4 : get_or (putState w i s) (11008 + i) 0 ≡ s.bank.r4
+    put_4 : get_or (put_state w i s) (11008 + i) 0 ≡ s.bank.r4
     put_4 = get_or-set_same w4 (11008 + i) s.bank.r4 0 (simp length-set (omega arith))
 
-    pub put-state : state_of (putState w i s) i ≡ s
+    pub put-state : state_of (put_state w i s) i ≡ s
     put-state = λ k. record { position = put-0 k; bank = record { r1 = put_1 k; r2 = put_2 k; r3 = put_3 k; r4 = put_4 k } }
 
-    pub put-state-other : (j : ℕ) → j < 256 → (j ≡ i → ⊥) → state_of (putState w i s) j ≡ state_of w j
+    pub put-state-other : (j : ℕ) → j < 256 → (j ≡ i → ⊥) → state_of (put_state w i s) j ≡ state_of w j
     put-state-other j l ne = λ k. record {
       position = put_other (9984 + j) (λ e. ne (omega arith)) (λ e. omega arith) (λ e. omega arith) (λ e. omega arith) (λ e. omega arith) k;
       bank = record {
@@ -87,8 +87,8 @@ module _ (w : List ℕ) (i : ℕ) (s : State) where
     }
 
 -- the state of equal words
-pub state-kept : (w w' : List ℕ) → ((j : ℕ) → 9984 ≤ j → j < 11264 → get_or w' j 0 ≡ get_or w j 0) → (i : ℕ) → i < 256 → state_of w' i ≡ state_of w i
-state-kept w w' h i l = λ k. record {
+pub state_kept : (w w' : List ℕ) → ((j : ℕ) → 9984 ≤ j → j < 11264 → get_or w' j 0 ≡ get_or w j 0) → (i : ℕ) → i < 256 → state_of w' i ≡ state_of w i
+state_kept w w' h i l = λ k. record {
   position = h (9984 + i) (omega arith) (omega arith) k;
   bank = record {
     r1 = h (10240 + i) (omega arith) (omega arith) k;
@@ -100,50 +100,50 @@ state-kept w w' h i l = λ k. record {
 
 -- The list of the first states
 
-pub list_length : (w : List ℕ) (k : ℕ) → length (listIn w k) ≡ k
+pub list_length : (w : List ℕ) (k : ℕ) → length (list_in w k) ≡ k
 list_length w zero = refl
-list_length w (suc k) = let r = list_length w k in length-append (listIn w k) (state_of w k ∷ []) ∙ omega arith
+list_length w (suc k) = let r = list_length w k in length-append (list_in w k) (state_of w k ∷ []) ∙ omega arith
 
-pub list_at : (w : List ℕ) (d : State) (k i : ℕ) → i < k → get_or (listIn w k) i d ≡ state_of w i
+pub list_at : (w : List ℕ) (d : State) (k i : ℕ) → i < k → get_or (list_in w k) i d ≡ state_of w i
 list_at w d zero i h = absurd (not-suc-le-zero h)
 list_at w d (suc k) i h = pick (eq-or-lt_of_le (le_of_suc-le-suc h)) (list_at w d k i)
   where
-    pick : (i ≡ k) ⊎ (i < k) → (i < k → get_or (listIn w k) i d ≡ state_of w i) → get_or (listIn w k ++ (state_of w k ∷ [])) i d ≡ state_of w i
-    pick (inl e) r = get_or_at (listIn w k) (state_of w k) [] d i (list_length w k ∙ sym e) ∙ ap (state_of w) (sym e)
-    pick (inr l) r = get_or-append (listIn w k) (state_of w k ∷ []) d i (omega (arith, list_length w k)) ∙ r l
+    pick : (i ≡ k) ⊎ (i < k) → (i < k → get_or (list_in w k) i d ≡ state_of w i) → get_or (list_in w k ++ (state_of w k ∷ [])) i d ≡ state_of w i
+    pick (inl e) r = get_or_at (list_in w k) (state_of w k) [] d i (list_length w k ∙ sym e) ∙ ap (state_of w) (sym e)
+    pick (inr l) r = get_or-append (list_in w k) (state_of w k ∷ []) d i (omega (arith, list_length w k)) ∙ r l
 
-pub list_same : (w w' : List ℕ) (k : ℕ) → ((i : ℕ) → i < k → state_of w' i ≡ state_of w i) → listIn w' k ≡ listIn w k
+pub list_same : (w w' : List ℕ) (k : ℕ) → ((i : ℕ) → i < k → state_of w' i ≡ state_of w i) → list_in w' k ≡ list_in w k
 list_same w w' zero h = refl
 list_same w w' (suc k) h =
     ap₂ (λ (a : List State) (b : State). a ++ (b ∷ [])) (list_same w w' k (λ i l. h i (omega arith))) (h k (omega arith))
 
 -- A state included
 
-module _ (R : Rules) (right : Right (ruleGraph R) (ruleTests R)) (w : List ℕ) (k : ℕ) (s : State) (r : ℕ) (p : Placed w k s r) where
-  add-old : r < k → add (ruleGraph R) (ruleTests R) s (listIn w k) ≡ listIn w k
+module _ (R : Rules) (right : Right (rule_graph R) (rule_tests R)) (w : List ℕ) (k : ℕ) (s : State) (r : ℕ) (p : Placed w k s r) where
+  add-old : r < k → add (rule_graph R) (rule_tests R) s (list_in w k) ≡ list_in w k
   add-old l =
-      let e : has (ruleGraph R) (ruleTests R) s (listIn w k) ≡ true =
-      T_true _ (listed_has (ruleGraph R) (ruleTests R) right s (listIn w k) r (omega (arith, list_length w k)) (list_at w (ruleFirst R) k r l ∙ p.there l)) in
-      ap (λ b. cond b (listIn w k) (listIn w k ++ (s ∷ []))) e
+      let e : has (rule_graph R) (rule_tests R) s (list_in w k) ≡ true =
+      T_true _ (listed_has (rule_graph R) (rule_tests R) right s (list_in w k) r (omega (arith, list_length w k)) (list_at w (rule_first R) k r l ∙ p.there l)) in
+      ap (λ b. cond b (list_in w k) (list_in w k ++ (s ∷ []))) e
 
-  add-new : k ≤ r → add (ruleGraph R) (ruleTests R) s (listIn w k) ≡ listIn w k ++ (s ∷ [])
+  add-new : k ≤ r → add (rule_graph R) (rule_tests R) s (list_in w k) ≡ list_in w k ++ (s ∷ [])
   add-new l =
-      let e : has (ruleGraph R) (ruleTests R) s (listIn w k) ≡ false =
-      not-passed _ (λ b.
-      let f : Listed (ruleGraph R) s (listIn w k) = has_listed (ruleGraph R) (ruleTests R) right s (listIn w k) (true-T b) in
+      let e : has (rule_graph R) (rule_tests R) s (list_in w k) ≡ false =
+      not_passed _ (λ b.
+      let f : Listed (rule_graph R) s (list_in w k) = has_listed (rule_graph R) (rule_tests R) right s (list_in w k) (true_T b) in
       let i : f.index < k = omega (arith, f.inside, list_length w k) in
-      p.none l f.index i (sym (list_at w (ruleFirst R) k f.index i) ∙ f.found)) in
-      ap (λ b. cond b (listIn w k) (listIn w k ++ (s ∷ []))) e
+      p.none l f.index i (sym (list_at w (rule_first R) k f.index i) ∙ f.found)) in
+      ap (λ b. cond b (list_in w k) (list_in w k ++ (s ∷ []))) e
 
-  pub included-old : {w' : List ℕ} → Included w w' k s r → r < k → listIn w' k ≡ add (ruleGraph R) (ruleTests R) s (listIn w k)
-  included-old h l = ap (λ (v : List ℕ). listIn v k) (h.old l) ∙ sym (add-old l)
+  pub included-old : {w' : List ℕ} → Included w w' k s r → r < k → list_in w' k ≡ add (rule_graph R) (rule_tests R) s (list_in w k)
+  included-old h l = ap (λ (v : List ℕ). list_in v k) (h.old l) ∙ sym (add-old l)
 
-  pub included-new : {w' : List ℕ} → Included w w' k s r → 11264 ≤ length w → k ≤ r → k < 256 → listIn w' (suc k) ≡ add (ruleGraph R) (ruleTests R) s (listIn w k)
+  pub included-new : {w' : List ℕ} → Included w w' k s r → 11264 ≤ length w → k ≤ r → k < 256 → list_in w' (suc k) ≡ add (rule_graph R) (rule_tests R) s (list_in w k)
   included-new {w'} h room l m =
-      ap (λ (v : List ℕ). listIn v (suc k)) (h.new l m)
-      ∙ ap₂ (λ (a : List State) (b : State). a ++ (b ∷ [])) (list_same w (putState w k s) k (λ i n. put-state-other w k s m room i (omega arith) (λ e. omega arith)))
+      ap (λ (v : List ℕ). list_in v (suc k)) (h.new l m)
+      ∙ ap₂ (λ (a : List State) (b : State). a ++ (b ∷ [])) (list_same w (put_state w k s) k (λ i n. put-state-other w k s m room i (omega arith) (λ e. omega arith)))
       (put-state w k s m room)
       ∙ sym (add-new l)
 
-  pub included-full : k ≤ r → length (add (ruleGraph R) (ruleTests R) s (listIn w k)) ≡ suc k
-  included-full l = ap length (add-new l) ∙ length-append (listIn w k) (s ∷ []) ∙ let n = list_length w k in omega arith
+  pub included-full : k ≤ r → length (add (rule_graph R) (rule_tests R) s (list_in w k)) ≡ suc k
+  included-full l = ap length (add-new l) ∙ length-append (list_in w k) (s ∷ []) ∙ let n = list_length w k in omega arith

@@ -16,15 +16,15 @@ use Rattle.words.proofs.Tests.{nowhere}
 use Rattle.graphs.specs.States.{Right, add}
 use Rattle.loops.specs.declared.State.{State}
 use Rattle.loops.specs.declared.Rules.{Rules}
-use Rattle.loops.specs.Steps.{sameState}
-use Rattle.loops.specs.Inner.{Sane, masked, advanced, ruleArc, ruleGraph, ruleTests, state_of, putState, listIn, Placed, Included, Stocked, Led, visited, Turned}
-use Rattle.loops.proofs.StateLaws.{same-state, state-same}
-use Rattle.loops.proofs.RuleLaws.{position-low}
-use Rattle.loops.proofs.StoreLaws.{put-size, put_low, put-high, put-state, put-state-other, state-kept, list_same, included-old, included-new, included-full}
+use Rattle.loops.specs.Steps.{same_state}
+use Rattle.loops.specs.Inner.{Sane, masked, advanced, rule_arc, rule_graph, rule_tests, state_of, put_state, list_in, Placed, Included, Stocked, Led, visited, Turned}
+use Rattle.loops.proofs.StateLaws.{same_state_lem, state_same}
+use Rattle.loops.proofs.RuleLaws.{position_low}
+use Rattle.loops.proofs.StoreLaws.{put-size, put_low, put-high, put-state, put-state-other, state_kept, list_same, included-old, included-new, included-full}
 
-pub rule-right : (R : Rules) → Right (ruleGraph R) (ruleTests R)
-rule-right R = record {
-  same = λ x y. (same-state x y, λ e. subst (λ (z : State). sameState x z ≡ true) e (state-same x));
+pub rule_right : (R : Rules) → Right (rule_graph R) (rule_tests R)
+rule_right R = record {
+  same = λ x y. (same_state_lem x y, λ e. subst (λ (z : State). same_state x z ≡ true) e (state_same x));
   arc = λ s t h k e. record { least = h; most = k; free = e };
   permits = λ s t p. (p.least, p.most, p.free);
 }
@@ -37,25 +37,25 @@ found_at w k s t r l e f = record { most = omega arith; there = λ m. sym e ∙ 
 pub found_none : (w : List ℕ) (k : ℕ) (s : State) → ((j : ℕ) → j < k → state_of w j ≡ s → ⊥) → Placed w k s k
 found_none w k s h = record { most = omega arith; there = λ m. absurd (omega arith); none = λ m. h }
 
-pub found-more : (w : List ℕ) (s t : State) (i : ℕ) → ((j : ℕ) → j < i → state_of w j ≡ s → ⊥) → t ≡ state_of w i → (t ≡ s → ⊥)
+pub found_more : (w : List ℕ) (s t : State) (i : ℕ) → ((j : ℕ) → j < i → state_of w j ≡ s → ⊥) → t ≡ state_of w i → (t ≡ s → ⊥)
     → (j : ℕ) → j < i + 1 → state_of w j ≡ s → ⊥
-found-more w s t i h e n = below_more (λ (j : ℕ). state_of w j ≡ s → ⊥) i h (λ f. n (e ∙ f))
+found_more w s t i h e n = below_more (λ (j : ℕ). state_of w j ≡ s → ⊥) i h (λ f. n (e ∙ f))
 
 -- Including
 
-pub include-old : {w : List ℕ} {k : ℕ} {s : State} {r : ℕ} → Placed w k s r → r < k → Included w w k s r
-include-old p l = record { placed = p; old = λ m. refl; new = λ m n. absurd (omega arith); full = λ m n. refl }
+pub include_old : {w : List ℕ} {k : ℕ} {s : State} {r : ℕ} → Placed w k s r → r < k → Included w w k s r
+include_old p l = record { placed = p; old = λ m. refl; new = λ m n. absurd (omega arith); full = λ m n. refl }
 
-pub include-new : {w w' : List ℕ} {k : ℕ} {s : State} {r : ℕ} → Placed w k s r → k ≤ r → k < 256 → w' ≡ putState w k s → Included w w' k s k
-include-new {w} {w'} {k} {s} {r} p l m e = record {
+pub include_new : {w w' : List ℕ} {k : ℕ} {s : State} {r : ℕ} → Placed w k s r → k ≤ r → k < 256 → w' ≡ put_state w k s → Included w w' k s k
+include_new {w} {w'} {k} {s} {r} p l m e = record {
   placed = found_none w k s (p.none l);
   old = λ n. absurd (omega arith);
   new = λ a b. e;
   full = λ a b. absurd (omega arith);
 }
 
-pub include-full : {w : List ℕ} {k : ℕ} {s : State} {r : ℕ} → Placed w k s r → k ≤ r → 256 ≤ k → Included w w k s k
-include-full {w} {k} {s} p l m = record {
+pub include_full : {w : List ℕ} {k : ℕ} {s : State} {r : ℕ} → Placed w k s r → k ≤ r → 256 ≤ k → Included w w k s k
+include_full {w} {k} {s} p l m = record {
   placed = found_none w k s (p.none l);
   old = λ n. absurd (omega arith);
   new = λ a b. absurd (omega arith);
@@ -64,11 +64,11 @@ include-full {w} {k} {s} p l m = record {
 
 -- Leading on
 
-pub led-long : (w : List ℕ) (R : Rules) (k : ℕ) (s : State) (word t : ℕ) → R.width + 1 < t → Led w w R k s word t 0
-led-long w R k s word t h = record { long = λ l. (refl, refl); barred = λ e l. absurd (omega arith); led = λ e l. absurd (omega arith) }
+pub led_long : (w : List ℕ) (R : Rules) (k : ℕ) (s : State) (word t : ℕ) → R.width + 1 < t → Led w w R k s word t 0
+led_long w R k s word t h = record { long = λ l. (refl, refl); barred = λ e l. absurd (omega arith); led = λ e l. absurd (omega arith) }
 
-pub led-barred : (w : List ℕ) (R : Rules) (k : ℕ) (s : State) (word t : ℕ) → is_set word (t - 1) ≡ true → Led w w R k s word t 0
-led-barred w R k s word t b = record { long = λ l. (refl, refl); barred = λ e l. (refl, refl); led = λ e l. nowhere (sym e ∙ b) }
+pub led_barred : (w : List ℕ) (R : Rules) (k : ℕ) (s : State) (word t : ℕ) → is_set word (t - 1) ≡ true → Led w w R k s word t 0
+led_barred w R k s word t b = record { long = λ l. (refl, refl); barred = λ e l. (refl, refl); led = λ e l. nowhere (sym e ∙ b) }
 
 pub led_on : {w w' : List ℕ} {R : Rules} {k : ℕ} {s next : State} (word : ℕ) {t r : ℕ} → t ≤ R.width + 1 → is_set word (t - 1) ≡ false
     → next ≡ advanced R s t → Included w w' k next r → Led w w' R k s word t r
@@ -85,23 +85,23 @@ pub record Idle (w w₁ : List ℕ) (R : Rules) (s : State) (t x : ℕ) : Type 0
   pub list : (l : List State) → visited R s t l ≡ l
   pub words : w₁ ≡ w
   pub zero : x ≡ 0
-  pub barred : t ≤ R.width + 1 → ruleArc R s t ≡ true → ⊥
+  pub barred : t ≤ R.width + 1 → rule_arc R s t ≡ true → ⊥
 
 pub record Moved (w w₁ : List ℕ) (R : Rules) (k : ℕ) (s : State) (t x : ℕ) : Type 0 where
-  pub list : (l : List State) → visited R s t l ≡ add (ruleGraph R) (ruleTests R) (advanced R s t) l
+  pub list : (l : List State) → visited R s t l ≡ add (rule_graph R) (rule_tests R) (advanced R s t) l
   pub included : Included w w₁ k (advanced R s t) x
 
 kind : (w w₁ : List ℕ) (R : Rules) (k : ℕ) (s : State) (word t x : ℕ) → Led w w₁ R k s word t x → word ≡ masked R s → Idle w w₁ R s t x ⊎ Moved w w₁ R k s t x
 kind w w₁ R k s word t x led e = go (dec_le t (R.width + 1)) (is_set word (t - 1)) refl
   where
-    arc : (b : Bool) → is_set word (t - 1) ≡ b → ruleArc R s t ≡ not b
+    arc : (b : Bool) → is_set word (t - 1) ≡ b → rule_arc R s t ≡ not b
     arc b p = ap (λ (m : ℕ). not (is_set m (t - 1))) (sym e) ∙ ap not p
 
     go : Dec (t ≤ R.width + 1) → (b : Bool) → is_set word (t - 1) ≡ b → Idle w w₁ R s t x ⊎ Moved w w₁ R k s t x
     go (no h) b p =
         let o = led.long (omega arith) in
         inl (record {
-          list = λ l. ap (λ c. cond c (cond (ruleArc R s t) (add (ruleGraph R) (ruleTests R) (advanced R s t) l) l) l) (lt-leb t (R.width + 1) (omega arith));
+          list = λ l. ap (λ c. cond c (cond (rule_arc R s t) (add (rule_graph R) (rule_tests R) (advanced R s t) l) l) l) (lt-leb t (R.width + 1) (omega arith));
           words = o.0;
           zero = o.1;
           barred = λ m. absurd (h m);
@@ -110,8 +110,8 @@ kind w w₁ R k s word t x led e = go (dec_le t (R.width + 1)) (is_set word (t -
         let o = led.barred p h in
         inl (record {
           list = λ l.
-              ap (λ c. cond c (cond (ruleArc R s t) (add (ruleGraph R) (ruleTests R) (advanced R s t) l) l) l) (le-leb t (R.width + 1) h)
-              ∙ ap (λ c. cond c (add (ruleGraph R) (ruleTests R) (advanced R s t) l) l) (arc true p);
+              ap (λ c. cond c (cond (rule_arc R s t) (add (rule_graph R) (rule_tests R) (advanced R s t) l) l) l) (le-leb t (R.width + 1) h)
+              ∙ ap (λ c. cond c (add (rule_graph R) (rule_tests R) (advanced R s t) l) l) (arc true p);
           words = o.0;
           zero = o.1;
           barred = λ m f. nowhere (sym (arc true p) ∙ f);
@@ -119,8 +119,8 @@ kind w w₁ R k s word t x led e = go (dec_le t (R.width + 1)) (is_set word (t -
     go (yes h) false p =
         inr (record {
           list = λ l.
-              ap (λ c. cond c (cond (ruleArc R s t) (add (ruleGraph R) (ruleTests R) (advanced R s t) l) l) l) (le-leb t (R.width + 1) h)
-              ∙ ap (λ c. cond c (add (ruleGraph R) (ruleTests R) (advanced R s t) l) l) (arc false p);
+              ap (λ c. cond c (cond (rule_arc R s t) (add (rule_graph R) (rule_tests R) (advanced R s t) l) l) l) (le-leb t (R.width + 1) h)
+              ∙ ap (λ c. cond c (add (rule_graph R) (rule_tests R) (advanced R s t) l) l) (arc false p);
           included = led.led p h;
         })
 
@@ -131,9 +131,9 @@ pub record Made (w w₁ : List ℕ) (R : Rules) (k : ℕ) (s : State) (t x : ℕ
   pub high : (j : ℕ) → 11264 ≤ j → get_or w₁ j 0 ≡ get_or w j 0
   pub states : (i : ℕ) → i < k → state_of w₁ i ≡ state_of w i
   pub most : x ≤ k
-  pub old : x < k → (listIn w₁ k ≡ visited R s t (listIn w k)) × (t ≤ R.width + 1 → ruleArc R s t ≡ true → state_of w₁ x ≡ advanced R s t)
-  pub new : k ≤ x → k < 256 → (listIn w₁ (suc k) ≡ visited R s t (listIn w k)) × (state_of w₁ k ≡ advanced R s t)
-  pub full : k ≤ x → length (visited R s t (listIn w k)) ≡ suc k
+  pub old : x < k → (list_in w₁ k ≡ visited R s t (list_in w k)) × (t ≤ R.width + 1 → rule_arc R s t ≡ true → state_of w₁ x ≡ advanced R s t)
+  pub new : k ≤ x → k < 256 → (list_in w₁ (suc k) ≡ visited R s t (list_in w k)) × (state_of w₁ k ≡ advanced R s t)
+  pub full : k ≤ x → length (visited R s t (list_in w k)) ≡ suc k
 
 pub made : (w w₁ : List ℕ) (R : Rules) (k : ℕ) (s : State) (word t x : ℕ) → Led w w₁ R k s word t x → word ≡ masked R s → 1 ≤ k → k ≤ 256
     → 11264 ≤ length w → Made w w₁ R k s t x
@@ -148,7 +148,7 @@ made w w₁ R k s word t x led e some few room = ⊎_elim idle moved (kind w w�
           high = λ j l. ap (λ (v : List ℕ). get_or v j 0) i.words;
           states = λ j l. ap (λ (v : List ℕ). state_of v j) i.words;
           most = omega arith;
-          old = λ l. (ap (λ (v : List ℕ). listIn v k) i.words ∙ sym (i.list (listIn w k)), λ a b. absurd (i.barred a b));
+          old = λ l. (ap (λ (v : List ℕ). list_in v k) i.words ∙ sym (i.list (list_in w k)), λ a b. absurd (i.barred a b));
           new = λ l. absurd (omega arith);
           full = λ l. absurd (omega arith);
         }
@@ -172,7 +172,7 @@ made w w₁ R k s word t x led e some few room = ⊎_elim idle moved (kind w w�
               states = λ j z. ap (λ (v : List ℕ). state_of v j) q;
               most = omega arith;
               old = λ z. (
-                included-old R (rule-right R) w k (advanced R s t) x p m.included l ∙ sym (m.list (listIn w k)),
+                included-old R (rule_right R) w k (advanced R s t) x p m.included l ∙ sym (m.list (list_in w k)),
                 λ a b. ap (λ (v : List ℕ). state_of v x) q ∙ p.there l,
               );
               new = λ z. absurd (omega arith);
@@ -191,10 +191,10 @@ made w w₁ R k s word t x led e some few room = ⊎_elim idle moved (kind w w�
                   most = p.most;
                   old = λ z. absurd (omega arith);
                   new = λ l f. (
-                    included-new R (rule-right R) w k (advanced R s t) x p m.included room l f ∙ sym (m.list (listIn w k)),
+                    included-new R (rule_right R) w k (advanced R s t) x p m.included room l f ∙ sym (m.list (list_in w k)),
                     ap (λ (v : List ℕ). state_of v k) q ∙ put-state w k (advanced R s t) f room,
                   );
-                  full = λ l. ap length (m.list (listIn w k)) ∙ included-full R (rule-right R) w k (advanced R s t) x p l;
+                  full = λ l. ap length (m.list (list_in w k)) ∙ included-full R (rule_right R) w k (advanced R s t) x p l;
                 }
             full (no f) =
                 let q = m.included.full (omega arith) (omega arith) in
@@ -206,7 +206,7 @@ made w w₁ R k s word t x led e some few room = ⊎_elim idle moved (kind w w�
                   most = p.most;
                   old = λ z. absurd (omega arith);
                   new = λ l z. absurd (omega arith);
-                  full = λ l. ap length (m.list (listIn w k)) ∙ included-full R (rule-right R) w k (advanced R s t) x p l;
+                  full = λ l. ap length (m.list (list_in w k)) ∙ included-full R (rule_right R) w k (advanced R s t) x p l;
                 }
 
 -- the word of the table written
@@ -215,7 +215,7 @@ module _ (w : List ℕ) (slot x : ℕ) (low : slot < 9984) where
   note-other j ne = get_or-set_other w slot j x 0 ne
 
   note-state : (i : ℕ) → i < 256 → state_of (set w slot x) i ≡ state_of w i
-  note-state i l = state-kept w (set w slot x) (λ j a b. note-other j (λ e. omega arith)) i l
+  note-state i l = state_kept w (set w slot x) (λ j a b. note-other j (λ e. omega arith)) i l
 
 module _ (w w₁ : List ℕ) (R : Rules) (k : ℕ) (s : State) (at t x : ℕ) (m : Made w w₁ R k s t x) (sane : Sane R) (inside : at < k) (few : k ≤ 256)
     (room : 11264 ≤ length w) (t_some : 1 ≤ t) (t-few : t ≤ 32) where
@@ -275,7 +275,7 @@ module _ (w w₁ : List ℕ) (R : Rules) (k : ℕ) (s : State) (at t x : ℕ) (m
       (record {
         size = simp length-set m.size;
         grown = omega arith;
-        list = λ r. ap (listIn (set w₁ slot x)) one ∙ list_same w₁ (set w₁ slot x) (suc k) (λ i n. note-state w₁ slot x slot-low i (omega arith)) ∙ o.0;
+        list = λ r. ap (list_in (set w₁ slot x)) one ∙ list_same w₁ (set w₁ slot x) (suc k) (λ i n. note-state w₁ slot x slot-low i (omega arith)) ∙ o.0;
         over = λ r. absurd (omega arith);
         target = λ r. record {
           inside = subst (λ (y : ℕ). y < k + 1) (sym (noted ∙ xk)) (omega arith);
@@ -294,4 +294,4 @@ module _ (w w₁ : List ℕ) (R : Rules) (k : ℕ) (s : State) (at t x : ℕ) (m
           let q : i ≡ k = omega arith in
           subst (λ (y : State). y.position < 8)
           (sym (ap (state_of (set w₁ slot x)) q ∙ note-state w₁ slot x slot-low k (omega arith) ∙ (m.new l (omega arith)).1))
-          (position-low R s.position sane)
+          (position_low R s.position sane)

@@ -22,9 +22,9 @@ pub record Schedule (tags l : List ℕ) : Type 0 where
   pub whole : length l ≡ turns * length tags
 
 -- task i of the latencies repeated without end
-abbrev pub loopTask : List ℕ → List ℕ → ℕ → Task
-loopTask tags l i = record { tag = tag_at tags i; start = start_at l i }
+abbrev pub loop_task : List ℕ → List ℕ → ℕ → Task
+loop_task tags l i = record { tag = tag_at tags i; start = start_at l i }
 
 -- no two of the tasks occupy one segment in one time unit
 abbrev pub LoopNeverCollides : Table → List ℕ → List ℕ → Type 0
-LoopNeverCollides T tags l = (i j : ℕ) → i < j → Clash T (loopTask tags l i) (loopTask tags l j) → ⊥
+LoopNeverCollides T tags l = (i j : ℕ) → i < j → Clash T (loop_task tags l i) (loop_task tags l j) → ⊥

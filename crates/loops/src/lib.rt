@@ -2,11 +2,11 @@
 // Every function here is proved, and the crate assumes nothing of its own. No public function has a `requires`.
 ghost use Rattle.std.specs.Prelude.{◌≡◌, ◌++◌, ◌-◌, ◌<◌, length, replicate};
 ghost use Rattle.unit.specs.Unit.{inside};
-ghost use Rattle.unit.specs.Calls.{noPlan};
+ghost use Rattle.unit.specs.Calls.{no_plan};
 ghost use Rattle.graphs.specs.Rotation.{rotate};
 ghost use Rattle.planner.specs.Plans.{plan_of};
 ghost use Rattle.loops.specs.Answers.{LoopPromise};
-ghost use Rattle.loops.specs.Inner.{cycleIn, Standing, Turnable, turn_of, Checked, Sought};
+ghost use Rattle.loops.specs.Inner.{cycle_in, Standing, Turnable, turn_of, Checked, Sought};
 
 mod listing;
 mod ruling;
@@ -40,7 +40,7 @@ pub struct Rules {
 fn turned(work: &[u32], count: usize, first: usize) -> [u8; 256]
     requires standing { Standing work.now count }
     requires first_lt_count { first < count }
-    ensures { result ≡ rotate (cycleIn work.now count) first ++ replicate (256 - count) 0 }
+    ensures { result ≡ rotate (cycle_in work.now count) first ++ replicate (256 - count) 0 }
 {
     let mut bytes = [0u8; 256];
     let mut i: usize = 0;
@@ -54,7 +54,7 @@ fn turned(work: &[u32], count: usize, first: usize) -> [u8; 256]
 // The latencies of a cycle that stands in the working words, turned so that they begin at position 0, as a plan holds them; its tag is 0.
 fn plan_of(work: &[u32], length: usize, cycle: Cycle) -> Plan
     requires { Turnable work.now length cycle }
-    ensures { result ≡ plan_of 0 (rotate (cycleIn work.now cycle.count) (turn_of work.now length cycle)) }
+    ensures { result ≡ plan_of 0 (rotate (cycle_in work.now cycle.count) (turn_of work.now length cycle)) }
 {
     let count = cycle.count;
     let start = cycle.start;
@@ -71,7 +71,7 @@ fn plan_of(work: &[u32], length: usize, cycle: Cycle) -> Plan
 
 // No latencies, and why.
 fn refused(why: Refusal) -> Handed
-    ensures { (result.answer ≡ Answer.Refused why) × (result.plan ≡ noPlan) }
+    ensures { (result.answer ≡ Answer.Refused why) × (result.plan ≡ no_plan) }
 {
     let plan = unit::no_plan();
     Handed {

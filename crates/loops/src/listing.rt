@@ -2,7 +2,7 @@
 
 ghost use Rattle.std.specs.Prelude.{◌≡◌, ◌+◌, ◌*◌, ◌-◌, ◌/◌, ◌^◌, ◌≤◌, ◌<◌, length, set};
 ghost use Rattle.std.specs.Int.Bits.{bit_or};
-ghost use Rattle.loops.specs.Inner.{Sane, positionAfter, masked, advanced, begun, Led, Turned, Listable, Followed, Explored};
+ghost use Rattle.loops.specs.Inner.{Sane, position_after, masked, advanced, begun, Led, Turned, Listable, Followed, Explored};
 
 use crate::store::{get, include, put};
 use crate::{Rules, State};
@@ -12,7 +12,7 @@ use controller::Bank;
 fn next_position(rules: Rules, position: u32) -> u32
     requires sane { Sane rules }
     requires position_bound { position < 8 }
-    ensures { result ≡ positionAfter rules position }
+    ensures { result ≡ position_after rules position }
 {
     (position + 1) % rules.count
 }

@@ -1,10 +1,10 @@
 // The rules of a loop, from the unit and its list of tags.
 
 ghost use Rattle.std.specs.Prelude.{◌≡◌, ◌+◌, ◌≤◌, max, length};
-ghost use Rattle.words.specs.Below.{maxBelow, spanBelow};
+ghost use Rattle.words.specs.Below.{max_below, span_below};
 ghost use Rattle.unit.specs.Unit.{marked};
-ghost use Rattle.collision.specs.Vector.{collides, largestColumn};
-ghost use Rattle.loops.specs.Answers.{allTags};
+ghost use Rattle.collision.specs.Vector.{collides, largest_column};
+ghost use Rattle.loops.specs.Answers.{all_tags};
 ghost use Rattle.loops.specs.Inner.{RowsOf, TagsOf, Ruled};
 
 use crate::Rules;
@@ -21,7 +21,7 @@ fn larger(a: u32, b: u32) -> u32
 
 // The largest column with a 1 in row q of the matrix M_r, or 0.
 fn span(u: FunctionUnit, q: u8, r: u8) -> u32
-    ensures { result ≡ spanBelow 32 (λ k. collides (marked u) q r (k + 1)) }
+    ensures { result ≡ span_below 32 (λ k. collides (marked u) q r (k + 1)) }
 {
     let later = columns::columns_of(u, Tag(q));
     let earlier = columns::columns_of(u, Tag(r));
@@ -31,7 +31,7 @@ fn span(u: FunctionUnit, q: u8, r: u8) -> u32
 
 // The largest column with a 1 in row q of any matrix, or 0.
 fn span_of(u: FunctionUnit, q: u8) -> u32
-    ensures { result ≡ maxBelow 5 (λ r. spanBelow 32 (λ k. collides (marked u) q r (k + 1))) }
+    ensures { result ≡ max_below 5 (λ r. span_below 32 (λ k. collides (marked u) q r (k + 1))) }
 {
     let mut best = 0;
     let mut r: u8 = 0;
@@ -45,7 +45,7 @@ fn span_of(u: FunctionUnit, q: u8) -> u32
 
 // n: the largest column with a 1 in any matrix, or 0.
 fn widest(u: FunctionUnit) -> u32
-    ensures { result ≡ largestColumn (marked u) }
+    ensures { result ≡ largest_column (marked u) }
 {
     let mut best = 0;
     let mut q: u8 = 0;
@@ -59,7 +59,7 @@ fn widest(u: FunctionUnit) -> u32
 
 // Whether every tag of a list is one of the unit's.
 pub fn known_tags(u: FunctionUnit, tags: &[u8]) -> bool
-    ensures { result ≡ allTags u tags.now }
+    ensures { result ≡ all_tags u tags.now }
 {
     let count = tags.len();
     let mut i = 0;

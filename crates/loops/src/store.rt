@@ -1,15 +1,15 @@
 // The states of a loop in the working words: of state i the position at 9984 + i, the registers at 10240 + i, 10496 + i, 10752 + i and 11008 + i.
 
 ghost use Rattle.std.specs.Prelude.{◌≡◌, ◌+◌, ◌≤◌, ◌<◌, length};
-ghost use Rattle.loops.specs.Steps.{sameState};
-ghost use Rattle.loops.specs.Inner.{state_of, putState, Placed, Included};
+ghost use Rattle.loops.specs.Steps.{same_state};
+ghost use Rattle.loops.specs.Inner.{state_of, put_state, Placed, Included};
 
 use crate::State;
 use controller::Bank;
 
 // Whether two states are the same.
 pub fn same(a: State, b: State) -> bool
-    ensures { result ≡ sameState a b }
+    ensures { result ≡ same_state a b }
 {
     let x = a.bank;
     let y = b.bank;
@@ -51,7 +51,7 @@ pub fn get(work: &[u32], i: usize) -> State
 // Makes it state i.
 pub fn put(work: &mut [u32], i: usize, s: State)
     requires { (i < 256) × (11264 ≤ length work.old) }
-    ensures { work.new ≡ putState work.old i s }
+    ensures { work.new ≡ put_state work.old i s }
 {
     let bank = s.bank;
     work[9984 + i] = s.position;

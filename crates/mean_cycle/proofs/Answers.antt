@@ -13,34 +13,34 @@ use Rattle.words.proofs.Tests.{nowhere}
 use Rattle.diagram.specs.Diagram.{width, next, Permits, Reachable}
 use Rattle.diagram.specs.States.{states}
 use Rattle.diagram.specs.Cycles.{CycleFrom}
-use Rattle.diagram.specs.Work.{stateIn, enlistAnswer, Enlisted}
-use Rattle.diagram.proofs.WidthLaws.{width-31}
-use Rattle.diagram.proofs.StateLaws.{states-width}
+use Rattle.diagram.specs.Work.{state_in, enlist_answer, Enlisted}
+use Rattle.diagram.proofs.WidthLaws.{width_31}
+use Rattle.diagram.proofs.StateLaws.{states_width}
 use Rattle.diagram.proofs.Listing.{list-extends, states-distinct, states-reached, states-closed}
 use Rattle.mean_cycle.specs.declared.Cycle.{Cycle}
 use Rattle.mean_cycle.specs.declared.Answer.TheVariants.{No, Found}
 use Rattle.collision.specs.Pipeline.{total}
-use Rattle.mean_cycle.specs.Mean.{found, LeastMean, searchable, isFound, Searched}
+use Rattle.mean_cycle.specs.Mean.{found, LeastMean, searchable, is_found, Searched}
 use Rattle.mean_cycle.specs.Nodes.{Least, cyc}
 use Rattle.mean_cycle.specs.Inner.{Listing}
 use Rattle.mean_cycle.proofs.Links.{decide}
-use Rattle.mean_cycle.proofs.Bounds.{walk-nodes}
-use Rattle.mean_cycle.proofs.Cycles.{ruled, spell, cycle-spell, total-spell, cycle-from, cycle-begins}
+use Rattle.mean_cycle.proofs.Bounds.{walk_nodes}
+use Rattle.mean_cycle.proofs.Cycles.{ruled, spell, cycle_spell, total_spell, cycle_from, cycle_begins}
 
 -- how many states there are, by what enlist answers
 abbrev size : ℕ → ℕ
 size cv = length (states 256 1 (width cv) cv)
 
-states-some : (cv : ℕ) → 1 ≤ size cv
-states-some cv = (list-extends 1 (width cv) cv 257 0 (cv ∷ [])).longer
+states_some : (cv : ℕ) → 1 ≤ size cv
+states_some cv = (list-extends 1 (width cv) cv 257 0 (cv ∷ [])).longer
 
-answer-few : (room cv : ℕ) → 2048 ≤ room → size cv ≤ 256 → enlistAnswer room 1 cv ≡ size cv
-unfolding enlistAnswer
-answer-few room cv h l = rw (le-leb 768 room (omega arith), le-leb (size cv) 256 l)
+answer_few : (room cv : ℕ) → 2048 ≤ room → size cv ≤ 256 → enlist_answer room 1 cv ≡ size cv
+unfolding enlist_answer
+answer_few room cv h l = rw (le-leb 768 room (omega arith), le-leb (size cv) 256 l)
 
-answer-many : (room cv : ℕ) → 256 < size cv → enlistAnswer room 1 cv ≡ 0
-unfolding enlistAnswer
-answer-many room cv l = rw (lt-leb (size cv) 256 l) (go (leb 768 room))
+answer_many : (room cv : ℕ) → 256 < size cv → enlist_answer room 1 cv ≡ 0
+unfolding enlist_answer
+answer_many room cv l = rw (lt-leb (size cv) 256 l) (go (leb 768 room))
   where
     go : (b : Bool) → cond (b && false) (size cv) 0 ≡ 0
     go true = refl
@@ -48,27 +48,27 @@ answer-many room cv l = rw (lt-leb (size cv) 256 l) (go (leb 768 room))
 
 -- No
 
-no-cycle : {P : Type 0} {c : Cycle} → No ≡ Found c → P
-no-cycle e = nowhere (ap isFound e)
+no_cycle : {P : Type 0} {c : Cycle} → No ≡ Found c → P
+no_cycle e = nowhere (ap is_found e)
 
 unsearched : (cv : ℕ) (w : List ℕ) → false ≡ searchable (length w) 1 cv → Searched 1 cv w w No
 unsearched cv w e =
     record {
       answer = e;
-      least = λ c f. no-cycle f;
+      least = λ c f. no_cycle f;
       size = refl;
       beyond = λ i l. refl;
       short = λ l. refl;
       wide = λ l. refl;
     }
 
-pub searched-short : (cv : ℕ) (w : List ℕ) → length w < 2048 → Searched 1 cv w w No
+pub searched_short : (cv : ℕ) (w : List ℕ) → length w < 2048 → Searched 1 cv w w No
 unfolding searchable
-searched-short cv w h = unsearched cv w (rw (lt-leb 2048 (length w) h))
+searched_short cv w h = unsearched cv w (rw (lt-leb 2048 (length w) h))
 
-pub searched-wide : (cv : ℕ) (w : List ℕ) → 2147483648 ≤ cv → Searched 1 cv w w No
+pub searched_wide : (cv : ℕ) (w : List ℕ) → 2147483648 ≤ cv → Searched 1 cv w w No
 unfolding searchable
-searched-wide cv w h = unsearched cv w (rw (le-ltb cv 2147483648 h) (go (leb 2048 (length w))))
+searched_wide cv w h = unsearched cv w (rw (le-ltb cv 2147483648 h) (go (leb 2048 (length w))))
   where
     go : (b : Bool) → false ≡ b && false
     go true = refl
@@ -81,12 +81,12 @@ module _ (cv : ℕ) (before w : List ℕ) (r : ℕ) (room : 2048 ≤ length befo
       let many : 256 < size cv =
       decide
       (dec_le (size cv) 256)
-      (λ l. let e : r ≡ size cv = h.answer ∙ answer-few (length before) cv room l in absurd (omega (arith, states-some cv)))
+      (λ l. let e : r ≡ size cv = h.answer ∙ answer_few (length before) cv room l in absurd (omega (arith, states_some cv)))
       (λ n. omega arith)
       in
       record {
         answer = rw (le-leb 2048 (length before) room, lt-ltb cv 2147483648 low, lt-leb (size cv) 256 many);
-        least = λ c f. no-cycle f;
+        least = λ c f. no_cycle f;
         size = h.size;
         beyond = λ i l. h.beyond i (omega arith);
         short = λ l. absurd (omega arith);
@@ -101,26 +101,26 @@ module _ (cv : ℕ) (before w : List ℕ) (r : ℕ) (room : 2048 ≤ length befo
         decide
         (dec_le (size cv) 256)
         (λ l. l)
-        (λ n. absurd (some (h.answer ∙ answer-many (length before) cv (omega arith))))
+        (λ n. absurd (some (h.answer ∙ answer_many (length before) cv (omega arith))))
 
     count : r ≡ size cv
-    count = h.answer ∙ answer-few (length before) cv room few
+    count = h.answer ∙ answer_few (length before) cv room few
 
-    state-at : (i : ℕ) → i < r → stateIn w i ≡ get_or (states 256 1 (width cv) cv) i 0
+    state-at : (i : ℕ) → i < r → state_in w i ≡ get_or (states 256 1 (width cv) cv) i 0
     state-at i l = sym (get_or-take r w i 0 l) ∙ ap (λ (m : List ℕ). get_or m i 0) (h.listed (omega arith))
 
-    closed : (i t : ℕ) → i < r → Permits 1 (width cv) (stateIn w i) t → (x : ℕ) × ((x < r) × (stateIn w x ≡ next cv (stateIn w i) t))
+    closed : (i t : ℕ) → i < r → Permits 1 (width cv) (state_in w i) t → (x : ℕ) × ((x < r) × (state_in w x ≡ next cv (state_in w i) t))
     closed i t l p =
         let e = state-at i l in
         let o = states-closed 1 (width cv) cv 256 few i (omega (arith, count)) t (subst (λ (s : ℕ). Permits 1 (width cv) s t) e p) in
         let m : o.index < r = omega (arith, count, o.inside) in
         (o.index, (m, state-at o.index m ∙ o.found ∙ ap (λ (s : ℕ). next cv s t) (sym e)))
 
-    distinct : (i j : ℕ) → i < r → j < r → stateIn w i ≡ stateIn w j → i < j → ⊥
+    distinct : (i j : ℕ) → i < r → j < r → state_in w i ≡ state_in w j → i < j → ⊥
     distinct i j l m e o =
         states-distinct 1 (width cv) cv 256 i j o (omega (arith, count)) (sym (state-at i l) ∙ e ∙ state-at j m)
 
-    apart : (i j : ℕ) → i < r → j < r → stateIn w i ≡ stateIn w j → i ≡ j
+    apart : (i j : ℕ) → i < r → j < r → state_in w i ≡ state_in w j → i ≡ j
     apart i j l m e =
         let below : (i < j → ⊥) = distinct i j l m e in
         let above : (j < i → ⊥) = distinct j i m l (sym e) in
@@ -132,15 +132,15 @@ module _ (cv : ℕ) (before w : List ℕ) (r : ℕ) (room : 2048 ≤ length befo
           few = omega (arith, count, few);
           room = omega (arith, h.size);
           some = omega arith;
-          narrow = width-31 cv low;
-          below = λ i l. subst (λ (s : ℕ). s < 2 ^ width cv) (sym (state-at i l)) (states-width 256 1 cv (omega arith) i (omega (arith, count)));
+          narrow = width_31 cv low;
+          below = λ i l. subst (λ (s : ℕ). s < 2 ^ width cv) (sym (state-at i l)) (states_width 256 1 cv (omega arith) i (omega (arith, count)));
           source = record { index = h.index (omega arith); apart = apart; closed = closed };
         }
 
-    first : stateIn w 0 ≡ cv
+    first : state_in w 0 ≡ cv
     first = state-at 0 (omega arith) ∙ (list-extends 1 (width cv) cv 257 0 (cv ∷ [])).same 0 (omega arith)
 
-    reached : (i : ℕ) → i < r → Reachable 1 (width cv) cv (stateIn w i)
+    reached : (i : ℕ) → i < r → Reachable 1 (width cv) cv (state_in w i)
     reached i l = subst (Reachable 1 (width cv) cv) (sym (state-at i l)) (states-reached 1 (width cv) cv 256 i (omega (arith, count)))
 
     module _ (after : List ℕ) (best : Cycle) (l : Least w after (ruled r (width cv) cv) best) where
@@ -148,7 +148,7 @@ module _ (cv : ℕ) (before w : List ℕ) (r : ℕ) (room : 2048 ≤ length befo
       short = omega (arith, l.cycle.few, count, few)
 
       spelled : found after best ≡ spell (cyc after) 0 best.count
-      spelled = cycle-spell after best.count (omega (arith, short, l.frame.size, h.size))
+      spelled = cycle_spell after best.count (omega (arith, short, l.frame.size, h.size))
 
       start-low : best.start < r
       start-low = subst (λ (v : ℕ). v < r) l.cycle.begins (l.cycle.arcs 0 l.cycle.some).leaves
@@ -157,7 +157,7 @@ module _ (cv : ℕ) (before w : List ℕ) (r : ℕ) (room : 2048 ≤ length befo
       begun : (z : CycleFrom 1 (width cv) cv (found after best)) × (z.state ≡ get_or (states 256 1 (width cv) cv) best.start 0)
       begun =
           subst (λ (c : List ℕ). (z : CycleFrom 1 (width cv) cv c) × (z.state ≡ get_or (states 256 1 (width cv) cv) best.start 0)) (sym spelled)
-          (cycle-from listing reached l.cycle, cycle-begins listing reached l.cycle ∙ state-at best.start start-low)
+          (cycle_from listing reached l.cycle, cycle_begins listing reached l.cycle ∙ state-at best.start start-low)
 
       least : LeastMean 1 cv after best
       least =
@@ -166,9 +166,9 @@ module _ (cv : ℕ) (before w : List ℕ) (r : ℕ) (room : 2048 ≤ length befo
             start = begun.1;
             some = l.cycle.some;
             few = short;
-            adds = l.cycle.total ∙ sym (ap total spelled ∙ total-spell (cyc after) best.count);
+            adds = l.cycle.total ∙ sym (ap total spelled ∙ total_spell (cyc after) best.count);
             cycle = begun.0;
-            floor = record { bound = l.floor.bound; every = λ k e walk. let m = walk-nodes listing walk 0 listing.some first in l.floor.every k m.0 m.1 };
+            floor = record { bound = l.floor.bound; every = λ k e walk. let m = walk_nodes listing walk 0 listing.some first in l.floor.every k m.0 m.1 };
           }
 
       same-cycle : (c : Cycle) → Found best ≡ Found c → best ≡ c

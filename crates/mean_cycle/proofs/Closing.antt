@@ -7,10 +7,10 @@ use native.Mathlib.Omega.{arith}
 use Rattle.mean_cycle.specs.declared.Cycle.{Cycle}
 use Rattle.mean_cycle.specs.declared.search.Graph.{Graph}
 use Rattle.mean_cycle.specs.Nodes.{Arc, CycleOf, Frame, cyc, sum_to}
-use Rattle.mean_cycle.specs.Inner.{Tree, Ends, Path, Traced, Better, gain, parent, label, up, upSum}
+use Rattle.mean_cycle.specs.Inner.{Tree, Ends, Path, Traced, Better, gain, parent, label, up, up_sum}
 use Rattle.mean_cycle.proofs.Links.{up-below, up_apart, path-depth, path-up, path-part, up_suc, path-less, spelled_at}
-use Rattle.mean_cycle.proofs.Sums.{spelled-sum}
-use Rattle.mean_cycle.proofs.Frames.{within-frame, arc-kept}
+use Rattle.mean_cycle.proofs.Sums.{spelled_sum}
+use Rattle.mean_cycle.proofs.Frames.{within_frame, arc_kept}
 
 -- the nodes of the cycle from its end: x, then v and the nodes above it
 abbrev back : (ℕ → ℕ) → ℕ → ℕ → ℕ → ℕ
@@ -20,7 +20,7 @@ back p v x (suc j) = up p j v
 module _ (w w' : List ℕ) (G : Graph) (best : Cycle) (v t x k r : ℕ) (few : G.nodes ≤ 256) (tr : Tree w G best) (a : Arc w G v t x)
     (path : Path (parent w) G.nodes k v x) (d : Ends w G.nodes v) (traced : Traced w w' v t k r) where
   closing-frame : Frame w w'
-  closing-frame = within-frame 1536 1792 (omega arith) (omega arith) traced.within
+  closing-frame = within_frame 1536 1792 (omega arith) (omega arith) traced.within
 
   k-depth : k ≤ d.depth
   k-depth = path-depth (parent w) G.nodes k d.depth v x path d.rooted
@@ -47,7 +47,7 @@ module _ (w w' : List ℕ) (G : Graph) (best : Cycle) (v t x k r : ℕ) (few : G
         some = omega arith;
         few = omega (arith, k-depth, d.within);
         arcs = λ i l.
-            arc-kept
+            arc_kept
             closing-frame
             few
             (subst₂
@@ -73,17 +73,17 @@ module _ (w w' : List ℕ) (G : Graph) (best : Cycle) (v t x k r : ℕ) (few : G
             in
             omega arith;
         total =
-            let s : sum_to (cyc w') k ≡ upSum (parent w) (label w) k v = spelled-sum (parent w) (label w) (cyc w') k v traced.spelled in
+            let s : sum_to (cyc w') k ≡ up_sum (parent w) (label w) k v = spelled_sum (parent w) (label w) (cyc w') k v traced.spelled in
             omega (arith, traced.last, traced.total);
       }
 
   closing-lower : gain w x + best.count * t < gain w v + best.sum → best.count * r < suc k * best.sum
   closing-lower lt =
-      let s : gain w v + best.count * upSum (parent w) (label w) k v ≤ gain w x + k * best.sum =
+      let s : gain w v + best.count * up_sum (parent w) (label w) k v ≤ gain w x + k * best.sum =
       path-less (parent w) (label w) (gain w) G.nodes best.count best.sum tr.less k v x a.leaves path
       in
-      let e : best.count * r ≡ best.count * t + best.count * upSum (parent w) (label w) k v =
-      ap (λ (z : ℕ). best.count * z) traced.total ∙ mul-add best.count t (upSum (parent w) (label w) k v)
+      let e : best.count * r ≡ best.count * t + best.count * up_sum (parent w) (label w) k v =
+      ap (λ (z : ℕ). best.count * z) traced.total ∙ mul-add best.count t (up_sum (parent w) (label w) k v)
       in
       omega (arith, suc-mul k best.sum)
 

@@ -8,11 +8,11 @@ use native.Mathlib.Omega.{arith}
 use lib.ListN.{length, get_or, take, drop}
 use lib.Seq.{drop-cons}
 use Rattle.diagram.specs.Diagram.{Walk, stay, step, Reachable}
-use Rattle.diagram.specs.Work.{stateIn}
+use Rattle.diagram.specs.Work.{state_in}
 use Rattle.mean_cycle.specs.declared.Cycle.{Cycle}
 use Rattle.mean_cycle.specs.declared.search.Graph.{Graph}
 use Rattle.collision.specs.Pipeline.{total}
-use Rattle.diagram.specs.Cycles.{statesAlong, CycleFrom}
+use Rattle.diagram.specs.Cycles.{states_along, CycleFrom}
 use Rattle.mean_cycle.specs.Nodes.{Arc, CycleOf, cyc, sum_to}
 use Rattle.mean_cycle.specs.Inner.{Listing}
 
@@ -21,27 +21,27 @@ abbrev pub spell : (ℕ → ℕ) → ℕ → ℕ → List ℕ
 spell c i zero = []
 spell c i (suc m) = c i ∷ spell c (suc i) m
 
-take-spell : (w : List ℕ) (m i : ℕ) → 1536 + i + m ≤ length w → take m (drop (1536 + i) w) ≡ spell (cyc w) i m
-take-spell w zero i h = refl
-take-spell w (suc m) i h =
+take_spell : (w : List ℕ) (m i : ℕ) → 1536 + i + m ≤ length w → take m (drop (1536 + i) w) ≡ spell (cyc w) i m
+take_spell w zero i h = refl
+take_spell w (suc m) i h =
     let e : suc (1536 + i) ≡ 1536 + suc i = omega arith in
     let d : drop (1536 + i) w ≡ cyc w i ∷ drop (1536 + suc i) w =
     drop-cons w (1536 + i) 0 (omega arith) ∙ ap (λ (k : ℕ). cyc w i ∷ drop k w) e
     in
-    ap (take (suc m)) d ∙ ap (λ (l : List ℕ). cyc w i ∷ l) (take-spell w m (suc i) (omega arith))
+    ap (take (suc m)) d ∙ ap (λ (l : List ℕ). cyc w i ∷ l) (take_spell w m (suc i) (omega arith))
 
-pub cycle-spell : (w : List ℕ) (m : ℕ) → 1536 + m ≤ length w → take m (drop 1536 w) ≡ spell (cyc w) 0 m
-cycle-spell w m h = take-spell w m 0 (omega arith)
+pub cycle_spell : (w : List ℕ) (m : ℕ) → 1536 + m ≤ length w → take m (drop 1536 w) ≡ spell (cyc w) 0 m
+cycle_spell w m h = take_spell w m 0 (omega arith)
 
-total-from : (c : ℕ → ℕ) (m i : ℕ) → total (spell c i m) + sum_to c i ≡ sum_to c (i + m)
-total-from c zero i = omega (arith, ap (sum_to c) (add-zero i))
-total-from c (suc m) i =
+total_from : (c : ℕ → ℕ) (m i : ℕ) → total (spell c i m) + sum_to c i ≡ sum_to c (i + m)
+total_from c zero i = omega (arith, ap (sum_to c) (add-zero i))
+total_from c (suc m) i =
     let e : suc i + m ≡ i + suc m = omega arith in
-    let r : total (spell c (suc i) m) + sum_to c (suc i) ≡ sum_to c (i + suc m) = total-from c m (suc i) ∙ ap (sum_to c) e in
+    let r : total (spell c (suc i) m) + sum_to c (suc i) ≡ sum_to c (i + suc m) = total_from c m (suc i) ∙ ap (sum_to c) e in
     omega arith
 
-pub total-spell : (c : ℕ → ℕ) (m : ℕ) → total (spell c 0 m) ≡ sum_to c m
-total-spell c m = let e : 0 + m ≡ m = omega arith in omega (arith, total-from c m 0 ∙ ap (sum_to c) e)
+pub total_spell : (c : ℕ → ℕ) (m : ℕ) → total (spell c 0 m) ≡ sum_to c m
+total_spell c m = let e : 0 + m ≡ m = omega arith in omega (arith, total_from c m 0 ∙ ap (sum_to c) e)
 
 -- a graph whose arcs go by the collision vector
 abbrev pub ruled : ℕ → ℕ → ℕ → Graph
@@ -49,57 +49,57 @@ ruled r n cv = record { nodes = r; width = n; vector = cv; table = false }
 
 module _ (w : List ℕ) (r n cv : ℕ) (c node : ℕ → ℕ) (count : ℕ) (arcs : (i : ℕ) → i < count → Arc w (ruled r n cv) (node i) (c i) (node (suc i))) where
   along : ℕ → ℕ → List ℕ
-  along i m = statesAlong cv (stateIn w (node i)) (spell c i m)
+  along i m = states_along cv (state_in w (node i)) (spell c i m)
 
-  walk-spell : (m i k : ℕ) → i + m ≡ k → k ≤ count → Walk 1 n cv (stateIn w (node i)) (spell c i m) (stateIn w (node k))
+  walk-spell : (m i k : ℕ) → i + m ≡ k → k ≤ count → Walk 1 n cv (state_in w (node i)) (spell c i m) (state_in w (node k))
   walk-spell zero i k e l =
       let f : i ≡ k = omega arith in
-      subst (λ (z : ℕ). Walk 1 n cv (stateIn w (node i)) [] (stateIn w (node z))) f stay
+      subst (λ (z : ℕ). Walk 1 n cv (state_in w (node i)) [] (state_in w (node z))) f stay
   walk-spell (suc m) i k e l =
       let a = arcs i (omega arith) in
       step
       a.permits
-      (subst (λ (s : ℕ). Walk 1 n cv s (spell c (suc i) m) (stateIn w (node k))) a.leads (walk-spell m (suc i) k (omega arith) l))
+      (subst (λ (s : ℕ). Walk 1 n cv s (spell c (suc i) m) (state_in w (node k))) a.leads (walk-spell m (suc i) k (omega arith) l))
 
-  along-more : (m i : ℕ) → i < count → along i (suc m) ≡ stateIn w (node i) ∷ along (suc i) m
+  along-more : (m i : ℕ) → i < count → along i (suc m) ≡ state_in w (node i) ∷ along (suc i) m
   unfolding along
   along-more m i l =
-      ap (λ (s : ℕ). stateIn w (node i) ∷ statesAlong cv s (spell c (suc i) m)) (sym (arcs i l).leads)
+      ap (λ (s : ℕ). state_in w (node i) ∷ states_along cv s (spell c (suc i) m)) (sym (arcs i l).leads)
 
-  along-length : (m i : ℕ) → i + m ≤ count → length (along i m) ≡ m
+  along_length : (m i : ℕ) → i + m ≤ count → length (along i m) ≡ m
   unfolding along
-  along-length zero i l = refl
-  along-length (suc m) i l = ap length (along-more m i (omega arith)) ∙ ap suc (along-length m (suc i) (omega arith))
+  along_length zero i l = refl
+  along_length (suc m) i l = ap length (along-more m i (omega arith)) ∙ ap suc (along_length m (suc i) (omega arith))
 
-  along-at : (m i j : ℕ) → i + m ≤ count → j < m → get_or (along i m) j 0 ≡ stateIn w (node (i + j))
+  along_at : (m i j : ℕ) → i + m ≤ count → j < m → get_or (along i m) j 0 ≡ state_in w (node (i + j))
   unfolding along
-  along-at zero i j l h = absurd (not-suc-le-zero h)
-  along-at (suc m) i zero l h =
+  along_at zero i j l h = absurd (not-suc-le-zero h)
+  along_at (suc m) i zero l h =
       let e : i ≡ i + 0 = omega arith in
-      ap (λ (z : ℕ). stateIn w (node z)) e
-  along-at (suc m) i (suc j) l h =
+      ap (λ (z : ℕ). state_in w (node z)) e
+  along_at (suc m) i (suc j) l h =
       let e : suc i + j ≡ i + suc j = omega arith in
       ap (λ (s : List ℕ). get_or s (suc j) 0) (along-more m i (omega arith))
-      ∙ along-at m (suc i) j (omega arith) (le_of_suc-le-suc h)
-      ∙ ap (λ (z : ℕ). stateIn w (node z)) e
+      ∙ along_at m (suc i) j (omega arith) (le_of_suc-le-suc h)
+      ∙ ap (λ (z : ℕ). state_in w (node z)) e
 
-pub cycle-from :
+pub cycle_from :
     {w : List ℕ} {r n cv : ℕ} {c : ℕ → ℕ} {best : Cycle} → Listing w (ruled r n cv)
-    → ((i : ℕ) → i < r → Reachable 1 n cv (stateIn w i)) → CycleOf w (ruled r n cv) c best
+    → ((i : ℕ) → i < r → Reachable 1 n cv (state_in w i)) → CycleOf w (ruled r n cv) c best
     → CycleFrom 1 n cv (spell c 0 best.count)
 unfolding along
-cycle-from {w} {r} {n} {cv} {c} {best} h reached z =
+cycle_from {w} {r} {n} {cv} {c} {best} h reached z =
     let k : ℕ = best.count in
-    let state : ℕ = stateIn w (z.node 0) in
-    let at : (i : ℕ) → i < k → get_or (along w r n cv c z.node k z.arcs 0 k) i 0 ≡ stateIn w (z.node i) =
-    λ i l. let e : 0 + i ≡ i = omega arith in along-at w r n cv c z.node k z.arcs k 0 i (omega arith) l ∙ ap (λ (x : ℕ). stateIn w (z.node x)) e
+    let state : ℕ = state_in w (z.node 0) in
+    let at : (i : ℕ) → i < k → get_or (along w r n cv c z.node k z.arcs 0 k) i 0 ≡ state_in w (z.node i) =
+    λ i l. let e : 0 + i ≡ i = omega arith in along_at w r n cv c z.node k z.arcs k 0 i (omega arith) l ∙ ap (λ (x : ℕ). state_in w (z.node x)) e
     in
-    let size = along-length w r n cv c z.node k z.arcs k 0 (omega arith) in
+    let size = along_length w r n cv c z.node k z.arcs k 0 (omega arith) in
     record {
       state = state;
       reached = reached (z.node 0) (z.arcs 0 z.some).leaves;
       closed =
-          subst (λ (m : ℕ). Walk 1 n cv state (spell c 0 k) (stateIn w m)) z.closed
+          subst (λ (m : ℕ). Walk 1 n cv state (spell c 0 k) (state_in w m)) z.closed
           (walk-spell w r n cv c z.node k z.arcs k 0 k (omega arith) (omega arith));
       apart = λ i j l m e.
           let low : j < k = omega (arith, size) in
@@ -112,9 +112,9 @@ cycle-from {w} {r} {n} {cv} {c} {best} h reached z =
     }
 
 -- it begins at the state of its first node
-pub cycle-begins :
+pub cycle_begins :
     {w : List ℕ} {r n cv : ℕ} {c : ℕ → ℕ} {best : Cycle} (h : Listing w (ruled r n cv))
-    (reached : (i : ℕ) → i < r → Reachable 1 n cv (stateIn w i)) (z : CycleOf w (ruled r n cv) c best)
-    → (cycle-from h reached z).state ≡ stateIn w best.start
-unfolding cycle-from
-cycle-begins {w} h reached z = ap (stateIn w) z.begins
+    (reached : (i : ℕ) → i < r → Reachable 1 n cv (state_in w i)) (z : CycleOf w (ruled r n cv) c best)
+    → (cycle_from h reached z).state ≡ state_in w best.start
+unfolding cycle_from
+cycle_begins {w} h reached z = ap (state_in w) z.begins

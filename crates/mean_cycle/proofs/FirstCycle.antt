@@ -15,7 +15,7 @@ use Rattle.mean_cycle.specs.Nodes.{Arc, CycleOf, Frame, cyc, sum_to}
 use Rattle.mean_cycle.specs.Inner.{Listing, Within, Cleared, Copyable, Copied, Begun, gain, label}
 use Rattle.mean_cycle.proofs.Links.{decide, pick, pigeon}
 use Rattle.mean_cycle.proofs.Sums.{sum_same}
-use Rattle.mean_cycle.proofs.Frames.{frame-refl, frame-trans, within-frame, listing-few, listing-kept, arc-kept, cycle-kept}
+use Rattle.mean_cycle.proofs.Frames.{frame_refl, frame_trans, within_frame, listing_few, listing_kept, arc_kept, cycle_kept}
 
 -- copy
 
@@ -36,13 +36,13 @@ copy_start w from to =
       small = omega arith;
     }
 
-copy-label : {w₀ w : List ℕ} {from to sum j : ℕ} → Copyable w₀ from to → Copying w₀ w from to sum j → j < to - from → get_or w (1280 + from + j) 0 ≡ label w₀ (from + j)
-copy-label {w₀} {w} {from} {to} {sum} {j} h c l =
+copy_label : {w₀ w : List ℕ} {from to sum j : ℕ} → Copyable w₀ from to → Copying w₀ w from to sum j → j < to - from → get_or w (1280 + from + j) 0 ≡ label w₀ (from + j)
+copy_label {w₀} {w} {from} {to} {sum} {j} h c l =
     let e : 1280 + from + j ≡ 1280 + (from + j) = omega arith in
     c.within.below (1280 + from + j) (omega (arith, h.few)) ∙ ap (λ (k : ℕ). get_or w₀ k 0) e
 
-copy-small : {w₀ w : List ℕ} {from to sum j : ℕ} → Copyable w₀ from to → Copying w₀ w from to sum j → j < to - from → get_or w (1280 + from + j) 0 ≤ 32
-copy-small {from = from} {j = j} h c l = omega (arith, copy-label h c l, h.labels (from + j) (omega arith))
+copy_small : {w₀ w : List ℕ} {from to sum j : ℕ} → Copyable w₀ from to → Copying w₀ w from to sum j → j < to - from → get_or w (1280 + from + j) 0 ≤ 32
+copy_small {from = from} {j = j} h c l = omega (arith, copy_label h c l, h.labels (from + j) (omega arith))
 
 -- the places of a step in the words, and the size of what stands there
 pub record Place (w : List ℕ) (from sum j : ℕ) : Type 0 where
@@ -51,14 +51,14 @@ pub record Place (w : List ℕ) (from sum j : ℕ) : Type 0 where
   pub small : sum ≤ 8192
   pub label : get_or w (1280 + from + j) 0 ≤ 32
 
-pub copy-place : {w₀ w : List ℕ} {from to sum j : ℕ} → Copyable w₀ from to → Copying w₀ w from to sum j → j < to - from → Place w from sum j
-copy-place h c l =
+pub copy_place : {w₀ w : List ℕ} {from to sum j : ℕ} → Copyable w₀ from to → Copying w₀ w from to sum j → j < to - from → Place w from sum j
+copy_place h c l =
     let few = h.few in
     record {
       room = omega (arith, h.room, c.within.size);
       step = omega arith;
       small = omega (arith, c.small);
-      label = copy-small h c l;
+      label = copy_small h c l;
     }
 
 pub copy_more : {w₀ w : List ℕ} {from to sum j : ℕ} → Copyable w₀ from to → Copying w₀ w from to sum j → j < to - from
@@ -78,16 +78,16 @@ copy_more {w₀} {w} {from} {to} {sum} {j} h c l =
       upto = omega arith;
       spelled =
           below_more (λ (i : ℕ). cyc w' i ≡ label w₀ (from + i)) j
-          (λ i m. kept i m ∙ c.spelled i m) (last ∙ copy-label h c l);
+          (λ i m. kept i m ∙ c.spelled i m) (last ∙ copy_label h c l);
       total =
           let r : sum_to (cyc w') j ≡ sum_to (cyc w) j = sum_same (cyc w) (cyc w') j kept in
           subst (λ (k : ℕ). sum + t ≡ sum_to (cyc w') k) (sym (add-one j)) (omega (arith, c.total));
-      small = omega (arith, c.small, copy-small h c l);
+      small = omega (arith, c.small, copy_small h c l);
     }
 
-pub copy-end : {w₀ w : List ℕ} {from to sum j : ℕ} (start : ℕ) → Copying w₀ w from to sum j → to - from ≤ j
+pub copy_end : {w₀ w : List ℕ} {from to sum j : ℕ} (start : ℕ) → Copying w₀ w from to sum j → to - from ≤ j
     → Copied w₀ w from to start (record { count = to - from; sum = sum; start = start })
-copy-end {w₀} {w} {from} {to} {sum} {j} start c l =
+copy_end {w₀} {w} {from} {to} {sum} {j} start c l =
     let e : j ≡ to - from = omega (arith, c.upto) in
     record {
       begins = refl;
@@ -113,8 +113,8 @@ pub record Walking (w₀ w : List ℕ) (G : Graph) (v i : ℕ) : Type 0 where
 pub walk_start : {w w' : List ℕ} {G : Graph} → Listing w G → Cleared w w' G.nodes → Walking w' w' G 0 0
 walk_start {w} {w'} {G} h c =
     record {
-      frame = frame-refl w';
-      listing = listing-kept (within-frame 768 1280 (omega arith) (omega arith) c.within) h;
+      frame = frame_refl w';
+      listing = listing_kept (within_frame 768 1280 (omega arith) (omega arith) c.within) h;
       node = λ i. 0;
       here = refl;
       inside = h.some;
@@ -124,18 +124,18 @@ walk_start {w} {w'} {G} h c =
     }
 
 -- the nodes that the walk left are different
-walk-apart : {w₀ w : List ℕ} {G : Graph} {v i : ℕ} (h : Walking w₀ w G v i) → (j k : ℕ) → j < i → k < i → h.node j ≡ h.node k → j ≡ k
-walk-apart {w = w} h j k l m e = let q : gain w (h.node j) ≡ gain w (h.node k) = ap (gain w) e in omega (arith, h.marks j l, h.marks k m)
+walk_apart : {w₀ w : List ℕ} {G : Graph} {v i : ℕ} (h : Walking w₀ w G v i) → (j k : ℕ) → j < i → k < i → h.node j ≡ h.node k → j ≡ k
+walk_apart {w = w} h j k l m e = let q : gain w (h.node j) ≡ gain w (h.node k) = ap (gain w) e in omega (arith, h.marks j l, h.marks k m)
 
-walk-few : {w₀ w : List ℕ} {G : Graph} {v i : ℕ} → Walking w₀ w G v i → i ≤ G.nodes
-walk-few {G = G} {i = i} h = pigeon G.nodes i h.node (λ j l. (h.arcs j l).leaves) (walk-apart h)
+walk_few : {w₀ w : List ℕ} {G : Graph} {v i : ℕ} → Walking w₀ w G v i → i ≤ G.nodes
+walk_few {G = G} {i = i} h = pigeon G.nodes i h.node (λ j l. (h.arcs j l).leaves) (walk_apart h)
 
 -- so is the node at which it is, if that has no mark
-walk-new : {w₀ w : List ℕ} {G : Graph} {v i : ℕ} (h : Walking w₀ w G v i) → gain w v ≡ 0 → (j : ℕ) → j < i → h.node j ≡ v → ⊥
-walk-new {w = w} h z j l e = let q : gain w (h.node j) ≡ gain w _ = ap (gain w) e in omega (arith, h.marks j l)
+walk_new : {w₀ w : List ℕ} {G : Graph} {v i : ℕ} (h : Walking w₀ w G v i) → gain w v ≡ 0 → (j : ℕ) → j < i → h.node j ≡ v → ⊥
+walk_new {w = w} h z j l e = let q : gain w (h.node j) ≡ gain w _ = ap (gain w) e in omega (arith, h.marks j l)
 
-pub walk-fewer : {w₀ w : List ℕ} {G : Graph} {v i : ℕ} → Walking w₀ w G v i → gain w v ≡ 0 → i < G.nodes
-walk-fewer {w = w} {G = G} {v = v} {i = i} h z = pigeon G.nodes (suc i) h.node below apart
+pub walk_fewer : {w₀ w : List ℕ} {G : Graph} {v i : ℕ} → Walking w₀ w G v i → gain w v ≡ 0 → i < G.nodes
+walk_fewer {w = w} {G = G} {v = v} {i = i} h z = pigeon G.nodes (suc i) h.node below apart
   where
     below : (j : ℕ) → j < suc i → h.node j < G.nodes
     below j l =
@@ -145,14 +145,14 @@ walk-fewer {w = w} {G = G} {v = v} {i = i} h z = pigeon G.nodes (suc i) h.node b
         (λ ne. (h.arcs j (omega arith)).leaves)
 
     at-end : (j k : ℕ) → j < i → k ≡ i → h.node j ≡ h.node k → ⊥
-    at-end j k l e q = walk-new h z j l (q ∙ ap h.node e ∙ h.here)
+    at-end j k l e q = walk_new h z j l (q ∙ ap h.node e ∙ h.here)
 
     apart : (j k : ℕ) → j < suc i → k < suc i → h.node j ≡ h.node k → j ≡ k
     apart j k l m q =
         decide
         (ℕ_discrete j i)
         (λ e. decide (ℕ_discrete k i) (λ f. e ∙ sym f) (λ n. absurd (at-end k j (omega arith) e (sym q))))
-        (λ ne. decide (ℕ_discrete k i) (λ f. absurd (at-end j k (omega arith) f q)) (λ n. walk-apart h j k (omega arith) (omega arith) q))
+        (λ ne. decide (ℕ_discrete k i) (λ f. absurd (at-end j k (omega arith) f q)) (λ n. walk_apart h j k (omega arith) (omega arith) q))
 
 -- the places of a step in the words
 pub record Inside (w : List ℕ) (v i : ℕ) : Type 0 where
@@ -162,27 +162,27 @@ pub record Inside (w : List ℕ) (v i : ℕ) : Type 0 where
 
 pub walk_inside : {w₀ w : List ℕ} {G : Graph} {v i : ℕ} → Walking w₀ w G v i → Inside w v i
 walk_inside h =
-    let few = listing-few h.listing in
-    record { room = h.listing.room; node = omega (arith, h.inside); step = omega (arith, walk-few h) }
+    let few = listing_few h.listing in
+    record { room = h.listing.room; node = omega (arith, h.inside); step = omega (arith, walk_few h) }
 
-pub walk-fresh : {w₀ w : List ℕ} {G : Graph} {v i : ℕ} → Walking w₀ w G v i → gain w v ≡ 0 → Inside w v (suc i)
-walk-fresh h z =
-    let few = listing-few h.listing in
-    record { room = h.listing.room; node = omega (arith, h.inside); step = omega (arith, walk-fewer h z) }
+pub walk_fresh : {w₀ w : List ℕ} {G : Graph} {v i : ℕ} → Walking w₀ w G v i → gain w v ≡ 0 → Inside w v (suc i)
+walk_fresh h z =
+    let few = listing_few h.listing in
+    record { room = h.listing.room; node = omega (arith, h.inside); step = omega (arith, walk_fewer h z) }
 
 -- a function with another value at k
 abbrev with_at : (ℕ → ℕ) → ℕ → ℕ → ℕ → ℕ
 with_at f k x j = pick (ℕ_discrete j k) x (f j)
 
-with-here : (f : ℕ → ℕ) (k x : ℕ) → with_at f k x k ≡ x
-with-here f k x = go (ℕ_discrete k k)
+with_here : (f : ℕ → ℕ) (k x : ℕ) → with_at f k x k ≡ x
+with_here f k x = go (ℕ_discrete k k)
   where
     go : (d : Dec (k ≡ k)) → pick d x (f k) ≡ x
     go (yes e) = refl
     go (no n) = absurd (n refl)
 
-with-other : (f : ℕ → ℕ) (k x j : ℕ) → (j ≡ k → ⊥) → with_at f k x j ≡ f j
-with-other f k x j ne = go (ℕ_discrete j k)
+with_other : (f : ℕ → ℕ) (k x j : ℕ) → (j ≡ k → ⊥) → with_at f k x j ≡ f j
+with_other f k x j ne = go (ℕ_discrete j k)
   where
     go : (d : Dec (j ≡ k)) → pick d x (f j) ≡ f j
     go (yes e) = absurd (ne e)
@@ -194,10 +194,10 @@ stepped w v i t = set (set w (768 + v) (i + 1)) (1280 + i) t
 
 module _ (w₀ w : List ℕ) (G : Graph) (v i t x : ℕ) (h : Walking w₀ w G v i) (new : gain w v ≡ 0) (a : Arc w G v t x) where
   few : G.nodes ≤ 256
-  few = listing-few h.listing
+  few = listing_few h.listing
 
   fewer : i < G.nodes
-  fewer = walk-fewer h new
+  fewer = walk_fewer h new
 
   other : (k : ℕ) → (k ≡ 768 + v → ⊥) → (k ≡ 1280 + i → ⊥) → get_or (stepped w v i t) k 0 ≡ get_or w k 0
   other k p q = get_or-set_other (set w (768 + v) (i + 1)) (1280 + i) k t 0 q ∙ get_or-set_other w (768 + v) k (i + 1) 0 p
@@ -226,7 +226,7 @@ module _ (w₀ w : List ℕ) (G : Graph) (v i t x : ℕ) (h : Walking w₀ w G v
   label-other j l = other (1280 + j) (λ e. omega (arith, few, h.inside)) (λ e. omega arith)
 
   node-before : (j : ℕ) → j ≤ i → with_at h.node (suc i) x j ≡ h.node j
-  node-before j l = with-other h.node (suc i) x j (λ e. omega arith)
+  node-before j l = with_other h.node (suc i) x j (λ e. omega arith)
 
   step-arc : (j : ℕ) → j < suc i → Arc (stepped w v i t) G (with_at h.node (suc i) x j) (label (stepped w v i t) j) (with_at h.node (suc i) x (suc j))
   step-arc j l =
@@ -240,8 +240,8 @@ module _ (w₀ w : List ℕ) (G : Graph) (v i t x : ℕ) (h : Walking w₀ w G v
       (λ (p q r : ℕ). Arc (stepped w v i t) G p q r)
       (sym (node-before i (omega arith) ∙ h.here))
       (sym label-here)
-      (sym (with-here h.node (suc i) x))
-      (arc-kept step-frame few a)))
+      (sym (with_here h.node (suc i) x))
+      (arc_kept step-frame few a)))
       (λ ne.
       let m : j < i = omega arith in
       subst₃
@@ -249,7 +249,7 @@ module _ (w₀ w : List ℕ) (G : Graph) (v i t x : ℕ) (h : Walking w₀ w G v
       (sym (node-before j (omega arith)))
       (sym (label-other j m))
       (sym (node-before (suc j) m))
-      (arc-kept step-frame few (h.arcs j m)))
+      (arc_kept step-frame few (h.arcs j m)))
 
   step-mark : (j : ℕ) → j < suc i → gain (stepped w v i t) (with_at h.node (suc i) x j) ≡ suc j
   step-mark j l =
@@ -259,7 +259,7 @@ module _ (w₀ w : List ℕ) (G : Graph) (v i t x : ℕ) (h : Walking w₀ w G v
       (λ e. ap (gain (stepped w v i t)) (ap h.node e ∙ h.here) ∙ mark-here ∙ ap suc (sym e))
       (λ ne.
       let m : j < i = omega arith in
-      mark-other (h.node j) (h.arcs j m).leaves (walk-new h new j m) ∙ h.marks j m)
+      mark-other (h.node j) (h.arcs j m).leaves (walk_new h new j m) ∙ h.marks j m)
 
   step-marked : (u : ℕ) → u < G.nodes → (gain (stepped w v i t) u ≡ 0 → ⊥)
       → (gain (stepped w v i t) u ≤ suc i) × (with_at h.node (suc i) x (gain (stepped w v i t) u - 1) ≡ u)
@@ -280,10 +280,10 @@ module _ (w₀ w : List ℕ) (G : Graph) (v i t x : ℕ) (h : Walking w₀ w G v
   walk-suc : Walking w₀ (stepped w v i t) G x (suc i)
   walk-suc =
       record {
-        frame = frame-trans h.frame step-frame;
-        listing = listing-kept step-frame h.listing;
+        frame = frame_trans h.frame step-frame;
+        listing = listing_kept step-frame h.listing;
         node = with_at h.node (suc i) x;
-        here = with-here h.node (suc i) x;
+        here = with_here h.node (suc i) x;
         inside = a.enters;
         arcs = step-arc;
         marks = step-mark;
@@ -301,13 +301,13 @@ module _ (w₀ w : List ℕ) (G : Graph) (v i : ℕ) (h : Walking w₀ w G v i) 
       record {
         room = h.listing.room;
         some = omega (arith, o.0);
-        few = omega (arith, walk-few h, listing-few h.listing);
+        few = omega (arith, walk_few h, listing_few h.listing);
         labels = λ j l. (h.arcs j l).high;
       }
 
   module _ (w' : List ℕ) (r : Cycle) (c : Copied w w' (gain w v - 1) i v r) where
     copy-frame : Frame w w'
-    copy-frame = within-frame 1536 1792 (omega arith) (omega arith) c.within
+    copy-frame = within_frame 1536 1792 (omega arith) (omega arith) c.within
 
     closing : CycleOf w G (cyc w') r
     closing =
@@ -320,7 +320,7 @@ module _ (w₀ w : List ℕ) (G : Graph) (v i : ℕ) (h : Walking w₀ w G v i) 
           node = λ j. h.node (m + j);
           begins = let z : m + 0 ≡ m = omega arith in ap h.node z ∙ o.1 ∙ sym c.begins;
           some = omega arith;
-          few = omega (arith, walk-few h);
+          few = omega (arith, walk_few h);
           arcs = λ j l.
               let e : suc (m + j) ≡ m + suc j = omega arith in
               subst₂
@@ -332,7 +332,7 @@ module _ (w₀ w : List ℕ) (G : Graph) (v i : ℕ) (h : Walking w₀ w G v i) 
               let z : m ≡ m + 0 = omega arith in
               ap h.node end ∙ h.here ∙ sym o.1 ∙ ap h.node z;
           apart = λ j k l q e.
-              let s : m + j ≡ m + k = walk-apart h (m + j) (m + k) (omega arith) (omega arith) e in
+              let s : m + j ≡ m + k = walk_apart h (m + j) (m + k) (omega arith) (omega arith) e in
               omega arith;
           total = c.total ∙ ap (sum_to (cyc w')) (sym n);
         }
@@ -340,10 +340,10 @@ module _ (w₀ w : List ℕ) (G : Graph) (v i : ℕ) (h : Walking w₀ w G v i) 
     pub walk_end : {w₁ : List ℕ} → Frame w₁ w₀ → Begun w₁ w' G r
     walk_end f =
         record {
-          frame = frame-trans f (frame-trans h.frame copy-frame);
+          frame = frame_trans f (frame_trans h.frame copy-frame);
           ready =
               record {
-                listing = listing-kept copy-frame h.listing;
-                cycle = cycle-kept copy-frame (listing-few h.listing) (λ i l. refl) closing;
+                listing = listing_kept copy-frame h.listing;
+                cycle = cycle_kept copy-frame (listing_few h.listing) (λ i l. refl) closing;
               };
         }

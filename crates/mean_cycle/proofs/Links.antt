@@ -4,7 +4,7 @@ use Prim.Native.Nat.{ℕ, zero, suc, ◌+◌, ◌*◌, ◌-◌, ◌≤◌, ◌<�
 use native.Mathlib.Nat.{not-le_of_lt, not-suc-le-zero, le_of_suc-le-suc, sub-zero, suc-sub-suc, mul-add, suc-mul}
 use native.Mathlib.Decide.{ℕ_discrete}
 use native.Mathlib.Omega.{arith}
-use Rattle.mean_cycle.specs.Inner.{Rooted, Path, Off, up, upSum, Spelled}
+use Rattle.mean_cycle.specs.Inner.{Rooted, Path, Off, up, up_sum, Spelled}
 
 module _ (p : ℕ → ℕ) (n : ℕ) where
   one-depth : (d d' y : ℕ) → Rooted p n d y → Rooted p n d' y → d ≡ d'
@@ -142,12 +142,12 @@ module _ (p p' : ℕ → ℕ) (n x : ℕ) (agree : (y : ℕ) → y < n → (y �
 
 -- gains along links
 module _ (p l e : ℕ → ℕ) (n count sum : ℕ) (less : (y : ℕ) → y < n → p y < n → e y + count * l y ≤ e (p y) + sum) where
-  pub path-less : (k v x : ℕ) → v < n → Path p n k v x → e v + count * upSum p l k v ≤ e x + k * sum
+  pub path-less : (k v x : ℕ) → v < n → Path p n k v x → e v + count * up_sum p l k v ≤ e x + k * sum
   path-less zero v x lt a = let s : e v ≡ e x = ap e a in omega arith
   path-less (suc k) v x lt a =
       let s : e v + count * l v ≤ e (p v) + sum = less v lt a.0 in
-      let r : e (p v) + count * upSum p l k (p v) ≤ e x + k * sum = path-less k (p v) x a.0 a.1 in
-      omega (arith, mul-add count (l v) (upSum p l k (p v)), suc-mul k sum)
+      let r : e (p v) + count * up_sum p l k (p v) ≤ e x + k * sum = path-less k (p v) x a.0 a.1 in
+      omega (arith, mul-add count (l v) (up_sum p l k (p v)), suc-mul k sum)
 
   pub gain-below : ((y : ℕ) → y < n → n ≤ p y → e y ≡ 0) → (d y : ℕ) → y < n → Rooted p n d y → e y ≤ d * sum
   gain-below base zero y lt h = let s : e y ≡ 0 = base y lt h in omega arith

@@ -11,16 +11,16 @@ use Rattle.mean_cycle.specs.declared.search.Graph.{Graph}
 use Rattle.mean_cycle.specs.Nodes.{Arc, Frame, cyc, sum_to}
 use Rattle.mean_cycle.specs.Inner.{Tree, Rooted, Off, gain, parent, label}
 use Rattle.mean_cycle.proofs.Links.{decide, off-rooted, rerooted}
-use Rattle.mean_cycle.proofs.Sums.{sum-grown}
-use Rattle.mean_cycle.proofs.Frames.{arc-kept}
+use Rattle.mean_cycle.proofs.Sums.{sum_grown}
+use Rattle.mean_cycle.proofs.Frames.{arc_kept}
 
 -- x is linked to v by t, with the gain e; nothing else changed
 pub record Relinked (w w' : List ℕ) (n x v t e : ℕ) : Type 0 where
   pub frame : Frame w w'
   pub cycle : (i : ℕ) → cyc w' i ≡ cyc w i
-  pub gain-x : gain w' x ≡ e
-  pub parent-x : parent w' x ≡ v
-  pub label-x : label w' x ≡ t
+  pub gain_x : gain w' x ≡ e
+  pub parent_x : parent w' x ≡ v
+  pub label_x : label w' x ≡ t
   pub gains : (y : ℕ) → y < n → (y ≡ x → ⊥) → gain w' y ≡ gain w y
   pub parents : (y : ℕ) → y < n → (y ≡ x → ⊥) → parent w' y ≡ parent w y
   pub labels : (y : ℕ) → y < n → (y ≡ x → ⊥) → label w' y ≡ label w y
@@ -43,11 +43,11 @@ module _ (w : List ℕ) (x v t e : ℕ) where
               high = λ i l. linked-other i (λ q. omega arith) (λ q. omega arith) (λ q. omega arith);
             };
         cycle = λ i. linked-other (1536 + i) (λ q. omega arith) (λ q. omega arith) (λ q. omega arith);
-        gain-x =
+        gain_x =
             get_or-set_other (set (set w (768 + x) e) (1024 + x) v) (1280 + x) (768 + x) t 0 (λ q. omega arith) ∙ get_or-set_other (set w (768 + x) e) (1024 + x) (768 + x) v 0 (λ q. omega arith) ∙ get_or-set_same w (768 + x) e 0 (omega arith);
-        parent-x =
+        parent_x =
             get_or-set_other (set (set w (768 + x) e) (1024 + x) v) (1280 + x) (1024 + x) t 0 (λ q. omega arith) ∙ get_or-set_same (set w (768 + x) e) (1024 + x) v 0 (simp length-set (omega arith));
-        label-x = get_or-set_same (set (set w (768 + x) e) (1024 + x) v) (1280 + x) t 0 (simp length-set (omega arith));
+        label_x = get_or-set_same (set (set w (768 + x) e) (1024 + x) v) (1280 + x) t 0 (simp length-set (omega arith));
         gains = λ y l ne. linked-other (768 + y) (λ q. ne (omega arith)) (λ q. omega arith) (λ q. omega arith);
         parents = λ y l ne. linked-other (1024 + y) (λ q. omega arith) (λ q. ne (omega arith)) (λ q. omega arith);
         labels = λ y l ne. linked-other (1280 + y) (λ q. omega arith) (λ q. omega arith) (λ q. ne (omega arith));
@@ -61,7 +61,7 @@ module _ (w w' : List ℕ) (G : Graph) (best : Cycle) (v t x g : ℕ) (few : G.n
       decide
       (ℕ_discrete z x)
       (λ e.
-      let s : gain w' z ≡ g = ap (gain w') e ∙ re.gain-x in
+      let s : gain w' z ≡ g = ap (gain w') e ∙ re.gain_x in
       let q : gain w z ≡ gain w x = ap (gain w) e in
       omega arith)
       (λ ne. let s : gain w' z ≡ gain w z = re.gains z l ne in omega arith)
@@ -74,13 +74,13 @@ module _ (w w' : List ℕ) (G : Graph) (best : Cycle) (v t x g : ℕ) (few : G.n
       subst
       (λ (z : ℕ). Arc w' G (parent w' z) (label w' z) z)
       (sym e)
-      (subst₂ (λ (u s : ℕ). Arc w' G u s x) (sym re.parent-x) (sym re.label-x) (arc-kept re.frame few a)))
+      (subst₂ (λ (u s : ℕ). Arc w' G u s x) (sym re.parent_x) (sym re.label_x) (arc_kept re.frame few a)))
       (λ ne.
       subst₂
       (λ (u s : ℕ). Arc w' G u s y)
       (sym (re.parents y l ne))
       (sym (re.labels y l ne))
-      (arc-kept re.frame few (tr.arc y l (subst (λ (z : ℕ). z < G.nodes) (re.parents y l ne) pl))))
+      (arc_kept re.frame few (tr.arc y l (subst (λ (z : ℕ). z < G.nodes) (re.parents y l ne) pl))))
 
   tree-less : (y : ℕ) → y < G.nodes → parent w' y < G.nodes → gain w' y + best.count * label w' y ≤ gain w' (parent w' y) + best.sum
   tree-less y l pl =
@@ -91,9 +91,9 @@ module _ (w w' : List ℕ) (G : Graph) (best : Cycle) (v t x g : ℕ) (few : G.n
       (λ (z : ℕ). gain w' z + best.count * label w' z ≤ gain w' (parent w' z) + best.sum)
       (sym e)
       (let b : gain w v ≤ gain w' v = mono v a.leaves in
-      let q : best.count * label w' x ≡ best.count * t = ap (λ (z : ℕ). best.count * z) re.label-x in
-      let u : gain w' (parent w' x) ≡ gain w' v = ap (gain w') re.parent-x in
-      omega (arith, re.gain-x)))
+      let q : best.count * label w' x ≡ best.count * t = ap (λ (z : ℕ). best.count * z) re.label_x in
+      let u : gain w' (parent w' x) ≡ gain w' v = ap (gain w') re.parent_x in
+      omega (arith, re.gain_x)))
       (λ ne.
       let pe : parent w' y ≡ parent w y = re.parents y l ne in
       let pl' : parent w y < G.nodes = subst (λ (z : ℕ). z < G.nodes) pe pl in
@@ -107,7 +107,7 @@ module _ (w w' : List ℕ) (G : Graph) (best : Cycle) (v t x g : ℕ) (few : G.n
       decide
       (ℕ_discrete y x)
       (λ e.
-      let q : parent w' y ≡ v = ap (parent w') e ∙ re.parent-x in
+      let q : parent w' y ≡ v = ap (parent w') e ∙ re.parent_x in
       absurd (omega (arith, a.leaves)))
       (λ ne. re.gains y l ne ∙ tr.base y l (subst (λ (z : ℕ). G.nodes ≤ z) (re.parents y l ne) pl))
 
@@ -123,7 +123,7 @@ module _ (w w' : List ℕ) (G : Graph) (best : Cycle) (v t x g : ℕ) (few : G.n
       v
       d
       a.leaves
-      re.parent-x
+      re.parent_x
       (off-rooted (parent w) (parent w') G.nodes x re.parents d v a.leaves off)
       o.0
       y
@@ -134,4 +134,4 @@ module _ (w w' : List ℕ) (G : Graph) (best : Cycle) (v t x g : ℕ) (few : G.n
   tree-kept = record { arc = tree-arc; less = tree-less; base = tree-base; deep = tree-deep }
 
   pub gains-grown : sum_to (gain w) G.nodes + 1 ≤ sum_to (gain w') G.nodes
-  gains-grown = sum-grown (gain w) (gain w') G.nodes x a.enters re.gains (subst (λ (z : ℕ). gain w x < z) (sym re.gain-x) more)
+  gains-grown = sum_grown (gain w) (gain w') G.nodes x a.enters re.gains (subst (λ (z : ℕ). gain w x < z) (sym re.gain_x) more)

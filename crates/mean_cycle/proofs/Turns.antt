@@ -8,12 +8,12 @@ use native.Mathlib.Omega.{arith}
 use lib.ListN.{length, get_or, set, length-set}
 use lib.Seq.{get_or-set_same, get_or-set_other}
 use Rattle.mean_cycle.specs.Nodes.{cyc}
-use Rattle.mean_cycle.specs.Inner.{gain, parent, label, Rooted, Path, Off, upSum, Spelled, Ends, Climbed, Within, Cleared, Traceable, Traced}
+use Rattle.mean_cycle.specs.Inner.{gain, parent, label, Rooted, Path, Off, up_sum, Spelled, Ends, Climbed, Within, Cleared, Traceable, Traced}
 use Rattle.mean_cycle.proofs.Links.{decide}
 
 -- reset
-pub cleared-none : (w : List ℕ) → Cleared w w 0
-cleared-none w =
+pub cleared_none : (w : List ℕ) → Cleared w w 0
+cleared_none w =
     record {
       within = record { size = refl; below = λ i l. refl; above = λ i l. refl };
       gains = λ y l. absurd (not-suc-le-zero l);
@@ -59,8 +59,8 @@ pub record Climbing (w : List ℕ) (n v x y k : ℕ) : Type 0 where
   pub met : (j z : ℕ) → Path (parent w) n j y z → Path (parent w) n (k + j) v z
   pub off : (d : ℕ) → Off (parent w) n d y x → Off (parent w) n (k + d) v x
 
-pub climb-start : {w : List ℕ} {n v : ℕ} (x : ℕ) → v < n → Ends w n v → Climbing w n v x v 0
-climb-start {w} {n} {v} x l e =
+pub climb_start : {w : List ℕ} {n v : ℕ} (x : ℕ) → v < n → Ends w n v → Climbing w n v x v 0
+climb_start {w} {n} {v} x l e =
     record {
       here = l;
       left = e.depth;
@@ -70,14 +70,14 @@ climb-start {w} {n} {v} x l e =
       off = λ d h. subst (λ (m : ℕ). Off (parent w) n m v x) (sym (zero-add d)) h;
     }
 
-climb-left : (p : ℕ → ℕ) (n d y k : ℕ) → p y < n → Rooted p n d y → k + d < n → (e : ℕ) × (Rooted p n e (p y) × (k + 1 + e < n))
-climb-left p n zero y k l h s = absurd (not-le_of_lt l h)
-climb-left p n (suc d) y k l h s = (d, (h.1, omega arith))
+climb_left : (p : ℕ → ℕ) (n d y k : ℕ) → p y < n → Rooted p n d y → k + d < n → (e : ℕ) × (Rooted p n e (p y) × (k + 1 + e < n))
+climb_left p n zero y k l h s = absurd (not-le_of_lt l h)
+climb_left p n (suc d) y k l h s = (d, (h.1, omega arith))
 
-pub climb-more : {w : List ℕ} {n v x y k : ℕ} → Climbing w n v x y k → (y ≡ x → ⊥) → parent w y < n → Climbing w n v x (parent w y) (k + 1)
-climb-more {w} {n} {v} {x} {y} {k} c ne l =
+pub climb_more : {w : List ℕ} {n v x y k : ℕ} → Climbing w n v x y k → (y ≡ x → ⊥) → parent w y < n → Climbing w n v x (parent w y) (k + 1)
+climb_more {w} {n} {v} {x} {y} {k} c ne l =
     let s : (e : ℕ) × (Rooted (parent w) n e (parent w y) × (k + 1 + e < n)) =
-    climb-left (parent w) n c.left y k l c.rooted c.short
+    climb_left (parent w) n c.left y k l c.rooted c.short
     in
     let shift : (j : ℕ) → k + suc j ≡ k + 1 + j = λ j. omega arith in
     record {
@@ -89,15 +89,15 @@ climb-more {w} {n} {v} {x} {y} {k} c ne l =
       off = λ d h. subst (λ (m : ℕ). Off (parent w) n m v x) (shift d) (c.off (suc d) (ne, (l, h)));
     }
 
-pub climb-met : {w : List ℕ} {n v x y k : ℕ} → Climbing w n v x y k → k < n → y ≡ x → Climbed w n v x k
-climb-met {w} {n} {v} {x} {y} {k} c l e =
+pub climb_met : {w : List ℕ} {n v x y k : ℕ} → Climbing w n v x y k → k < n → y ≡ x → Climbed w n v x k
+climb_met {w} {n} {v} {x} {y} {k} c l e =
     record {
       met = λ q. subst (λ (m : ℕ). Path (parent w) n m v x) (add-zero k) (c.met 0 x e);
       missed = λ q. absurd (omega arith);
     }
 
-pub climb-missed : {w : List ℕ} {n v x y k : ℕ} → Climbing w n v x y k → (y ≡ x → ⊥) → n ≤ parent w y → Climbed w n v x n
-climb-missed {w} {n} {v} {x} {y} {k} c ne l =
+pub climb_missed : {w : List ℕ} {n v x y k : ℕ} → Climbing w n v x y k → (y ≡ x → ⊥) → n ≤ parent w y → Climbed w n v x n
+climb_missed {w} {n} {v} {x} {y} {k} c ne l =
     record { met = λ q. absurd (omega arith); missed = λ q. (k + 0, c.off 0 (ne, l)) }
 
 -- trace
@@ -106,13 +106,13 @@ pub record Tracing (w₀ w : List ℕ) (n v t k x sum y j : ℕ) : Type 0 where
   pub small : j ≤ k
   pub here : y < n
   pub path : Path (parent w₀) n j y x
-  pub total : sum + upSum (parent w₀) (label w₀) j y ≡ t + upSum (parent w₀) (label w₀) k v
+  pub total : sum + up_sum (parent w₀) (label w₀) j y ≡ t + up_sum (parent w₀) (label w₀) k v
   pub few : sum + 32 * j ≤ 32 + 32 * k
   pub spells :
       (c : ℕ → ℕ) → ((i : ℕ) → j ≤ i → i < k → c i ≡ cyc w i) → Spelled (parent w₀) (label w₀) c j y → Spelled (parent w₀) (label w₀) c k v
 
-pub trace-start : {w : List ℕ} {n v t k x : ℕ} → v < n → t ≤ 32 → Path (parent w) n k v x → Tracing w w n v t k x t v k
-trace-start {w} l few path =
+pub trace_start : {w : List ℕ} {n v t k x : ℕ} → v < n → t ≤ 32 → Path (parent w) n k v x → Tracing w w n v t k x t v k
+trace_start {w} l few path =
     record {
       within = record { size = refl; below = λ i l. refl; above = λ i l. refl };
       small = omega arith;
@@ -123,19 +123,19 @@ trace-start {w} l few path =
       spells = λ c e s. s;
     }
 
-traced-label : {w₀ w : List ℕ} {n v t k x sum y j : ℕ} → Tracing w₀ w n v t k x sum y j → n ≤ 256 → label w y ≡ label w₀ y
-traced-label {y = y} c few = c.within.below (1280 + y) (omega (arith, c.here))
+traced_label : {w₀ w : List ℕ} {n v t k x sum y j : ℕ} → Tracing w₀ w n v t k x sum y j → n ≤ 256 → label w y ≡ label w₀ y
+traced_label {y = y} c few = c.within.below (1280 + y) (omega (arith, c.here))
 
-traced-parent : {w₀ w : List ℕ} {n v t k x sum y j : ℕ} → Tracing w₀ w n v t k x sum y j → n ≤ 256 → parent w y ≡ parent w₀ y
-traced-parent {y = y} c few = c.within.below (1024 + y) (omega (arith, c.here))
+traced_parent : {w₀ w : List ℕ} {n v t k x sum y j : ℕ} → Tracing w₀ w n v t k x sum y j → n ≤ 256 → parent w y ≡ parent w₀ y
+traced_parent {y = y} c few = c.within.below (1024 + y) (omega (arith, c.here))
 
 module _ (w₀ w : List ℕ) (n v t k x sum y : ℕ) (room : 2048 ≤ length w₀) (few : n ≤ 256) (kn : k < n)
     (low : (y : ℕ) → y < n → parent w₀ y < n → label w₀ y ≤ 32) where
   trace-suc : (j : ℕ) → Tracing w₀ w n v t k x sum y (suc j)
       → Tracing w₀ (set w (1536 + j) (label w y)) n v t k x (sum + label w y) (parent w y) j
   trace-suc j c =
-      let pe : parent w y ≡ parent w₀ y = traced-parent c few in
-      let le : label w y ≡ label w₀ y = traced-label c few in
+      let pe : parent w y ≡ parent w₀ y = traced_parent c few in
+      let le : label w y ≡ label w₀ y = traced_label c few in
       let pl : parent w₀ y < n = c.path.0 in
       let lo : label w₀ y ≤ 32 = low y c.here pl in
       subst
@@ -179,8 +179,8 @@ pub record Place (w : List ℕ) (sum y j : ℕ) : Type 0 where
   pub step : j < 256
   pub small : sum + 32 * j ≤ 8192
 
-pub trace-place : {w₀ w : List ℕ} {v t k sum y j : ℕ} (h : Traceable w₀ v t k) → Tracing w₀ w h.n v t k h.x sum y j → Place w sum y j
-trace-place h c =
+pub trace_place : {w₀ w : List ℕ} {v t k sum y j : ℕ} (h : Traceable w₀ v t k) → Tracing w₀ w h.n v t k h.x sum y j → Place w sum y j
+trace_place h c =
     let few = h.few in
     let short = h.short in
     record {
@@ -190,13 +190,13 @@ trace-place h c =
       small = omega (arith, c.few);
     }
 
-pub trace-label : {w₀ w : List ℕ} {v t k sum y j : ℕ} (h : Traceable w₀ v t k) → Tracing w₀ w h.n v t k h.x sum y j → 0 < j → label w y ≤ 32
-trace-label {j = zero} h c l = absurd (not-suc-le-zero l)
-trace-label {y = y} {j = suc j} h c l = omega (arith, traced-label c h.few, h.labels y c.here c.path.0)
+pub trace_label : {w₀ w : List ℕ} {v t k sum y j : ℕ} (h : Traceable w₀ v t k) → Tracing w₀ w h.n v t k h.x sum y j → 0 < j → label w y ≤ 32
+trace_label {j = zero} h c l = absurd (not-suc-le-zero l)
+trace_label {y = y} {j = suc j} h c l = omega (arith, traced_label c h.few, h.labels y c.here c.path.0)
 
-pub trace-end : {w₀ w : List ℕ} {n v t k x sum y j : ℕ} → Tracing w₀ w n v t k x sum y j → j ≤ 0 → k < 256 → 2048 ≤ length w₀
+pub trace_end : {w₀ w : List ℕ} {n v t k x sum y j : ℕ} → Tracing w₀ w n v t k x sum y j → j ≤ 0 → k < 256 → 2048 ≤ length w₀
     → Traced w₀ (set w (1536 + k) t) v t k sum
-trace-end {w₀} {w} {n} {v} {t} {k} {x} {sum} {y} {j} c z l room =
+trace_end {w₀} {w} {n} {v} {t} {k} {x} {sum} {y} {j} c z l room =
     let zz : j ≡ 0 = omega arith in
     let d : Tracing w₀ w n v t k x sum y 0 = subst (λ (m : ℕ). Tracing w₀ w n v t k x sum y m) zz c in
     record {
@@ -215,5 +215,5 @@ trace-end {w₀} {w} {n} {v} {t} {k} {x} {sum} {y} {j} c z l room =
       total = omega (arith, d.total);
     }
 
-pub cleared-all : {w w' : List ℕ} {v n : ℕ} → Cleared w w' v → v ≡ n → Cleared w w' n
-cleared-all {w} {w'} h e = subst (λ (m : ℕ). Cleared w w' m) e h
+pub cleared_all : {w w' : List ℕ} {v n : ℕ} → Cleared w w' v → v ≡ n → Cleared w w' n
+cleared_all {w} {w'} h e = subst (λ (m : ℕ). Cleared w w' m) e h

@@ -1,10 +1,10 @@
 -- What the private functions of the search promise each other; no public contract cites this file. Assumes nothing.
 use Rattle.std.specs.Prelude.{◌≡◌, Bool, true, false, List, ℕ, zero, suc, ◌+◌, ◌*◌, ◌-◌, ◌^◌, ◌≤◌, ◌<◌, length, get_or}
 use Rattle.diagram.specs.Diagram.{next, Permits}
-use Rattle.diagram.specs.Work.{stateIn, Indexed}
+use Rattle.diagram.specs.Work.{state_in, Indexed}
 use Rattle.mean_cycle.specs.declared.Cycle.{Cycle}
 use Rattle.mean_cycle.specs.declared.search.Graph.{Graph}
-use Rattle.mean_cycle.specs.Nodes.{arcWord, Arc, sum_to, CycleOf, cyc, Frame}
+use Rattle.mean_cycle.specs.Nodes.{arc_word, Arc, sum_to, CycleOf, cyc, Frame}
 
 -- The words
 
@@ -22,14 +22,14 @@ label w v = get_or w (1280 + v) 0
 -- the diagram of the collision vector is listed whole, each state once, with a right index
 pub record Ruled (w : List ℕ) (G : Graph) : Type 0 where
   pub index : Indexed w G.nodes
-  pub apart : (i j : ℕ) → i < G.nodes → j < G.nodes → stateIn w i ≡ stateIn w j → i ≡ j
-  pub closed : (i t : ℕ) → i < G.nodes → Permits 1 G.width (stateIn w i) t
-      → (x : ℕ) × ((x < G.nodes) × (stateIn w x ≡ next G.vector (stateIn w i) t))
+  pub apart : (i j : ℕ) → i < G.nodes → j < G.nodes → state_in w i ≡ state_in w j → i ≡ j
+  pub closed : (i t : ℕ) → i < G.nodes → Permits 1 G.width (state_in w i) t
+      → (x : ℕ) × ((x < G.nodes) × (state_in w x ≡ next G.vector (state_in w i) t))
 
 -- the table of arcs is there, and every latency that a node permits leads to a node
 pub record Tabled (w : List ℕ) (G : Graph) : Type 0 where
   pub room : 9984 ≤ length w
-  pub closed : (i t : ℕ) → i < G.nodes → Permits 1 G.width (stateIn w i) t → arcWord w i t < G.nodes
+  pub closed : (i t : ℕ) → i < G.nodes → Permits 1 G.width (state_in w i) t → arc_word w i t < G.nodes
 
 -- what tells where a latency leads: the table of arcs, or the collision vector
 abbrev pub Source : Bool → List ℕ → Graph → Type 0
@@ -42,7 +42,7 @@ pub record Listing (w : List ℕ) (G : Graph) : Type 0 where
   pub room : 2048 ≤ length w
   pub some : 1 ≤ G.nodes
   pub narrow : G.width ≤ 31
-  pub below : (i : ℕ) → i < G.nodes → stateIn w i < 2 ^ G.width
+  pub below : (i : ℕ) → i < G.nodes → state_in w i < 2 ^ G.width
   pub source : Source G.table w G
 
 -- a test that tells whether P
@@ -73,9 +73,9 @@ up p zero v = v
 up p (suc i) v = up p i (p v)
 
 -- the sum of the labels of the k links from v up
-abbrev pub upSum : (ℕ → ℕ) → (ℕ → ℕ) → ℕ → ℕ → ℕ
-upSum p l zero v = 0
-upSum p l (suc k) v = l v + upSum p l k (p v)
+abbrev pub up_sum : (ℕ → ℕ) → (ℕ → ℕ) → ℕ → ℕ → ℕ
+up_sum p l zero v = 0
+up_sum p l (suc k) v = l v + up_sum p l k (p v)
 
 -- c 0 .. c (k - 1) are the labels of the k links from v up, the last first
 abbrev pub Spelled : (ℕ → ℕ) → (ℕ → ℕ) → (ℕ → ℕ) → ℕ → ℕ → Type 0
@@ -144,7 +144,7 @@ pub record Traced (w w' : List ℕ) (v t k r : ℕ) : Type 0 where
   pub within : Within 1536 1792 w w'
   pub last : cyc w' k ≡ t
   pub spelled : Spelled (parent w) (label w) (cyc w') k v
-  pub total : r ≡ t + upSum (parent w) (label w) k v
+  pub total : r ≡ t + up_sum (parent w) (label w) k v
 
 pub record Stepped (w w' : List ℕ) (G : Graph) (best : Cycle) (v t : ℕ) (found : Bool) (moved : ℕ) (best' : Cycle) : Type 0 where
   pub frame : Frame w w'

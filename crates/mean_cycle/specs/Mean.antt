@@ -33,13 +33,13 @@ pub record LeastMean (g cv : ℕ) (after : List ℕ) (c : Cycle) : Type 0 where
 unfoldable pub searchable : ℕ → ℕ → ℕ → Bool
 searchable room g cv = leb 2048 room && (ltb cv (2 ^ 31) && leb (length (states 256 g (width cv) cv)) 256)
 
-abbrev pub isFound : Answer → Bool
-isFound No = false
-isFound (Found c) = true
+abbrev pub is_found : Answer → Bool
+is_found No = false
+is_found (Found c) = true
 
 -- The first 1792 words afterwards are free but for what is said of them here.
 pub record Searched (g cv : ℕ) (before after : List ℕ) (r : Answer) : Type 0 where
-  pub answer : isFound r ≡ searchable (length before) g cv
+  pub answer : is_found r ≡ searchable (length before) g cv
   pub least : (c : Cycle) → r ≡ Found c → LeastMean g cv after c
   pub size : length after ≡ length before
   pub beyond : (i : ℕ) → 1792 ≤ i → get_or after i 0 ≡ get_or before i 0

@@ -3,26 +3,26 @@
 use Rattle.std.specs.Prelude.{◌≡◌, Bool, true, false, List, [], ◌∷◌, ℕ, zero, suc, ◌+◌, ◌*◌, ◌≤◌, ◌<◌, length, get_or}
 use Rattle.collision.specs.Pipeline.{total}
 use Rattle.diagram.specs.Diagram.{next, Permits}
-use Rattle.diagram.specs.Work.{stateIn}
+use Rattle.diagram.specs.Work.{state_in}
 use Rattle.mean_cycle.specs.declared.Cycle.{Cycle}
 use Rattle.mean_cycle.specs.declared.search.Graph.{Graph}
 
 -- Arcs
 
 -- the word of the table of arcs for the latency t of node v
-abbrev pub arcWord : List ℕ → ℕ → ℕ → ℕ
-arcWord w v t = get_or w (1791 + v * 32 + t) 0
+abbrev pub arc_word : List ℕ → ℕ → ℕ → ℕ
+arc_word w v t = get_or w (1791 + v * 32 + t) 0
 
 -- t leads from v to x: as the table of arcs says, or, where the words are the states of a collision vector, to the state that comes next
 abbrev pub Leads : Bool → List ℕ → Graph → ℕ → ℕ → ℕ → Type 0
-Leads true w G v t x = arcWord w v t ≡ x
-Leads false w G v t x = stateIn w x ≡ next G.vector (stateIn w v) t
+Leads true w G v t x = arc_word w v t ≡ x
+Leads false w G v t x = state_in w x ≡ next G.vector (state_in w v) t
 
 -- node v permits the latency t, by its word, and t leads to node x
 pub record Arc (w : List ℕ) (G : Graph) (v t x : ℕ) : Type 0 where
   pub leaves : v < G.nodes
   pub enters : x < G.nodes
-  pub permits : Permits 1 G.width (stateIn w v) t
+  pub permits : Permits 1 G.width (state_in w v) t
   pub high : t ≤ 32
   pub leads : Leads G.table w G v t x
 

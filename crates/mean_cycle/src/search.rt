@@ -4,9 +4,9 @@
 // there: the node to which the latency t leads from v at 1792 + v * 32 + (t - 1). Then word v has no other sense than which latencies v permits.
 
 ghost use Rattle.std.specs.Prelude.{◌≡◌, false, ◌+◌, ◌≤◌, ◌<◌, ◌^◌, length, set};
-ghost use Rattle.words.specs.Bits.{zeroFrom};
+ghost use Rattle.words.specs.Bits.{zero_from};
 ghost use Rattle.diagram.specs.Diagram.{Permits};
-ghost use Rattle.diagram.specs.Work.{stateIn};
+ghost use Rattle.diagram.specs.Work.{state_in};
 ghost use Rattle.mean_cycle.specs.Nodes.{Arc, Least};
 ghost use Rattle.mean_cycle.specs.Inner.{Listing, Tree, Ready, Ends, Climbed, Cleared, Traceable, Traced, Stepped, Visited, Swept, Rounded};
 
@@ -34,7 +34,7 @@ pub struct Outcome {
 // The first latency after t whose column of a state is 0.
 pub fn next_latency(state: u32, t: usize) -> usize
     requires { t ≤ 64 }
-    ensures { result ≡ zeroFrom state t + 1 }
+    ensures { result ≡ zero_from state t + 1 }
 {
     words::zero_from(state, t as u32) as usize + 1
 }
@@ -42,7 +42,7 @@ pub fn next_latency(state: u32, t: usize) -> usize
 // The node to which a latency t that node v permits leads.
 pub fn target(work: &[u32], graph: Graph, v: usize, t: usize) -> usize
     requires listing { Listing work.now graph }
-    requires v_lt_nodes { (v < graph.nodes) × Permits 1 graph.width (stateIn work.now v) t }
+    requires v_lt_nodes { (v < graph.nodes) × Permits 1 graph.width (state_in work.now v) t }
     ensures { Arc work.now graph v t result }
 {
     if graph.table {
@@ -134,7 +134,7 @@ fn still(best: Cycle) -> Outcome
 fn step(work: &mut [u32], graph: Graph, best: Cycle, v: usize, t: usize) -> Outcome
     requires ready { Ready work.old graph best }
     requires tree { Tree work.old graph best }
-    requires v_lt_nodes { (v < graph.nodes) × Permits 1 graph.width (stateIn work.old v) t }
+    requires v_lt_nodes { (v < graph.nodes) × Permits 1 graph.width (state_in work.old v) t }
     ensures { Stepped work.old work.new graph best v t result.found result.moved result.best }
 {
     let nodes = graph.nodes;

@@ -10,57 +10,57 @@ use lib.Dec.{eqb}
 use lib.ListN.{get_or}
 use borrow.Author.Tests.{eqb-true, eq-eqb}
 use Rattle.words.specs.Bits.{is_set}
-use Rattle.words.specs.Below.{someBelow, countBelow, maxBelow, leastFrom}
-use Rattle.words.proofs.Tests.{nowhere, and_left, and_right, and-true, not-passed}
-use Rattle.words.proofs.BelowLaws.{some-intro, some-elim, some_same, count_same, count_none, count-more, count-start, max-same, max-more, max-start, least-is, word_set}
+use Rattle.words.specs.Below.{some_below, count_below, max_below, least_from}
+use Rattle.words.proofs.Tests.{nowhere, and_left, and_right, and_true, not_passed}
+use Rattle.words.proofs.BelowLaws.{some_intro, some_elim, some_same, count_same, count_none, count_more, count_start, max_same, max_more, max_start, least_is, word_set}
 use Rattle.unit.specs.declared.FunctionUnit.{FunctionUnit}
 use Rattle.unit.specs.Table.{Table}
-use Rattle.unit.specs.Unit.{marked, columnsOf}
-use Rattle.unit.proofs.SoundLaws.{marked-place}
-use Rattle.collision.specs.Vector.{collides, rowWord, vectorWord, marksOf, suits, constant_of}
-use Rattle.collision.proofs.RowLaws.{column-mark}
-use Rattle.measures.specs.Inner.{marksAt, mostMarks, freeOf, leastFree}
+use Rattle.unit.specs.Unit.{marked, columns_of}
+use Rattle.unit.proofs.SoundLaws.{marked_place}
+use Rattle.collision.specs.Vector.{collides, row_word, vector_word, marks_of, suits, constant_of}
+use Rattle.collision.proofs.RowLaws.{column_mark_lem}
+use Rattle.measures.specs.Inner.{marks_at, most_marks, free_of, least_free}
 
 -- Marks in a segment
 
 -- the marks at a bit of the first c columns
-abbrev pub marksBefore : List ℕ → ℕ → ℕ → ℕ
-marksBefore columns bit c = countBelow c (λ k. is_set (get_or columns k 0) bit)
+abbrev pub marks_before : List ℕ → ℕ → ℕ → ℕ
+marks_before columns bit c = count_below c (λ k. is_set (get_or columns k 0) bit)
 
 module _ (columns : List ℕ) (bit c : ℕ) where
-  one_more : (b : Bool) → is_set (get_or columns c 0) bit ≡ b → marksBefore columns bit (c + 1) ≡ cond b 1 0 + marksBefore columns bit c
-  one_more b e = count-more c (λ k. is_set (get_or columns k 0) bit) ∙ ap (λ (t : Bool). cond t 1 0 + marksBefore columns bit c) e
+  one_more : (b : Bool) → is_set (get_or columns c 0) bit ≡ b → marks_before columns bit (c + 1) ≡ cond b 1 0 + marks_before columns bit c
+  one_more b e = count_more c (λ k. is_set (get_or columns k 0) bit) ∙ ap (λ (t : Bool). cond t 1 0 + marks_before columns bit c) e
 
-  pub marks-one : is_set (get_or columns c 0) bit ≡ true → marksBefore columns bit c + 1 ≡ marksBefore columns bit (c + 1)
+  pub marks-one : is_set (get_or columns c 0) bit ≡ true → marks_before columns bit c + 1 ≡ marks_before columns bit (c + 1)
   marks-one e = omega (arith, one_more true e)
 
-  pub marks-zero : is_set (get_or columns c 0) bit ≡ false → marksBefore columns bit c ≡ marksBefore columns bit (c + 1)
+  pub marks-zero : is_set (get_or columns c 0) bit ≡ false → marks_before columns bit c ≡ marks_before columns bit (c + 1)
   marks-zero e = omega (arith, one_more false e)
 
 -- Marks: the most of the first b bits is kept, or the next is more
 
-pub most-kept : (columns : List ℕ) (b : ℕ) → marksAt columns b ≤ maxBelow b (marksAt columns) → maxBelow b (marksAt columns) ≡ maxBelow (b + 1) (marksAt columns)
-most-kept columns b h = omega (arith, max-more b (marksAt columns))
+pub most_kept : (columns : List ℕ) (b : ℕ) → marks_at columns b ≤ max_below b (marks_at columns) → max_below b (marks_at columns) ≡ max_below (b + 1) (marks_at columns)
+most_kept columns b h = omega (arith, max_more b (marks_at columns))
 
-pub most-new : (columns : List ℕ) (b : ℕ) → maxBelow b (marksAt columns) < marksAt columns b → marksAt columns b ≡ maxBelow (b + 1) (marksAt columns)
-most-new columns b h = omega (arith, max-more b (marksAt columns))
+pub most_new : (columns : List ℕ) (b : ℕ) → max_below b (marks_at columns) < marks_at columns b → marks_at columns b ≡ max_below (b + 1) (marks_at columns)
+most_new columns b h = omega (arith, max_more b (marks_at columns))
 
 -- segment s + 1 of the table is bit s of the columns
-marks-segment : (u : FunctionUnit) (q s : ℕ) → s < 16 → marksAt (columnsOf u q) s ≡ countBelow 33 (λ c. marked u q (s + 1) c)
-unfolding marksAt
-marks-segment u q s h =
-    let first : marked u q (s + 1) 0 ≡ false = not-passed (marked u q (s + 1) 0) (λ e. omega (arith, (marked-place u q (s + 1) 0 e).column1)) in
-    count_same 32 (λ c. is_set (get_or (columnsOf u q) c 0) s) (λ c. marked u q (s + 1) (c + 1)) (λ c l. column-mark u q s c h l)
-    ∙ sym (count-start 32 (λ c. marked u q (s + 1) c) ∙ ap (λ b. cond b 1 0 + countBelow 32 (λ c. marked u q (s + 1) (c + 1))) first ∙ zero-add _)
+marks_segment : (u : FunctionUnit) (q s : ℕ) → s < 16 → marks_at (columns_of u q) s ≡ count_below 33 (λ c. marked u q (s + 1) c)
+unfolding marks_at
+marks_segment u q s h =
+    let first : marked u q (s + 1) 0 ≡ false = not_passed (marked u q (s + 1) 0) (λ e. omega (arith, (marked_place u q (s + 1) 0 e).column1)) in
+    count_same 32 (λ c. is_set (get_or (columns_of u q) c 0) s) (λ c. marked u q (s + 1) (c + 1)) (λ c l. column_mark_lem u q s c h l)
+    ∙ sym (count_start 32 (λ c. marked u q (s + 1) c) ∙ ap (λ b. cond b 1 0 + count_below 32 (λ c. marked u q (s + 1) (c + 1))) first ∙ zero-add _)
 
-pub most-marks-of : (u : FunctionUnit) (q : ℕ) → mostMarks (columnsOf u q) ≡ marksOf (marked u) q
-unfolding mostMarks marksOf
-most-marks-of u q =
-    let none : countBelow 33 (λ c. marked u q 0 c) ≡ 0 =
-    count_none 33 (λ c. marked u q 0 c) (λ c h. not-passed (marked u q 0 c) (λ e. omega (arith, (marked-place u q 0 c e).segment1))) in
-    max-same 16 (marksAt (columnsOf u q)) (λ s. countBelow 33 (λ c. marked u q (s + 1) c)) (λ s h. marks-segment u q s h)
-    ∙ sym (max-start 16 (λ s. countBelow 33 (λ c. marked u q s c))
-    ∙ ap (λ n. max n (maxBelow 16 (λ s. countBelow 33 (λ c. marked u q (s + 1) c)))) none ∙ omega arith)
+pub most_marks_of : (u : FunctionUnit) (q : ℕ) → most_marks (columns_of u q) ≡ marks_of (marked u) q
+unfolding most_marks marks_of
+most_marks_of u q =
+    let none : count_below 33 (λ c. marked u q 0 c) ≡ 0 =
+    count_none 33 (λ c. marked u q 0 c) (λ c h. not_passed (marked u q 0 c) (λ e. omega (arith, (marked_place u q 0 c e).segment1))) in
+    max_same 16 (marks_at (columns_of u q)) (λ s. count_below 33 (λ c. marked u q (s + 1) c)) (λ s h. marks_segment u q s h)
+    ∙ sym (max_start 16 (λ s. count_below 33 (λ c. marked u q s c))
+    ∙ ap (λ n. max n (max_below 16 (λ s. count_below 33 (λ c. marked u q (s + 1) c)))) none ∙ omega arith)
 
 -- Constant: the multiples of m
 
@@ -70,8 +70,8 @@ pub record FreeBefore (vector m t : ℕ) : Type 0 where
   pub multiple : t % m ≡ 0
   pub free : (k : ℕ) → k + 1 < t → (k + 1) % m ≡ 0 → is_set vector k ≡ false
 
-pub free-start : (vector m : ℕ) → 1 ≤ m → FreeBefore vector m m
-free-start vector m h = record {
+pub free_start : (vector m : ℕ) → 1 ≤ m → FreeBefore vector m m
+free_start vector m h = record {
   least = h;
   multiple = mod_self m;
   free = λ k l e. absurd (omega (arith, mod-eq_of_lt l));
@@ -98,19 +98,19 @@ free_more vector m t h f e = record {
     go k l d (no o) (yes p) = absurd (between k l p d)
     go k l d (no o) (no p) = let s : t - 1 ≡ k = omega arith in rw s at e
 
-pub free-found : (vector m t : ℕ) → FreeBefore vector m t → t < 33 → is_set vector (t - 1) ≡ true → freeOf vector m ≡ false
-unfolding freeOf
-free-found vector m t f l e =
+pub free_found : (vector m t : ℕ) → FreeBefore vector m t → t < 33 → is_set vector (t - 1) ≡ true → free_of vector m ≡ false
+unfolding free_of
+free_found vector m t f l e =
     let s : t - 1 + 1 ≡ t = omega (arith, f.least) in
-    ap not (some-intro 32 (λ k. eqb ((k + 1) % m) 0 && is_set vector k) (t - 1) (omega (arith, f.least))
-    (and-true (eq-eqb ((t - 1 + 1) % m) 0 (ap (λ n. n % m) s ∙ f.multiple)) e))
+    ap not (some_intro 32 (λ k. eqb ((k + 1) % m) 0 && is_set vector k) (t - 1) (omega (arith, f.least))
+    (and_true (eq-eqb ((t - 1 + 1) % m) 0 (ap (λ n. n % m) s ∙ f.multiple)) e))
 
-pub free-end : (vector m t : ℕ) → FreeBefore vector m t → 33 ≤ t → freeOf vector m ≡ true
-unfolding freeOf
-free-end vector m t f l =
-    ap not (not-passed (someBelow 32 (λ k. eqb ((k + 1) % m) 0 && is_set vector k))
+pub free_end : (vector m t : ℕ) → FreeBefore vector m t → 33 ≤ t → free_of vector m ≡ true
+unfolding free_of
+free_end vector m t f l =
+    ap not (not_passed (some_below 32 (λ k. eqb ((k + 1) % m) 0 && is_set vector k))
     (λ e.
-    let p = some-elim 32 (λ k. eqb ((k + 1) % m) 0 && is_set vector k) e in
+    let p = some_elim 32 (λ k. eqb ((k + 1) % m) 0 && is_set vector k) e in
     let k = p.at in
     nowhere (sym (f.free k (omega (arith, p.inside)) (eqb-true ((k + 1) % m) 0 (and_left (eqb ((k + 1) % m) 0) _ p.passed))) ∙ and_right (eqb ((k + 1) % m) 0) _ p.passed)))
 
@@ -118,22 +118,22 @@ free-end vector m t f l =
 
 -- the latencies before m were tried in vain
 abbrev pub Tried : ℕ → ℕ → Type 0
-Tried vector m = (j : ℕ) → j < m → 1 ≤ j → freeOf vector j ≡ false
+Tried vector m = (j : ℕ) → j < m → 1 ≤ j → free_of vector j ≡ false
 
-pub least-found : (vector m : ℕ) → 1 ≤ m → m < 33 → Tried vector m → freeOf vector m ≡ true → m ≡ leastFree vector
-unfolding leastFree
-least-found vector m h l s e = sym (least-is 32 1 (freeOf vector) m h (omega arith) (λ j a b. s j b a) (λ a. e))
+pub least_found : (vector m : ℕ) → 1 ≤ m → m < 33 → Tried vector m → free_of vector m ≡ true → m ≡ least_free vector
+unfolding least_free
+least_found vector m h l s e = sym (least_is 32 1 (free_of vector) m h (omega arith) (λ j a b. s j b a) (λ a. e))
 
-pub least-end : (vector : ℕ) → Tried vector 33 → 33 ≡ leastFree vector
-unfolding leastFree
-least-end vector s = sym (least-is 32 1 (freeOf vector) 33 (omega arith) (omega arith) (λ j a b. s j b a) (λ a. absurd (omega arith)))
+pub least_end : (vector : ℕ) → Tried vector 33 → 33 ≡ least_free vector
+unfolding least_free
+least_end vector s = sym (least_is 32 1 (free_of vector) 33 (omega arith) (omega arith) (λ j a b. s j b a) (λ a. absurd (omega arith)))
 
-free-suits : (T : Table) (q m : ℕ) → freeOf (vectorWord T q) m ≡ suits T q m
-unfolding freeOf suits rowWord
-free-suits T q m =
-    ap not (some_same 32 (λ k. eqb ((k + 1) % m) 0 && is_set (vectorWord T q) k) (λ k. eqb ((k + 1) % m) 0 && collides T q q (k + 1))
+free_suits : (T : Table) (q m : ℕ) → free_of (vector_word T q) m ≡ suits T q m
+unfolding free_of suits row_word
+free_suits T q m =
+    ap not (some_same 32 (λ k. eqb ((k + 1) % m) 0 && is_set (vector_word T q) k) (λ k. eqb ((k + 1) % m) 0 && collides T q q (k + 1))
     (λ k h. ap (λ b. eqb ((k + 1) % m) 0 && b) (word_set 32 (λ k. collides T q q (k + 1)) k h)))
 
-pub least-constant : (T : Table) (q : ℕ) → leastFree (vectorWord T q) ≡ constant_of T q
-unfolding leastFree constant_of
-least-constant T q = ap (leastFrom 32 1) (λ i m. free-suits T q m i)
+pub least_constant : (T : Table) (q : ℕ) → least_free (vector_word T q) ≡ constant_of T q
+unfolding least_free constant_of
+least_constant T q = ap (least_from 32 1) (λ i m. free_suits T q m i)

@@ -2,8 +2,8 @@
 // `requires`; the crate assumes nothing of its own.
 ghost use Rattle.std.specs.Prelude.{◌≡◌, ◌≤◌};
 ghost use Rattle.words.specs.Bits.{is_set};
-ghost use Rattle.collision.specs.Answers.{marksAnswer, boundAnswer, upperAnswer, constantAnswer};
-ghost use Rattle.measures.specs.Inner.{marksAt, mostMarks, freeOf, leastFree};
+ghost use Rattle.collision.specs.Answers.{marks_answer, bound_answer, upper_answer, constant_answer};
+ghost use Rattle.measures.specs.Inner.{marks_at, most_marks, free_of, least_free};
 
 use collision::Number;
 use unit::{Answer, FunctionUnit, Tag};
@@ -17,7 +17,7 @@ fn has_mark(column: u16, bit: u32) -> bool
 
 // How many marks a segment has, given as its bit in the columns.
 fn marks_at(columns: [u16; 32], bit: u32) -> u32
-    ensures { result ≡ marksAt columns bit }
+    ensures { result ≡ marks_at columns bit }
 {
     let mut marks: u32 = 0;
     let mut column: usize = 0;
@@ -32,7 +32,7 @@ fn marks_at(columns: [u16; 32], bit: u32) -> u32
 
 // The largest number of marks at one bit of the columns.
 fn most_marks(columns: [u16; 32]) -> u32
-    ensures { result ≡ mostMarks columns }
+    ensures { result ≡ most_marks columns }
 {
     let mut most: u32 = 0;
     let mut bit: u32 = 0;
@@ -48,7 +48,7 @@ fn most_marks(columns: [u16; 32]) -> u32
 
 // The largest number of marks that the function has in one segment.
 pub fn marks(u: FunctionUnit, tag: Tag) -> Number
-    ensures { result ≡ marksAnswer u tag.0 }
+    ensures { result ≡ marks_answer u tag.0 }
 {
     let answer = unit::check_tag(u, tag);
     match answer {
@@ -62,7 +62,7 @@ pub fn marks(u: FunctionUnit, tag: Tag) -> Number
 
 // The size of the largest set of whole numbers in which every two differ by a forbidden latency.
 pub fn bound(u: FunctionUnit, tag: Tag) -> Number
-    ensures { result ≡ boundAnswer u tag.0 }
+    ensures { result ≡ bound_answer u tag.0 }
 {
     let asked = collision::vector(u, tag);
     match asked {
@@ -73,7 +73,7 @@ pub fn bound(u: FunctionUnit, tag: Tag) -> Number
 
 // The number of 1s in the collision vector, plus 1.
 pub fn upper(u: FunctionUnit, tag: Tag) -> Number
-    ensures { result ≡ upperAnswer u tag.0 }
+    ensures { result ≡ upper_answer u tag.0 }
 {
     let asked = collision::vector(u, tag);
     match asked {
@@ -85,7 +85,7 @@ pub fn upper(u: FunctionUnit, tag: Tag) -> Number
 // Whether no column of the vector that is a multiple of m is 1.
 fn free_of_multiples(vector: u32, m: u32) -> bool
     requires { (1 ≤ m) × (m ≤ 32) }
-    ensures { result ≡ freeOf vector m }
+    ensures { result ≡ free_of vector m }
 {
     let mut multiple: u32 = m;
     while multiple < 33 {
@@ -99,7 +99,7 @@ fn free_of_multiples(vector: u32, m: u32) -> bool
 
 // The least m of which no multiple is 1 in the vector.
 fn least_free(vector: u32) -> u32
-    ensures { result ≡ leastFree vector }
+    ensures { result ≡ least_free vector }
 {
     let mut m: u32 = 1;
     while m < 33 {
@@ -113,7 +113,7 @@ fn least_free(vector: u32) -> u32
 
 // The least latency of which no multiple is forbidden.
 pub fn constant(u: FunctionUnit, tag: Tag) -> Number
-    ensures { result ≡ constantAnswer u tag.0 }
+    ensures { result ≡ constant_answer u tag.0 }
 {
     let asked = collision::vector(u, tag);
     match asked {

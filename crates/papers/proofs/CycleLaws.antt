@@ -6,26 +6,26 @@ use Prim.Native.Nat.{ℕ, ◌≤◌}
 use lib.Dec.{leb, eqb}
 use lib.ListN.{length, get_or}
 use borrow.Author.Tests.{eqb-true, leb-true}
-use Rattle.words.specs.Below.{someBelow, leastFrom}
-use Rattle.words.proofs.Tests.{and_left, and_right, true-T}
-use Rattle.words.proofs.BelowLaws.{some-elim}
+use Rattle.words.specs.Below.{some_below, least_from}
+use Rattle.words.proofs.Tests.{and_left, and_right, true_T}
+use Rattle.words.proofs.BelowLaws.{some_elim}
 use Rattle.unit.specs.Unit.{inside}
 use Rattle.diagram.specs.Diagram.{next, longest, Walk, stay, step, Reachable}
 use Rattle.diagram.specs.States.{Each, arc}
-use Rattle.diagram.specs.Cycles.{statesAlong, CycleFrom}
-use Rattle.diagram.proofs.Listing.{arc-permits}
+use Rattle.diagram.specs.Cycles.{states_along, CycleFrom}
+use Rattle.diagram.proofs.Listing.{arc_permits}
 use Rattle.graphs.specs.Rotation.{rotate}
-use Rattle.cycles.specs.Rotation.{leads, firstRotation}
+use Rattle.cycles.specs.Rotation.{leads, first_rotation}
 use Rattle.papers.proofs.TestLaws.{apart, apart_distinct}
 
 -- no rotation comes before the cycle as it stands
-unfoldable pub isFirst : List ℕ → Bool
-unfolding firstRotation leads leastFrom someBelow
-isFirst l = eqb (firstRotation l) 0
+unfoldable pub is_first : List ℕ → Bool
+unfolding first_rotation leads least_from some_below
+is_first l = eqb (first_rotation l) 0
 
-pub first-tested : (l : List ℕ) → isFirst l ≡ true → rotate l (firstRotation l) ≡ l
-unfolding isFirst
-first-tested l h = ap (rotate l) (eqb-true (firstRotation l) 0 h) ∙ append-nil l
+pub first_tested : (l : List ℕ) → is_first l ≡ true → rotate l (first_rotation l) ≡ l
+unfolding is_first
+first_tested l h = ap (rotate l) (eqb-true (first_rotation l) 0 h) ∙ append-nil l
 
 module _ (g n cv : ℕ) where
   -- the latencies lead from s to e, each by an arc
@@ -39,19 +39,19 @@ module _ (g n cv : ℕ) where
       let here = and_left (inside t (longest g n) && arc g n s t) _ h in
       let small = and_left (inside t (longest g n)) _ here in
       step
-      (arc-permits g n s t (leb-true 1 t (and_left (leb 1 t) _ small))
+      (arc_permits g n s t (leb-true 1 t (and_left (leb 1 t) _ small))
       (leb-true t (longest g n) (and_right (leb 1 t) _ small))
-      (true-T (and_right (inside t (longest g n)) _ here)))
+      (true_T (and_right (inside t (longest g n)) _ here)))
       (walk-tested (next cv s t) l e (and_right (inside t (longest g n) && arc g n s t) _ h))
 
   -- they lead from s back to it, and no state occurs twice on the way
   abbrev returnsTo : ℕ → List ℕ → Bool
-  returnsTo s l = leadsTo s l s && apart (statesAlong cv s l)
+  returnsTo s l = leadsTo s l s && apart (states_along cv s l)
 
   -- one or more latencies do so from some state of the list m
   unfoldable pub isCycle : List ℕ → List ℕ → Bool
-  unfolding someBelow
-  isCycle m l = leb 1 (length l) && someBelow (length m) (λ i. returnsTo (get_or m i 0) l)
+  unfolding some_below
+  isCycle m l = leb 1 (length l) && some_below (length m) (λ i. returnsTo (get_or m i 0) l)
 
   pub cycle-some : (m l : List ℕ) → isCycle m l ≡ true → 1 ≤ length l
   unfolding isCycle
@@ -60,11 +60,11 @@ module _ (g n cv : ℕ) where
   pub cycle-tested : (m : List ℕ) → Each (Reachable g n cv) m → (l : List ℕ) → isCycle m l ≡ true → CycleFrom g n cv l
   unfolding isCycle
   cycle-tested m reached l h =
-      let from = some-elim (length m) (λ i. returnsTo (get_or m i 0) l) (and_right (leb 1 (length l)) _ h) in
+      let from = some_elim (length m) (λ i. returnsTo (get_or m i 0) l) (and_right (leb 1 (length l)) _ h) in
       let s = get_or m from.at 0 in
       record {
         state = s;
         reached = reached from.at from.inside;
         closed = walk-tested s l s (and_left (leadsTo s l s) _ from.passed);
-        apart = apart_distinct (statesAlong cv s l) (and_right (leadsTo s l s) _ from.passed);
+        apart = apart_distinct (states_along cv s l) (and_right (leadsTo s l s) _ from.passed);
       }

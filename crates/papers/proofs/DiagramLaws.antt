@@ -9,33 +9,33 @@ use lib.Dec.{leb}
 use lib.ListN.{length}
 use borrow.Author.Tests.{leb-true, not-true, not-false}
 use Rattle.words.specs.Bits.{is_set}
-use Rattle.words.specs.Below.{someBelow}
-use Rattle.words.proofs.Tests.{nowhere, and_left, and_right, and-true, not-passed}
-use Rattle.words.proofs.BelowLaws.{some-intro}
+use Rattle.words.specs.Below.{some_below}
+use Rattle.words.proofs.Tests.{nowhere, and_left, and_right, and_true, not_passed}
+use Rattle.words.proofs.BelowLaws.{some_intro}
 use Rattle.unit.specs.Table.{Table}
 use Rattle.collision.specs.Pipeline.{Forbidden, total}
-use Rattle.collision.specs.Vector.{vectorWord}
-use Rattle.measures.specs.Inner.{leastFree}
+use Rattle.collision.specs.Vector.{vector_word}
+use Rattle.measures.specs.Inner.{least_free}
 use Rattle.collision.specs.Meaning.{Bounded, IsLargest, IsConstant}
-use Rattle.measures.proofs.NumberLaws.{least-constant}
-use Rattle.collision.proofs.VectorLaws.{vector-bit, largest-span, largest-means, constant-means}
+use Rattle.measures.proofs.NumberLaws.{least_constant}
+use Rattle.collision.proofs.VectorLaws.{vector-bit, largest_span, largest-means, constant-means}
 use Rattle.diagram.specs.Diagram.{width, Reachable}
 use Rattle.diagram.specs.States.{Listed, Each, Distinct, has, states}
 use Rattle.diagram.specs.Cycles.{CycleFrom}
 use Rattle.diagram.proofs.Listing.{states-distinct, states-reached, states-complete}
-use Rattle.cycles.specs.Greedy.{greedyCycle, greedyOf}
+use Rattle.cycles.specs.Greedy.{greedy_cycle, greedy_of}
 use Rattle.mean_cycle.specs.Mean.{Floor}
 use Rattle.planner.specs.Plans.{Best}
 use Rattle.planner.proofs.BestLaws.{best_of}
 use Rattle.papers.specs.Rows.{HasStates, BestIs}
-use Rattle.papers.proofs.TestLaws.{all, all-has}
-use Rattle.papers.proofs.PotentialLaws.{Potential, potential-floor, isPotential, potential-tested, height}
-use Rattle.papers.proofs.CycleLaws.{isFirst, first-tested, isCycle, cycle-some, cycle-tested}
+use Rattle.papers.proofs.TestLaws.{all, all_has}
+use Rattle.papers.proofs.PotentialLaws.{Potential, potential_floor, isPotential, potential-tested, height}
+use Rattle.papers.proofs.CycleLaws.{is_first, first_tested, isCycle, cycle-some, cycle-tested}
 
 -- the collision vector of q is cv, of n columns, and its diagram has the states m
 pub record Computed (T : Table) (q cv n : ℕ) (m : List ℕ) : Type 0 where
   pub bounded : Bounded T
-  pub vector : vectorWord T q ≡ cv
+  pub vector : vector_word T q ≡ cv
   pub wide : width cv ≡ n
   pub listed : states 256 1 n cv ≡ m
   pub few : leb (length m) 256 ≡ true
@@ -44,38 +44,38 @@ pub record Computed (T : Table) (q cv n : ℕ) (m : List ℕ) : Type 0 where
 
 -- a column of the vector is 1 and not among the latencies
 abbrev pub misses : ℕ → ℕ → List ℕ → Bool
-misses n cv latencies = someBelow n (λ k. is_set cv k && not (has (k + 1) latencies))
+misses n cv latencies = some_below n (λ k. is_set cv k && not (has (k + 1) latencies))
 
 -- the latencies are the columns of the vector that are 1
-unfoldable pub areForbidden : ℕ → ℕ → List ℕ → Bool
-unfolding someBelow
-areForbidden n cv latencies = all (λ t. is_set cv (t - 1)) latencies && not (misses n cv latencies)
+unfoldable pub are_forbidden : ℕ → ℕ → List ℕ → Bool
+unfolding some_below
+are_forbidden n cv latencies = all (λ t. is_set cv (t - 1)) latencies && not (misses n cv latencies)
 
 -- the cycle is one of the diagram with the states m, in its first rotation, and there are heights that are a potential for its average
 pub record BestTested (n cv : ℕ) (m cycle : List ℕ) (sum : ℕ) : Type 0 where
   pub heights : List (ℕ × ℕ)
   pub closed : isCycle 1 n cv m cycle ≡ true
   pub potential : isPotential 1 n cv (total cycle) (length cycle) (height heights) m ≡ true
-  pub rotation : isFirst cycle ≡ true
+  pub rotation : is_first cycle ≡ true
   pub sums : total cycle ≡ sum
 
 -- What is computed holds of the function
 
 module _ {T : Table} {q cv n : ℕ} {m : List ℕ} (d : Computed T q cv n m) where
   -- what holds of cv and n holds of the vector and its width
-  at-vector : (P : ℕ → ℕ → Type 0) → P n cv → P (width (vectorWord T q)) (vectorWord T q)
+  at-vector : (P : ℕ → ℕ → Type 0) → P n cv → P (width (vector_word T q)) (vector_word T q)
   at-vector P h = subst (λ (w : ℕ). P (width w) w) (sym d.vector) (subst (λ (k : ℕ). P k cv) (sym d.wide) h)
 
   -- Vector and forbidden latencies
 
   pub largest-computed : IsLargest T q n
-  largest-computed = subst (IsLargest T q) (sym (largest-span T q) ∙ ap width d.vector ∙ d.wide) (largest-means T d.bounded q)
+  largest-computed = subst (IsLargest T q) (sym (largest_span T q) ∙ ap width d.vector ∙ d.wide) (largest-means T d.bounded q)
 
-  pub forbidden-computed : (latencies : List ℕ) → areForbidden n cv latencies ≡ true → (t : ℕ) → 1 ≤ t → Forbidden T q t ↔ (has t latencies ≡ true)
-  unfolding areForbidden
+  pub forbidden-computed : (latencies : List ℕ) → are_forbidden n cv latencies ≡ true → (t : ℕ) → 1 ≤ t → Forbidden T q t ↔ (has t latencies ≡ true)
+  unfolding are_forbidden
   forbidden-computed latencies h t o = (
     (λ f. subst (λ (x : ℕ). has x latencies ≡ true) back (noted (t - 1) (omega (arith, largest-computed.most t o f)) (column.1 f))),
-    (λ e. column.0 (all-has (λ x. is_set cv (x - 1)) latencies (and_left (all (λ x. is_set cv (x - 1)) latencies) _ h) t e)),
+    (λ e. column.0 (all_has (λ x. is_set cv (x - 1)) latencies (and_left (all (λ x. is_set cv (x - 1)) latencies) _ h) t e)),
   )
     where
       back : t - 1 + 1 ≡ t
@@ -87,8 +87,8 @@ module _ {T : Table} {q cv n : ℕ} {m : List ℕ} (d : Computed T q cv n m) whe
       noted : (k : ℕ) → k < n → is_set cv k ≡ true → has (k + 1) latencies ≡ true
       noted k l e =
           let none = not-true (misses n cv latencies) (and_right (all (λ x. is_set cv (x - 1)) latencies) _ h) in
-          not-false (has (k + 1) latencies) (not-passed (not (has (k + 1) latencies))
-          (λ f. nowhere (sym none ∙ some-intro n (λ j. is_set cv j && not (has (j + 1) latencies)) k l (and-true e f))))
+          not-false (has (k + 1) latencies) (not_passed (not (has (k + 1) latencies))
+          (λ f. nowhere (sym none ∙ some_intro n (λ j. is_set cv j && not (has (j + 1) latencies)) k l (and_true e f))))
 
   -- States
 
@@ -111,18 +111,18 @@ module _ {T : Table} {q cv n : ℕ} {m : List ℕ} (d : Computed T q cv n m) whe
 
   -- Cycles
 
-  pub greedy-computed : (l : List ℕ) → greedyCycle 1 n cv ≡ l → greedyOf 1 T q ≡ l
-  greedy-computed l e = at-vector (λ k w. greedyCycle 1 k w ≡ l) e
+  pub greedy-computed : (l : List ℕ) → greedy_cycle 1 n cv ≡ l → greedy_of 1 T q ≡ l
+  greedy-computed l e = at-vector (λ k w. greedy_cycle 1 k w ≡ l) e
 
   pub best-computed : (l : List ℕ) (sum : ℕ) → BestTested n cv m l sum → BestIs T q l sum
   best-computed l sum t =
       let pot = potential-tested 1 n cv (total l) (length l) (height t.heights) m t.potential in
       let floor =
-      potential-floor 1 n cv 256 few (total l) (length l) (height t.heights)
+      potential_floor 1 n cv 256 few (total l) (length l) (height t.heights)
       (subst (λ (k : List ℕ). Potential 1 n cv k (total l) (length l) (height t.heights)) (sym d.listed) pot) in
       record {
         best =
-            subst (Best 1 T q) (first-tested l t.rotation)
+            subst (Best 1 T q) (first_tested l t.rotation)
             (best_of T d.bounded q l (cycle-some 1 n cv m l t.closed)
             (at-vector (λ k w. CycleFrom 1 k w l) (cycle-tested 1 n cv m reached l t.closed))
             (at-vector (λ k w. Floor 1 k w (length l) (total l)) floor));
@@ -131,5 +131,5 @@ module _ {T : Table} {q cv n : ℕ} {m : List ℕ} (d : Computed T q cv n m) whe
 
   -- Constant
 
-  pub constant-computed : (k : ℕ) → leastFree cv ≡ k → IsConstant T q k
-  constant-computed k e = subst (IsConstant T q) (sym (least-constant T q) ∙ ap leastFree d.vector ∙ e) (constant-means T d.bounded q)
+  pub constant-computed : (k : ℕ) → least_free cv ≡ k → IsConstant T q k
+  constant-computed k e = subst (IsConstant T q) (sym (least_constant T q) ∙ ap least_free d.vector ∙ e) (constant-means T d.bounded q)

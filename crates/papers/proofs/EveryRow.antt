@@ -3,22 +3,22 @@ use mathlib.Core.Path.{◌≡◌, refl, ap, subst}
 use mathlib.Core.List.{[], ◌∷◌}
 use Prim.Native.Nat.{ℕ}
 use lib.ListN.{get_or}
-use Rattle.words.specs.Below.{someBelow, spanBelow, leastFrom, wordBelow}
-use Rattle.clique_size.specs.Largest.{most_of, largestClique}
-use Rattle.collision.specs.Vector.{collides, rowWord, vectorWord, boundOf}
-use Rattle.measures.specs.Inner.{freeOf, leastFree}
+use Rattle.words.specs.Below.{some_below, span_below, least_from, word_below}
+use Rattle.clique_size.specs.Largest.{most_of, largest_clique}
+use Rattle.collision.specs.Vector.{collides, row_word, vector_word, bound_of}
+use Rattle.measures.specs.Inner.{free_of, least_free}
 use Rattle.collision.specs.Meaning.{Bounded}
 use Rattle.diagram.specs.States.{expand, list_from}
-use Rattle.diagram.proofs.Examples.{fig1-width, fig1-states}
+use Rattle.diagram.proofs.Examples.{fig1_width, fig1_states}
 use Rattle.clique.specs.Sets.{IsLargestClique}
 use Rattle.clique.proofs.LargestLaws.{largest-means}
-use Rattle.cycles.proofs.Examples.{fig1-greedy}
-use Rattle.papers.specs.Rows.{figure1, figure2, oneSegment, threeSegments, states, Holds, row_of, rows, EveryRow}
-use Rattle.papers.proofs.TestLaws.{columns-tested, Every, end, ◌then◌, every-at}
-use Rattle.papers.proofs.TableLaws.{table-bounded}
+use Rattle.cycles.proofs.Examples.{fig1_greedy}
+use Rattle.papers.specs.Rows.{figure1, figure2, one_segment, three_segments, states, Holds, row_of, rows, EveryRow}
+use Rattle.papers.proofs.TestLaws.{columns_tested, Every, end, ◌then◌, every_at}
+use Rattle.papers.proofs.TableLaws.{table_bounded}
 use Rattle.papers.proofs.PotentialLaws.{isPotential}
-use Rattle.papers.proofs.CycleLaws.{isFirst, isCycle}
-use Rattle.papers.proofs.DiagramLaws.{Computed, areForbidden, largest-computed, forbidden-computed, states-computed, greedy-computed, best-computed, constant-computed}
+use Rattle.papers.proofs.CycleLaws.{is_first, isCycle}
+use Rattle.papers.proofs.DiagramLaws.{Computed, are_forbidden, largest-computed, forbidden-computed, states-computed, greedy-computed, best-computed, constant-computed}
 
 -- what the row at i says, counted from 0
 abbrev Says : ℕ → Type 0
@@ -26,39 +26,39 @@ Says i = Holds (get_or rows i (row_of figure1 1 (states 5)))
 
 -- Fig. 1
 
-pub figure1-vector : vectorWord figure1 1 ≡ 0b10110001
-unfolding rowWord wordBelow collides someBelow
-figure1-vector = refl
+pub figure1_vector : vector_word figure1 1 ≡ 0b10110001
+unfolding row_word word_below collides some_below
+figure1_vector = refl
 
-pub figure1-bounded : Bounded figure1
-figure1-bounded = table-bounded (((1 ∷ 9 ∷ []) ∷ (2 ∷ 3 ∷ 8 ∷ []) ∷ (4 ∷ []) ∷ (5 ∷ 6 ∷ []) ∷ (7 ∷ 8 ∷ []) ∷ []) ∷ []) refl
+pub figure1_bounded : Bounded figure1
+figure1_bounded = table_bounded (((1 ∷ 9 ∷ []) ∷ (2 ∷ 3 ∷ 8 ∷ []) ∷ (4 ∷ []) ∷ (5 ∷ 6 ∷ []) ∷ (7 ∷ 8 ∷ []) ∷ []) ∷ []) refl
 
-figure1-computed : Computed figure1 1 0b10110001 8 (0b10110001 ∷ 0b10111101 ∷ 0b10110111 ∷ 0b10111011 ∷ 0b10111111 ∷ [])
-figure1-computed = record {
-  bounded = figure1-bounded;
-  vector = figure1-vector;
-  wide = fig1-width;
-  listed = fig1-states;
+figure1_computed : Computed figure1 1 0b10110001 8 (0b10110001 ∷ 0b10111101 ∷ 0b10110111 ∷ 0b10111011 ∷ 0b10111111 ∷ [])
+figure1_computed = record {
+  bounded = figure1_bounded;
+  vector = figure1_vector;
+  wide = fig1_width;
+  listed = fig1_states;
   few = refl;
 }
 
-figure1-vector-row : Says 0
+figure1_vector_row : Says 0
 unfolding rows
-figure1-vector-row = (columns-tested (vectorWord figure1 1) 0b10110001 _ figure1-vector refl refl, largest-computed figure1-computed)
+figure1_vector_row = (columns_tested (vector_word figure1 1) 0b10110001 _ figure1_vector refl refl, largest-computed figure1_computed)
 
-figure1-states-row : Says 1
+figure1_states_row : Says 1
 unfolding rows
-figure1-states-row = states-computed figure1-computed _ refl
+figure1_states_row = states-computed figure1_computed _ refl
 
-figure1-greedy-row : Says 2
+figure1_greedy_row : Says 2
 unfolding rows
-figure1-greedy-row = (greedy-computed figure1-computed _ fig1-greedy, refl)
+figure1_greedy_row = (greedy-computed figure1_computed _ fig1_greedy, refl)
 
 -- from 10111011 by 3 to 10110111, and by 4 back
-figure1-best-row : Says 3
-unfolding rows isCycle isPotential isFirst
-figure1-best-row =
-    best-computed figure1-computed _ _ (record {
+figure1_best_row : Says 3
+unfolding rows isCycle isPotential is_first
+figure1_best_row =
+    best-computed figure1_computed _ _ (record {
       heights = (0b10110001, 6) ∷ (0b10111101, 3) ∷ (0b10110111, 5) ∷ (0b10111011, 6) ∷ [];
       closed = refl;
       potential = refl;
@@ -66,50 +66,50 @@ figure1-best-row =
       sums = refl;
     })
 
-figure1-constant-row : Says 4
-unfolding rows leastFree leastFrom freeOf someBelow
-figure1-constant-row = constant-computed figure1-computed _ refl
+figure1_constant_row : Says 4
+unfolding rows least_free least_from free_of some_below
+figure1_constant_row = constant-computed figure1_computed _ refl
 
 -- Fig. 2: M_1 with its rows 1 and 2, then M_2
 
-figure2-row-1-1 : Says 5
-unfolding rows rowWord wordBelow collides someBelow
-figure2-row-1-1 = columns-tested (rowWord figure2 1 1) 0b0110 _ refl refl refl
+figure2_row_1_1 : Says 5
+unfolding rows row_word word_below collides some_below
+figure2_row_1_1 = columns_tested (row_word figure2 1 1) 0b0110 _ refl refl refl
 
-figure2-row-2-1 : Says 6
-unfolding rows rowWord wordBelow collides someBelow
-figure2-row-2-1 = columns-tested (rowWord figure2 2 1) 0b1010 _ refl refl refl
+figure2_row_2_1 : Says 6
+unfolding rows row_word word_below collides some_below
+figure2_row_2_1 = columns_tested (row_word figure2 2 1) 0b1010 _ refl refl refl
 
-figure2-row-1-2 : Says 7
-unfolding rows rowWord wordBelow collides someBelow
-figure2-row-1-2 = columns-tested (rowWord figure2 1 2) 0b1011 _ refl refl refl
+figure2_row_1_2 : Says 7
+unfolding rows row_word word_below collides some_below
+figure2_row_1_2 = columns_tested (row_word figure2 1 2) 0b1011 _ refl refl refl
 
-figure2-row-2-2 : Says 8
-unfolding rows rowWord wordBelow collides someBelow
-figure2-row-2-2 = columns-tested (rowWord figure2 2 2) 0b0110 _ refl refl refl
+figure2_row_2_2 : Says 8
+unfolding rows row_word word_below collides some_below
+figure2_row_2_2 = columns_tested (row_word figure2 2 2) 0b0110 _ refl refl refl
 
 -- Marks 1 3 6 in one segment
 
-one-segment-vector : vectorWord oneSegment 1 ≡ 0b10110
-unfolding rowWord wordBelow collides someBelow
-one-segment-vector = refl
+one_segment_vector : vector_word one_segment 1 ≡ 0b10110
+unfolding row_word word_below collides some_below
+one_segment_vector = refl
 
-one-segment-computed : Computed oneSegment 1 0b10110 5 (0b10110 ∷ 0b11111 ∷ 0b10111 ∷ [])
-unfolding spanBelow expand list_from
-one-segment-computed = record {
-  bounded = table-bounded (((1 ∷ 3 ∷ 6 ∷ []) ∷ []) ∷ []) refl;
-  vector = one-segment-vector;
+one_segment_computed : Computed one_segment 1 0b10110 5 (0b10110 ∷ 0b11111 ∷ 0b10111 ∷ [])
+unfolding span_below expand list_from
+one_segment_computed = record {
+  bounded = table_bounded (((1 ∷ 3 ∷ 6 ∷ []) ∷ []) ∷ []) refl;
+  vector = one_segment_vector;
   wide = refl;
   listed = refl;
   few = refl;
 }
 
 -- from 10110 by 1 to 11111, and by 6 back
-one-segment-row : Says 9
-unfolding rows areForbidden isCycle isPotential isFirst
-one-segment-row = (
-  forbidden-computed one-segment-computed (2 ∷ 3 ∷ 5 ∷ []) refl,
-  best-computed one-segment-computed _ _ (record {
+one_segment_row : Says 9
+unfolding rows are_forbidden isCycle isPotential is_first
+one_segment_row = (
+  forbidden-computed one_segment_computed (2 ∷ 3 ∷ 5 ∷ []) refl,
+  best-computed one_segment_computed _ _ (record {
     heights = (0b10110, 5) ∷ (0b10111, 5) ∷ [];
     closed = refl;
     potential = refl;
@@ -120,59 +120,59 @@ one-segment-row = (
 
 -- Three segments
 
-pub three-segments-vector : vectorWord threeSegments 1 ≡ 0b100110
-unfolding rowWord wordBelow collides someBelow
-three-segments-vector = refl
+pub three_segments_vector : vector_word three_segments 1 ≡ 0b100110
+unfolding row_word word_below collides some_below
+three_segments_vector = refl
 
-pub three-segments-bounded : Bounded threeSegments
-three-segments-bounded = table-bounded (((1 ∷ 3 ∷ []) ∷ (1 ∷ 4 ∷ []) ∷ (1 ∷ 7 ∷ []) ∷ []) ∷ []) refl
+pub three_segments_bounded : Bounded three_segments
+three_segments_bounded = table_bounded (((1 ∷ 3 ∷ []) ∷ (1 ∷ 4 ∷ []) ∷ (1 ∷ 7 ∷ []) ∷ []) ∷ []) refl
 
-three-segments-computed : Computed threeSegments 1 0b100110 6 (0b100110 ∷ 0b110111 ∷ 0b100111 ∷ [])
-unfolding spanBelow expand list_from
-three-segments-computed = record {
-  bounded = three-segments-bounded;
-  vector = three-segments-vector;
+three_segments_computed : Computed three_segments 1 0b100110 6 (0b100110 ∷ 0b110111 ∷ 0b100111 ∷ [])
+unfolding span_below expand list_from
+three_segments_computed = record {
+  bounded = three_segments_bounded;
+  vector = three_segments_vector;
   wide = refl;
   listed = refl;
   few = refl;
 }
 
 -- 2, 3 and 6 are forbidden: 0 3 6
-pub three-segments-bound : boundOf threeSegments 1 ≡ 3
-unfolding boundOf largestClique most_of
-three-segments-bound = ap largestClique three-segments-vector
+pub three_segments_bound : bound_of three_segments 1 ≡ 3
+unfolding bound_of largest_clique most_of
+three_segments_bound = ap largest_clique three_segments_vector
 
 -- from 100110 by 1 to 110111, by 4 to 100111, and by 4 back
-three-segments-row : Says 10
-unfolding rows isCycle isPotential isFirst
-three-segments-row = (
-  best-computed three-segments-computed _ _ (record {
+three_segments_row : Says 10
+unfolding rows isCycle isPotential is_first
+three_segments_row = (
+  best-computed three_segments_computed _ _ (record {
     heights = (0b100110, 6) ∷ (0b100111, 3) ∷ [];
     closed = refl;
     potential = refl;
     rotation = refl;
     sums = refl;
   }),
-  subst (IsLargestClique threeSegments 1) three-segments-bound (largest-means threeSegments three-segments-bounded 1),
+  subst (IsLargestClique three_segments 1) three_segments_bound (largest-means three_segments three_segments_bounded 1),
 )
 
 -- All
 
-pub every-row : EveryRow
+pub every_row : EveryRow
 unfolding rows
-every-row = (refl, every-at each _)
+every_row = (refl, every_at each _)
   where
     each : Every Holds rows
     each =
-        figure1-vector-row
-        then figure1-states-row
-        then figure1-greedy-row
-        then figure1-best-row
-        then figure1-constant-row
-        then figure2-row-1-1
-        then figure2-row-2-1
-        then figure2-row-1-2
-        then figure2-row-2-2
-        then one-segment-row
-        then three-segments-row
+        figure1_vector_row
+        then figure1_states_row
+        then figure1_greedy_row
+        then figure1_best_row
+        then figure1_constant_row
+        then figure2_row_1_1
+        then figure2_row_2_1
+        then figure2_row_1_2
+        then figure2_row_2_2
+        then one_segment_row
+        then three_segments_row
         then end

@@ -11,15 +11,15 @@ use native.Mathlib.Omega.{arith}
 use lib.Dec.{ltb, eqb}
 use lib.ListN.{length, get_or}
 use borrow.Author.Tests.{ltb-false, not-true}
-use Rattle.words.specs.Below.{someBelow}
-use Rattle.words.proofs.Tests.{nowhere, and-true, not-passed, T_true}
-use Rattle.words.proofs.BelowLaws.{some-intro}
+use Rattle.words.specs.Below.{some_below}
+use Rattle.words.proofs.Tests.{nowhere, and_true, not_passed, T_true}
+use Rattle.words.proofs.BelowLaws.{some_intro}
 use Rattle.collision.specs.Pipeline.{total}
 use Rattle.diagram.specs.Diagram.{next, longest, Permits, Walk, stay, step}
 use Rattle.diagram.specs.States.{Listed, Each, arc, states}
-use Rattle.diagram.proofs.Listing.{Closed, permits-arc, states-first, states-closed}
+use Rattle.diagram.proofs.Listing.{Closed, permits_arc, states-first, states-closed}
 use Rattle.mean_cycle.specs.Mean.{Floor}
-use Rattle.papers.proofs.TestLaws.{all, all-at}
+use Rattle.papers.proofs.TestLaws.{all, all_at}
 
 -- each arc from a state of the list climbs at most what its latency allows
 abbrev pub Potential : ℕ → ℕ → ℕ → List ℕ → ℕ → ℕ → (ℕ → ℕ) → Type 0
@@ -37,9 +37,9 @@ module _ (g n cv : ℕ) (m : List ℕ) (closed : Closed g n cv m) (S K : ℕ) (�
       ))
 
 -- no walk has a lower average than S / K, where a potential on all states says so
-pub potential-floor : (g n cv cap : ℕ) → length (states cap g n cv) ≤ cap → (S K : ℕ) (φ : ℕ → ℕ)
+pub potential_floor : (g n cv cap : ℕ) → length (states cap g n cv) ≤ cap → (S K : ℕ) (φ : ℕ → ℕ)
     → Potential g n cv (states cap g n cv) S K φ → Floor g n cv K S
-potential-floor g n cv cap h S K φ pot = record {
+potential_floor g n cv cap h S K φ pot = record {
   bound = φ cv;
   every = λ l e w. omega (arith, walk-bound g n cv (states cap g n cv) (states-closed g n cv cap h) S K φ pot w (states-first g n cv cap));
 }
@@ -52,10 +52,10 @@ module _ (g n cv S K : ℕ) (φ : ℕ → ℕ) where
   climbs s t = arc g n s t && ltb (K * t + φ s) (S + φ (next cv s t))
 
   abbrev someClimbs : ℕ → Bool
-  someClimbs s = someBelow (longest g n) (λ k. climbs s (suc k))
+  someClimbs s = some_below (longest g n) (λ k. climbs s (suc k))
 
   unfoldable pub isPotential : List ℕ → Bool
-  unfolding someBelow
+  unfolding some_below
   isPotential m = all (λ s. not (someClimbs s)) m
 
   pub potential-tested : (m : List ℕ) → isPotential m ≡ true → Potential g n cv m S K φ
@@ -63,12 +63,12 @@ module _ (g n cv S K : ℕ) (φ : ℕ → ℕ) where
   potential-tested m b i h zero p = absurd (not-suc-le-zero p.positive)
   potential-tested m b i h (suc k) p =
       let s = get_or m i 0 in
-      let none = not-true (someClimbs s) (all-at (λ x. not (someClimbs x)) m 0 b i h) in
+      let none = not-true (someClimbs s) (all_at (λ x. not (someClimbs x)) m 0 b i h) in
       ltb-false (K * suc k + φ s) (S + φ (next cv s (suc k)))
-      (not-passed (ltb (K * suc k + φ s) (S + φ (next cv s (suc k))))
+      (not_passed (ltb (K * suc k + φ s) (S + φ (next cv s (suc k))))
       (λ more.
-      let arc-there = T_true (arc g n s (suc k)) (permits-arc g n s (suc k) p) in
-      nowhere (sym none ∙ some-intro (longest g n) (λ j. climbs s (suc j)) k p.small (and-true arc-there more))))
+      let arc-there = T_true (arc g n s (suc k)) (permits_arc g n s (suc k) p) in
+      nowhere (sym none ∙ some_intro (longest g n) (λ j. climbs s (suc j)) k p.small (and_true arc-there more))))
 
 -- Heights
 

@@ -11,7 +11,7 @@ use borrow.Author.Tests.{ltb-true, eqb-true, not-true}
 use Rattle.words.proofs.Tests.{nowhere, and_left, and_right, or_cases, T_true}
 use Rattle.diagram.specs.States.{Distinct, has}
 use Rattle.diagram.proofs.ListLaws.{listed_has}
-use Rattle.papers.specs.Rows.{columnsDown, Columns}
+use Rattle.papers.specs.Rows.{columns_down, Columns}
 
 -- Lists
 
@@ -20,15 +20,15 @@ abbrev pub all : {A : Type 0} → (A → Bool) → List A → Bool
 all p [] = true
 all p (x ∷ l) = p x && all p l
 
-pub all-at : {A : Type 0} (p : A → Bool) (l : List A) (d : A) → all p l ≡ true → (i : ℕ) → i < length l → p (get_or l i d) ≡ true
-all-at p [] d h i k = absurd (not-suc-le-zero k)
-all-at p (x ∷ l) d h zero k = and_left (p x) _ h
-all-at p (x ∷ l) d h (suc i) k = all-at p l d (and_right (p x) _ h) i (le_of_suc-le-suc k)
+pub all_at : {A : Type 0} (p : A → Bool) (l : List A) (d : A) → all p l ≡ true → (i : ℕ) → i < length l → p (get_or l i d) ≡ true
+all_at p [] d h i k = absurd (not-suc-le-zero k)
+all_at p (x ∷ l) d h zero k = and_left (p x) _ h
+all_at p (x ∷ l) d h (suc i) k = all_at p l d (and_right (p x) _ h) i (le_of_suc-le-suc k)
 
-pub all-has : (p : ℕ → Bool) (l : List ℕ) → all p l ≡ true → (x : ℕ) → has x l ≡ true → p x ≡ true
-all-has p [] h x e = nowhere e
-all-has p (y ∷ l) h x e =
-    ⊎_elim (λ s. subst (λ (z : ℕ). p z ≡ true) (eqb-true y x s) (and_left (p y) _ h)) (all-has p l (and_right (p y) _ h) x)
+pub all_has : (p : ℕ → Bool) (l : List ℕ) → all p l ≡ true → (x : ℕ) → has x l ≡ true → p x ≡ true
+all_has p [] h x e = nowhere e
+all_has p (y ∷ l) h x e =
+    ⊎_elim (λ s. subst (λ (z : ℕ). p z ≡ true) (eqb-true y x s) (and_left (p y) _ h)) (all_has p l (and_right (p y) _ h) x)
     (or_cases (eqb y x) (has x l) e)
 
 -- no number twice
@@ -47,8 +47,8 @@ apart_distinct (x ∷ l) h (suc i) (suc j) o k e =
 -- Columns
 
 -- a word that is computed, by its columns
-pub columns-tested : (w v : ℕ) (columns : List ℕ) → w ≡ v → columnsDown (length columns) v ≡ columns → ltb v (2 ^ length columns) ≡ true → Columns w columns
-columns-tested w v columns e bits fits =
+pub columns_tested : (w v : ℕ) (columns : List ℕ) → w ≡ v → columns_down (length columns) v ≡ columns → ltb v (2 ^ length columns) ≡ true → Columns w columns
+columns_tested w v columns e bits fits =
     subst (λ (x : ℕ). Columns x columns) (sym e) (record { bits = bits; fits = ltb-true v (2 ^ length columns) fits })
 
 -- What holds of each element
@@ -58,7 +58,7 @@ pub data Every {A : Type 0} (P : A → Type 0) : List A → Type 0 where
   end : Every P []
   ◌then◌ : {x : A} {l : List A} → P x → Every P l → Every P (x ∷ l)
 
-pub every-at : {A : Type 0} {P : A → Type 0} {l : List A} → Every P l → (d : A) (i : ℕ) → i < length l → P (get_or l i d)
-every-at end d i k = absurd (not-suc-le-zero k)
-every-at (h then r) d zero k = h
-every-at (h then r) d (suc i) k = every-at r d i (le_of_suc-le-suc k)
+pub every_at : {A : Type 0} {P : A → Type 0} {l : List A} → Every P l → (d : A) (i : ℕ) → i < length l → P (get_or l i d)
+every_at end d i k = absurd (not-suc-le-zero k)
+every_at (h then r) d zero k = h
+every_at (h then r) d (suc i) k = every_at r d i (le_of_suc-le-suc k)

@@ -11,51 +11,51 @@ use borrow.Author.Tests.{eqb-true, eqb-false, eq-eqb, le-leb}
 use lib.Dec.{leb, eqb}
 use lib.ListN.{length, get_or, take, drop, replicate}
 use lib.Seq.{take_all, take-length, take-append_seam, length-take-le, drop-cons, drop-length}
-use Rattle.words.proofs.Tests.{nowhere, and-true, not-passed}
+use Rattle.words.proofs.Tests.{nowhere, and_true, not_passed}
 use Rattle.text.proofs.SameLaws.{same_of}
 use Rattle.unit.specs.declared.Plan.{Plan}
 use Rattle.unit.specs.declared.Refusal.TheVariants.{BadRecord, ShortOutput}
 use Rattle.unit.specs.declared.Answer.TheVariants.{Refused}
 use Rattle.unit.specs.Numbers.{number_of}
-use Rattle.unit.proofs.NumberLaws.{numbered, number-one}
+use Rattle.unit.proofs.NumberLaws.{numbered, number_one}
 use Rattle.unit_file.specs.declared.Written.{Written}
 use Rattle.unit_file.specs.declared.Written.TheVariants as Written
 use Rattle.collision.specs.Pipeline.{total}
-use Rattle.collision.proofs.StartLaws.{total-suc}
+use Rattle.collision.proofs.StartLaws.{total_suc}
 use Rattle.plan_record.specs.declared.Shown.{Shown}
 use Rattle.plan_record.specs.declared.Shown.TheVariants as Shown
-use Rattle.plan_record.specs.Record.{Recordable, recordable, starts, ringOf, ringBit, recordOf}
-use Rattle.plan_record.specs.Read.{listIn, isRecord, reportAnswer, reportList, loadAnswer, loadRing, intervalsBelow, listFromRing}
-use Rattle.plan_record.specs.Write.{Holds, cycleIn, holdsCycle, writable, writeRefusal, writeAnswer, writeOut}
+use Rattle.plan_record.specs.Record.{Recordable, recordable, starts, ring_of, ring_bit, record_of}
+use Rattle.plan_record.specs.Read.{list_in, is_record, report_answer, report_list, load_answer, load_ring, intervals_below, list_from_ring}
+use Rattle.plan_record.specs.Write.{Holds, cycle_in, holds_cycle, writable, write_refusal, write_answer, write_out}
 use Rattle.plan_record.specs.Claims.{RingMeans, NoLonger, GivenBytes, Accepted, Shows, Refused15, AcceptedExactly, EitherView, ReadWritten, SameShown, FrontTells, GivenPlan, HoldsExactly, WriterAt, PlanExactly, TagUntested, ReadBack, WrittenRead}
-use Rattle.plan_record.proofs.CycleLaws.{recordable-of, total-most, sum-all, sum-rises}
-use Rattle.plan_record.proofs.RingLaws.{StartOf, start_has, start_of, ring-bit, ring-means}
-use Rattle.plan_record.proofs.RecordLaws.{record-length, record-count, record-sum, record-list, record-ring, record_is, is-record}
-use Rattle.plan_record.proofs.ReadLaws.{number-shown, number-not, report-refused, load-refused, list-refused, ring-refused, report-shown, load-shown, list-is, ring-is}
+use Rattle.plan_record.proofs.CycleLaws.{recordable_of, total_most, sum_all, sum_rises}
+use Rattle.plan_record.proofs.RingLaws.{StartOf, start_has, start_of, ring_bit_lem, ring_means}
+use Rattle.plan_record.proofs.RecordLaws.{record-length, record-count, record-sum, record-list, record-ring, record_is, is_record_lem}
+use Rattle.plan_record.proofs.ReadLaws.{number_shown, number_not, report-refused, load-refused, list-refused, ring-refused, report-shown, load-shown, list-is, ring-is}
 use Rattle.plan_record.proofs.PlanLaws.{held, writable-held, writable-tag, writable-holds}
 
 -- The bytes
 
 pub means : RingMeans
-means = ring-means
+means = ring_means
 
 pub no_longer : NoLonger
-no_longer l r = omega (arith, record-length l, r.few, total-most l r)
+no_longer l r = omega (arith, record-length l, r.few, total_most l r)
 
 -- Which bytes are accepted, and what is shown
 
 -- the test as a claim
 module _ (bytes : List ℕ) where
-  pub given : isRecord bytes ≡ true → GivenBytes bytes
-  given e = let i = is-record bytes e in record { cycle = listIn bytes; recordable = i.0; gives = i.1 }
+  pub given : is_record bytes ≡ true → GivenBytes bytes
+  given e = let i = is_record_lem bytes e in record { cycle = list_in bytes; recordable = i.0; gives = i.1 }
 
-  pub tested : GivenBytes bytes → isRecord bytes ≡ true
-  tested g = ap isRecord g.gives ∙ record_is g.cycle g.recordable
+  pub tested : GivenBytes bytes → is_record bytes ≡ true
+  tested g = ap is_record g.gives ∙ record_is g.cycle g.recordable
 
-  pub other : (GivenBytes bytes → ⊥) → isRecord bytes ≡ false
-  other f = not-passed (isRecord bytes) (λ e. f (given e))
+  pub other : (GivenBytes bytes → ⊥) → is_record bytes ≡ false
+  other f = not_passed (is_record bytes) (λ e. f (given e))
 
-  refused : isRecord bytes ≡ false → Refused15 bytes
+  refused : is_record bytes ≡ false → Refused15 bytes
   refused e = record {
     report = sym (report-refused bytes e);
     list = sym (list-refused bytes e);
@@ -64,48 +64,48 @@ module _ (bytes : List ℕ) where
   }
 
   -- what is shown is refused where the bytes are no record
-  accepted-by : (shown : Shown) → (isRecord bytes ≡ false → shown ≡ Shown.Refused BadRecord) → Accepted shown → isRecord bytes ≡ true
-  accepted-by shown f a = go (isRecord bytes) refl
+  accepted-by : (shown : Shown) → (is_record bytes ≡ false → shown ≡ Shown.Refused BadRecord) → Accepted shown → is_record bytes ≡ true
+  accepted-by shown f a = go (is_record bytes) refl
     where
-      go : (b : Bool) → isRecord bytes ≡ b → isRecord bytes ≡ true
+      go : (b : Bool) → is_record bytes ≡ b → is_record bytes ≡ true
       go true e = e
-      go false e = number-not (sym a.shows ∙ f e)
+      go false e = number_not (sym a.shows ∙ f e)
 
-  by-report : Accepted (reportAnswer bytes) → isRecord bytes ≡ true
-  by-report = accepted-by (reportAnswer bytes) (λ e. sym (report-refused bytes e))
+  by-report : Accepted (report_answer bytes) → is_record bytes ≡ true
+  by-report = accepted-by (report_answer bytes) (λ e. sym (report-refused bytes e))
 
-  by-load : Accepted (loadAnswer bytes) → isRecord bytes ≡ true
-  by-load = accepted-by (loadAnswer bytes) (λ e. sym (load-refused bytes e))
+  by-load : Accepted (load_answer bytes) → is_record bytes ≡ true
+  by-load = accepted-by (load_answer bytes) (λ e. sym (load-refused bytes e))
 
-shows-record : (l : List ℕ) → Recordable l → Shows (recordOf l) l
-shows-record l r =
+shows_record : (l : List ℕ) → Recordable l → Shows (record_of l) l
+shows_record l r =
     let i = record_is l r in
     record {
-      count = sym (report-shown (recordOf l) (length l) i (sym (record-count l r)));
-      list = list-is (recordOf l) i ∙ record-list l r;
-      sum = sym (load-shown (recordOf l) (total l) i (sym (record-sum l r)));
-      ring = ring-is (recordOf l) i ∙ record-ring l r;
+      count = sym (report-shown (record_of l) (length l) i (sym (record-count l r)));
+      list = list-is (record_of l) i ∙ record-list l r;
+      sum = sym (load-shown (record_of l) (total l) i (sym (record-sum l r)));
+      ring = ring-is (record_of l) i ∙ record-ring l r;
     }
 
-shown-given : (bytes : List ℕ) (g : GivenBytes bytes) → Shows bytes g.cycle
-shown-given bytes g = subst (λ (x : List ℕ). Shows x g.cycle) (sym g.gives) (shows-record g.cycle g.recordable)
+shown_given : (bytes : List ℕ) (g : GivenBytes bytes) → Shows bytes g.cycle
+shown_given bytes g = subst (λ (x : List ℕ). Shows x g.cycle) (sym g.gives) (shows_record g.cycle g.recordable)
 
-pub accepted-exactly : AcceptedExactly
-accepted-exactly bytes = record {
-  report = (λ a. given bytes (by-report bytes a), λ g. record { number = length g.cycle; shows = (shown-given bytes g).count });
-  load = (λ a. given bytes (by-load bytes a), λ g. record { number = total g.cycle; shows = (shown-given bytes g).sum });
-  shown = shown-given bytes;
+pub accepted_exactly : AcceptedExactly
+accepted_exactly bytes = record {
+  report = (λ a. given bytes (by-report bytes a), λ g. record { number = length g.cycle; shows = (shown_given bytes g).count });
+  load = (λ a. given bytes (by-load bytes a), λ g. record { number = total g.cycle; shows = (shown_given bytes g).sum });
+  shown = shown_given bytes;
   refused = λ f. refused bytes (other bytes f);
 }
 
-pub read-written : ReadWritten
-read-written bytes a = let r = by-report bytes a in ap recordOf (list-is bytes r) ∙ sym (is-record bytes r).1
+pub read_written : ReadWritten
+read_written bytes a = let r = by-report bytes a in ap record_of (list-is bytes r) ∙ sym (is_record_lem bytes r).1
 
 -- more bytes than a record has are none, however many of them are looked at
-pub front-tells : FrontTells
-front-tells bytes n h = go (dec_le (length bytes) n)
+pub front_tells : FrontTells
+front_tells bytes n h = go (dec_le (length bytes) n)
   where
-    long : (x : List ℕ) → 1289 ≤ length x → isRecord x ≡ false
+    long : (x : List ℕ) → 1289 ≤ length x → is_record x ≡ false
     long x m = other x (λ g. omega (arith, ap length g.gives, no_longer g.cycle g.recordable))
 
     same-refused : (x y : List ℕ) → Refused15 x → Refused15 y → SameShown x y
@@ -127,7 +127,7 @@ front-tells bytes n h = go (dec_le (length bytes) n)
 module _ (l : List ℕ) (r : Recordable l) where
   sum_below : (k : ℕ) → k ≤ length l → total (take k l) ≤ total l
   sum_below k h =
-      ⊎_elim (λ e. omega (arith, sum-all l, ap (λ n. total (take n l)) e)) (λ o. omega (arith, sum-all l, sum-rises l r k (length l) o (omega arith)))
+      ⊎_elim (λ e. omega (arith, sum_all l, ap (λ n. total (take n l)) e)) (λ o. omega (arith, sum_all l, sum_rises l r k (length l) o (omega arith)))
       (eq-or-lt_of_le h)
 
   -- all starts of the latencies before k are below i
@@ -137,11 +137,11 @@ module _ (l : List ℕ) (r : Recordable l) where
   module _ (start : ℕ → Bool) (same : (i : ℕ) → i < total l → start i ≡ starts l i) where
     -- from i on the latencies from k on are found
     abbrev FoundFrom : ℕ → Type 0
-    FoundFrom i = (k : ℕ) → i ≤ total (take k l) → k ≤ length l → Passed i k → intervalsBelow i start (total (take k l)) (drop k l) ≡ l
+    FoundFrom i = (k : ℕ) → i ≤ total (take k l) → k ≤ length l → Passed i k → intervals_below i start (total (take k l)) (drop k l) ≡ l
 
     -- one place further down: a start there is the last of those below, and its latency goes in front
     down : (i : ℕ) → FoundFrom i → (k : ℕ) → suc i ≤ total (take k l) → k ≤ length l → Passed (suc i) k → (b : Bool) → start i ≡ b
-        → intervalsBelow i start (cond b i (total (take k l))) (cond b ((total (take k l) - i) ∷ drop k l) (drop k l)) ≡ l
+        → intervals_below i start (cond b i (total (take k l))) (cond b ((total (take k l) - i) ∷ drop k l) (drop k l)) ≡ l
     down i found k low inside passed false e =
         found k (omega arith) inside
         (λ j h.
@@ -153,12 +153,12 @@ module _ (l : List ℕ) (r : Recordable l) where
         let s : StartOf l i = start_has l i r (sym (same i (omega (arith, sum_below k inside))) ∙ e) in
         let m = s.index in
         let before : m < k = ordered m k (λ h. rises-le k m h (omega (arith, s.inside)) (omega (arith, s.sum))) in
-        let after : k ≤ suc m = ordered-le k (suc m) (λ h. omega (arith, passed (suc m) h, sum-rises l r m (suc m) (omega arith) s.inside, s.sum)) in
+        let after : k ≤ suc m = ordered-le k (suc m) (λ h. omega (arith, passed (suc m) h, sum_rises l r m (suc m) (omega arith) s.inside, s.sum)) in
         let next : k ≡ suc m = omega arith in
-        let value : total (take k l) - i ≡ get_or l m 0 = omega (arith, ap (λ n. total (take n l)) next, total-suc l m s.inside, s.sum) in
-        ap₂ (λ (n : ℕ) (x : List ℕ). intervalsBelow i start n x) (sym s.sum)
+        let value : total (take k l) - i ≡ get_or l m 0 = omega (arith, ap (λ n. total (take n l)) next, total_suc l m s.inside, s.sum) in
+        ap₂ (λ (n : ℕ) (x : List ℕ). intervals_below i start n x) (sym s.sum)
         (ap₂ (λ (n : ℕ) (x : List ℕ). n ∷ x) value (ap (λ n. drop n l) next) ∙ sym (drop-cons l m 0 s.inside))
-        ∙ found m (omega (arith, s.sum)) (omega (arith, s.inside)) (λ j h. omega (arith, sum-rises l r j m h (omega (arith, s.inside)), s.sum))
+        ∙ found m (omega (arith, s.sum)) (omega (arith, s.inside)) (λ j h. omega (arith, sum_rises l r j m h (omega (arith, s.inside)), s.sum))
       where
         ordered : (x y : ℕ) → (y ≤ x → ⊥) → x < y
         ordered x y f = omega arith
@@ -168,77 +168,77 @@ module _ (l : List ℕ) (r : Recordable l) where
 
         rises-le : (x y : ℕ) → x ≤ y → y ≤ length l → total (take y l) < total (take x l) → ⊥
         rises-le x y h m o =
-            ⊎_elim (λ z. omega (arith, ap (λ n. total (take n l)) z)) (λ q. omega (arith, sum-rises l r x y q m)) (eq-or-lt_of_le h)
+            ⊎_elim (λ z. omega (arith, ap (λ n. total (take n l)) z)) (λ q. omega (arith, sum_rises l r x y q m)) (eq-or-lt_of_le h)
 
     found_from : (i : ℕ) → FoundFrom i
-    unfolding intervalsBelow
+    unfolding intervals_below
     found_from zero zero low inside passed = refl
     found_from zero (suc k) low inside passed = absurd (omega (arith, passed 0 (omega arith)))
     found_from (suc i) k low inside passed = down i (found_from i) k low inside passed (start i) refl
 
-  pub list-from-ring : listFromRing (total l) (ringOf l) ≡ l
-  unfolding listFromRing
+  pub list-from-ring : list_from_ring (total l) (ring_of l) ≡ l
+  unfolding list_from_ring
   list-from-ring =
-      let n = sum-all l in
-      ap₂ (λ (s : ℕ) (x : List ℕ). intervalsBelow (total l) start s x) (sym n) (sym (drop-length l))
+      let n = sum_all l in
+      ap₂ (λ (s : ℕ) (x : List ℕ). intervals_below (total l) start s x) (sym n) (sym (drop-length l))
       ∙ found_from start bits (total l) (length l) (omega arith) (omega arith)
-      (λ j h. omega (arith, sum-rises l r j (length l) h (omega arith)))
+      (λ j h. omega (arith, sum_rises l r j (length l) h (omega arith)))
     where
       start : ℕ → Bool
-      start i = not (ringBit (ringOf l) i)
+      start i = not (ring_bit (ring_of l) i)
 
       twice : (b : Bool) → not (not b) ≡ b
       twice true = refl
       twice false = refl
 
       bits : (i : ℕ) → i < total l → start i ≡ starts l i
-      bits i h = ap not (ring-bit l i (omega arith)) ∙ twice (starts l i)
+      bits i h = ap not (ring_bit_lem l i (omega arith)) ∙ twice (starts l i)
 
-pub either-view : EitherView
-either-view bytes K S ek es =
+pub either_view : EitherView
+either_view bytes K S ek es =
     let b = by-report bytes (record { number = K; shows = ek }) in
     let g = given bytes b in
     let l = g.cycle in
-    let s = shown-given bytes g in
-    let count : K ≡ length l = number-shown (sym ek ∙ s.count) in
-    let sum : S ≡ total l = number-shown (sym es ∙ s.sum) in
-    let from : listFromRing S (loadRing bytes) ≡ l = ap₂ listFromRing sum s.ring ∙ list-from-ring l g.recordable in
-    let front : take K (reportList bytes) ≡ l = ap₂ take count s.list ∙ take-length l in
+    let s = shown_given bytes g in
+    let count : K ≡ length l = number_shown (sym ek ∙ s.count) in
+    let sum : S ≡ total l = number_shown (sym es ∙ s.sum) in
+    let from : list_from_ring S (load_ring bytes) ≡ l = ap₂ list_from_ring sum s.ring ∙ list-from-ring l g.recordable in
+    let front : take K (report_list bytes) ≡ l = ap₂ take count s.list ∙ take-length l in
     record {
-      list-worked = s.list ∙ sym from;
-      count-worked = count ∙ ap length (sym from);
-      ring-worked = s.ring ∙ ap ringOf (sym front);
-      sum-worked = sum ∙ ap total (sym front);
+      list_worked = s.list ∙ sym from;
+      count_worked = count ∙ ap length (sym from);
+      ring_worked = s.ring ∙ ap ring_of (sym front);
+      sum_worked = sum ∙ ap total (sym front);
     }
 
 -- Which plans
 
-holds-given : (p : Plan) → holdsCycle p ≡ true → GivenPlan p
-holds-given p e = let h = held p e in record { cycle = cycleIn p; recordable = h.cycle; holds = h.holds }
+holds_given : (p : Plan) → holds_cycle p ≡ true → GivenPlan p
+holds_given p e = let h = held p e in record { cycle = cycle_in p; recordable = h.cycle; holds = h.holds }
 
-pub given_holds : (p : Plan) → GivenPlan p → holdsCycle p ≡ true
-unfolding holdsCycle
+pub given_holds : (p : Plan) → GivenPlan p → holds_cycle p ≡ true
+unfolding holds_cycle
 given_holds p g =
     let l = g.cycle in
     let h = g.holds in
-    let front : cycleIn p ≡ l = ap₂ take h.count h.latencies ∙ take-append_seam l (replicate (256 - length l) 0) in
-    and-true (ap recordable front ∙ recordable-of l g.recordable)
-    (and-true (eq-eqb p.count (length (cycleIn p)) (h.count ∙ ap length (sym front)))
-    (and-true (eq-eqb p.sum (total (cycleIn p)) (h.sum ∙ ap total (sym front)))
+    let front : cycle_in p ≡ l = ap₂ take h.count h.latencies ∙ take-append_seam l (replicate (256 - length l) 0) in
+    and_true (ap recordable front ∙ recordable_of l g.recordable)
+    (and_true (eq-eqb p.count (length (cycle_in p)) (h.count ∙ ap length (sym front)))
+    (and_true (eq-eqb p.sum (total (cycle_in p)) (h.sum ∙ ap total (sym front)))
     (same_of _ _ (h.latencies ∙ ap₂ (λ (x : List ℕ) (n : ℕ). x ++ replicate (256 - n) 0) (sym front) (sym h.count)))))
 
-pub holds-exactly : HoldsExactly
-holds-exactly p = (holds-given p, given_holds p)
+pub holds_exactly : HoldsExactly
+holds_exactly p = (holds_given p, given_holds p)
 
 -- the answer, where the plan is not writable, has no room, or has
 module _ (p : Plan) (room : ℕ) where
-  answer-bad : writable p ≡ false → writeAnswer p room ≡ Written.Refused BadRecord
-  unfolding writeAnswer writeRefusal
+  answer-bad : writable p ≡ false → write_answer p room ≡ Written.Refused BadRecord
+  unfolding write_answer write_refusal
   answer-bad e = simp e
 
-  answer-room : writable p ≡ true → (b : Bool) → leb (length (recordOf (cycleIn p))) room ≡ b
-      → writeAnswer p room ≡ cond b (Written.Length (length (recordOf (cycleIn p)))) (Written.Refused ShortOutput)
-  unfolding writeAnswer writeRefusal
+  answer-room : writable p ≡ true → (b : Bool) → leb (length (record_of (cycle_in p))) room ≡ b
+      → write_answer p room ≡ cond b (Written.Length (length (record_of (cycle_in p)))) (Written.Refused ShortOutput)
+  unfolding write_answer write_refusal
   answer-room e true l = rw (e, l)
   answer-room e false l = rw (e, l)
 
@@ -247,12 +247,12 @@ abbrev told : Written → ℕ
 told (Written.Length n) = 0
 told (Written.Refused why) = number_of why
 
-pub plan-exactly : PlanExactly
-plan-exactly p room = go (writable p) refl (leb (length (recordOf (cycleIn p))) room) refl
+pub plan_exactly : PlanExactly
+plan_exactly p room = go (writable p) refl (leb (length (record_of (cycle_in p))) room) refl
   where
     takes : writable p ≡ true → ((p.tag ≡ 0) ⊎ (GivenPlan p → ⊥)) → ⊥
     takes e (inl z) = writable-tag p e z
-    takes e (inr f) = f (holds-given p (writable-holds p e))
+    takes e (inr f) = f (holds_given p (writable-holds p e))
 
     turns-away : writable p ≡ false → (p.tag ≡ 0) ⊎ (GivenPlan p → ⊥)
     turns-away e = by-tag (eqb p.tag 0) refl
@@ -261,11 +261,11 @@ plan-exactly p room = go (writable p) refl (leb (length (recordOf (cycleIn p))) 
         by-tag true z = inl (eqb-true p.tag 0 z)
         by-tag false n = inr (λ g. nowhere (sym e ∙ writable-held p (eqb-false p.tag 0 n) ∙ given_holds p g))
 
-    go : (b : Bool) → writable p ≡ b → (l : Bool) → leb (length (recordOf (cycleIn p))) room ≡ l → WriterAt p room
+    go : (b : Bool) → writable p ≡ b → (l : Bool) → leb (length (record_of (cycle_in p))) room ≡ l → WriterAt p room
     go false e l h =
         let is = answer-bad p room e in
         record {
-          numbers = λ why a. inl (number-one why BadRecord (ap told (sym a ∙ is)));
+          numbers = λ why a. inl (number_one why BadRecord (ap told (sym a ∙ is)));
           fifteen = (λ a. turns-away e, λ n. is);
           suffices = λ r a. let z : ◌≡◌ {A = ℕ} 6 15 = ap told (sym a ∙ is) in omega arith;
         }
@@ -278,11 +278,11 @@ plan-exactly p room = go (writable p) refl (leb (length (recordOf (cycleIn p))) 
         }
     go true e false h =
         let is = answer-room p room e false h in
-        let small = no_longer (cycleIn p) (held p (writable-holds p e)).cycle in
+        let small = no_longer (cycle_in p) (held p (writable-holds p e)).cycle in
         record {
-          numbers = λ why a. inr (number-one why ShortOutput (ap told (sym a ∙ is)));
+          numbers = λ why a. inr (number_one why ShortOutput (ap told (sym a ∙ is)));
           fifteen = (λ a. let z : ◌≡◌ {A = ℕ} 15 6 = ap told (sym a ∙ is) in absurd (omega arith), λ n. absurd (takes e n));
-          suffices = λ r a. nowhere (sym h ∙ le-leb (length (recordOf (cycleIn p))) room (omega arith));
+          suffices = λ r a. nowhere (sym h ∙ le-leb (length (record_of (cycle_in p))) room (omega arith));
         }
 
 -- a plan with another tag
@@ -291,47 +291,47 @@ retagged p t = record { tag = t; count = p.count; sum = p.sum; latencies = p.lat
 
 module _ (p : Plan) (t : ℕ) (one : p.tag ≡ 0 → ⊥) (other : t ≡ 0 → ⊥) where
   both-writable : writable p ≡ writable (retagged p t)
-  unfolding holdsCycle
+  unfolding holds_cycle
   both-writable = writable-held p one ∙ sym (writable-held (retagged p t) other)
 
-  both-answer : (room : ℕ) → writeAnswer p room ≡ writeAnswer (retagged p t) room
-  unfolding writeAnswer writeRefusal
+  both-answer : (room : ℕ) → write_answer p room ≡ write_answer (retagged p t) room
+  unfolding write_answer write_refusal
   both-answer room = rw both-writable
 
-  both-leave : (bytes : List ℕ) → writeOut p bytes ≡ writeOut (retagged p t) bytes
-  unfolding writeOut writeRefusal
+  both-leave : (bytes : List ℕ) → write_out p bytes ≡ write_out (retagged p t) bytes
+  unfolding write_out write_refusal
   both-leave bytes = rw both-writable
 
-pub tag-untested : TagUntested
-tag-untested p q t bytes =
+pub tag_untested : TagUntested
+tag_untested p q t bytes =
     let same : retagged p q.tag ≡ q = λ i. record { tag = q.tag; count = t.count i; sum = t.sum i; latencies = t.latencies i } in (
-      both-answer p q.tag t.one t.other (length bytes) ∙ ap (λ (x : Plan). writeAnswer x (length bytes)) same,
-      both-leave p q.tag t.one t.other bytes ∙ ap (λ (x : Plan). writeOut x bytes) same,
+      both-answer p q.tag t.one t.other (length bytes) ∙ ap (λ (x : Plan). write_answer x (length bytes)) same,
+      both-leave p q.tag t.one t.other bytes ∙ ap (λ (x : Plan). write_out x bytes) same,
     )
 
 -- Written and read
 
-record-out : (p : Plan) (bytes : List ℕ) → writable p ≡ true → leb (length (recordOf (cycleIn p))) (length bytes) ≡ true
-    → writeOut p bytes ≡ recordOf (cycleIn p) ++ drop (length (recordOf (cycleIn p))) bytes
-unfolding writeOut writeRefusal
+record-out : (p : Plan) (bytes : List ℕ) → writable p ≡ true → leb (length (record_of (cycle_in p))) (length bytes) ≡ true
+    → write_out p bytes ≡ record_of (cycle_in p) ++ drop (length (record_of (cycle_in p))) bytes
+unfolding write_out write_refusal
 record-out p bytes w l = rw (w, l)
 
 -- a length that was told
-abbrev length-told : Written → ℕ
-length-told (Written.Length n) = n
-length-told (Written.Refused why) = 0
+abbrev length_told : Written → ℕ
+length_told (Written.Length n) = n
+length_told (Written.Refused why) = 0
 
 pub written_read : WrittenRead
-written_read p bytes n e = go (writable p) refl (leb (length (recordOf (cycleIn p))) (length bytes)) refl
+written_read p bytes n e = go (writable p) refl (leb (length (record_of (cycle_in p))) (length bytes)) refl
   where
-    go : (b : Bool) → writable p ≡ b → (l : Bool) → leb (length (recordOf (cycleIn p))) (length bytes) ≡ l → ReadBack p (take n (writeOut p bytes))
+    go : (b : Bool) → writable p ≡ b → (l : Bool) → leb (length (record_of (cycle_in p))) (length bytes) ≡ l → ReadBack p (take n (write_out p bytes))
     go false w l h = let z : ◌≡◌ {A = ℕ} 0 15 = ap told (sym e ∙ answer-bad p (length bytes) w) in absurd (omega arith)
     go true w false h = let z : ◌≡◌ {A = ℕ} 0 6 = ap told (sym e ∙ answer-room p (length bytes) w false h) in absurd (omega arith)
     go true w true h =
         let c = held p (writable-holds p w) in
-        let long : n ≡ length (recordOf (cycleIn p)) = ap length-told (sym e ∙ answer-room p (length bytes) w true h) in
-        let front : take n (writeOut p bytes) ≡ recordOf (cycleIn p) =
-        ap₂ take long (record-out p bytes w h) ∙ take-append_seam (recordOf (cycleIn p)) (drop (length (recordOf (cycleIn p))) bytes) in
-        let shows = shows-record (cycleIn p) c.cycle in
+        let long : n ≡ length (record_of (cycle_in p)) = ap length_told (sym e ∙ answer-room p (length bytes) w true h) in
+        let front : take n (write_out p bytes) ≡ record_of (cycle_in p) =
+        ap₂ take long (record-out p bytes w h) ∙ take-append_seam (record_of (cycle_in p)) (drop (length (record_of (cycle_in p))) bytes) in
+        let shows = shows_record (cycle_in p) c.cycle in
         subst (λ (x : List ℕ). ReadBack p x) (sym front)
         (record { shows = shows; holds = subst (λ (x : List ℕ). Holds p x) (sym shows.list) c.holds })

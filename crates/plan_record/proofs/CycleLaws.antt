@@ -10,73 +10,73 @@ use native.Mathlib.Omega.{arith}
 use borrow.Author.Tests.{not-true, not-false}
 use lib.ListN.{length, get_or, take}
 use lib.Seq.{take-length}
-use Rattle.words.specs.Below.{someBelow}
-use Rattle.words.proofs.Tests.{nowhere, and_left, and_right, and-true, not-passed}
-use Rattle.words.proofs.BelowLaws.{some-intro, some-none}
+use Rattle.words.specs.Below.{some_below}
+use Rattle.words.proofs.Tests.{nowhere, and_left, and_right, and_true, not_passed}
+use Rattle.words.proofs.BelowLaws.{some_intro, some_none}
 use Rattle.unit.specs.Unit.{inside}
 use Rattle.unit.proofs.Laws.{within, inside_of}
 use Rattle.collision.specs.Pipeline.{total}
-use Rattle.collision.proofs.StartLaws.{total-suc}
+use Rattle.collision.proofs.StartLaws.{total_suc}
 use Rattle.plan_record.specs.Record.{Recordable, recordable}
 
 -- The test
 
-pub recordable-facts : (l : List ℕ) → recordable l ≡ true → Recordable l
+pub recordable_facts : (l : List ℕ) → recordable l ≡ true → Recordable l
 unfolding recordable
-recordable-facts l e =
+recordable_facts l e =
     let w = within (length l) 256 (and_left (inside (length l) 256) _ e) in
     record { some = w.least; few = w.most; least = λ i h. (each i h).0; most = λ i h. (each i h).1 }
   where
-    none : someBelow (length l) (λ i. not (inside (get_or l i 0) 32)) ≡ false
+    none : some_below (length l) (λ i. not (inside (get_or l i 0) 32)) ≡ false
     none = not-true _ (and_right (inside (length l) 256) _ e)
 
     good : (i : ℕ) → i < length l → inside (get_or l i 0) 32 ≡ true
-    good i h = not-false _ (not-passed (not (inside (get_or l i 0) 32)) (λ p. nowhere (sym none ∙ some-intro (length l) (λ i. not (inside (get_or l i 0) 32)) i h p)))
+    good i h = not-false _ (not_passed (not (inside (get_or l i 0) 32)) (λ p. nowhere (sym none ∙ some_intro (length l) (λ i. not (inside (get_or l i 0) 32)) i h p)))
 
     each : (i : ℕ) → i < length l → (1 ≤ get_or l i 0) × (get_or l i 0 ≤ 32)
     each i h = let w = within (get_or l i 0) 32 (good i h) in (w.least, w.most)
 
-pub recordable-of : (l : List ℕ) → Recordable l → recordable l ≡ true
+pub recordable_of : (l : List ℕ) → Recordable l → recordable l ≡ true
 unfolding recordable
-recordable-of l r =
-    and-true (inside_of (length l) 256 r.some r.few)
-    (ap not (some-none (length l) (λ i. not (inside (get_or l i 0) 32)) (λ i h. ap not (inside_of (get_or l i 0) 32 (r.least i h) (r.most i h)))))
+recordable_of l r =
+    and_true (inside_of (length l) 256 r.some r.few)
+    (ap not (some_none (length l) (λ i. not (inside (get_or l i 0) 32)) (λ i h. ap not (inside_of (get_or l i 0) 32 (r.least i h) (r.most i h)))))
 
 -- one of its facts fails
 pub unrecordable : (l : List ℕ) → (Recordable l → ⊥) → recordable l ≡ false
-unrecordable l f = not-passed (recordable l) (λ e. f (recordable-facts l e))
+unrecordable l f = not_passed (recordable l) (λ e. f (recordable_facts l e))
 
 -- Sums of the first latencies
 
-pub sum-all : (l : List ℕ) → total (take (length l) l) ≡ total l
-sum-all l = ap total (take-length l)
+pub sum_all : (l : List ℕ) → total (take (length l) l) ≡ total l
+sum_all l = ap total (take-length l)
 
 -- each is larger than those before
-pub sum-rises : (l : List ℕ) → Recordable l → (j k : ℕ) → j < k → k ≤ length l → total (take j l) < total (take k l)
-sum-rises l r j zero h m = absurd (not-suc-le-zero h)
-sum-rises l r j (suc k) h m = pick (eq-or-lt_of_le (le_of_suc-le-suc h)) (λ o. sum-rises l r j k o (le_of_lt m))
+pub sum_rises : (l : List ℕ) → Recordable l → (j k : ℕ) → j < k → k ≤ length l → total (take j l) < total (take k l)
+sum_rises l r j zero h m = absurd (not-suc-le-zero h)
+sum_rises l r j (suc k) h m = pick (eq-or-lt_of_le (le_of_suc-le-suc h)) (λ o. sum_rises l r j k o (le_of_lt m))
   where
     more : total (take (suc k) l) ≡ total (take k l) + get_or l k 0
-    more = total-suc l k m
+    more = total_suc l k m
 
     pick : (j ≡ k) ⊎ (j < k) → (j < k → total (take j l) < total (take k l)) → total (take j l) < total (take (suc k) l)
     pick (inl e) f = let s : total (take j l) ≡ total (take k l) = ap (λ n. total (take n l)) e in omega (arith, more, r.least k m)
     pick (inr o) f = omega (arith, more, f o)
 
-pub sum-most : (l : List ℕ) → Recordable l → (k : ℕ) → k ≤ length l → total (take k l) ≤ 32 * k
-sum-most l r zero h = omega arith
-sum-most l r (suc k) h = omega (arith, total-suc l k h, sum-most l r k (le_of_lt h), r.most k h)
+pub sum_most : (l : List ℕ) → Recordable l → (k : ℕ) → k ≤ length l → total (take k l) ≤ 32 * k
+sum_most l r zero h = omega arith
+sum_most l r (suc k) h = omega (arith, total_suc l k h, sum_most l r k (le_of_lt h), r.most k h)
 
-pub total-most : (l : List ℕ) → Recordable l → total l ≤ 8192
-total-most l r = omega (arith, sum-all l, sum-most l r (length l) (omega arith), r.few)
+pub total_most : (l : List ℕ) → Recordable l → total l ≤ 8192
+total_most l r = omega (arith, sum_all l, sum_most l r (length l) (omega arith), r.few)
 
-pub total-least : (l : List ℕ) → Recordable l → 1 ≤ total l
-total-least l r = omega (arith, sum-all l, sum-rises l r 0 (length l) r.some (omega arith))
+pub total_least : (l : List ℕ) → Recordable l → 1 ≤ total l
+total_least l r = omega (arith, sum_all l, sum_rises l r 0 (length l) r.some (omega arith))
 
 -- The sum that is found: 0 where the list is no such cycle
 
-pub no-sum : (l : List ℕ) → (Recordable l → ⊥) → 0 ≡ cond (recordable l) (total l) 0
-no-sum l f = rw (unrecordable l f)
+pub no_sum : (l : List ℕ) → (Recordable l → ⊥) → 0 ≡ cond (recordable l) (total l) 0
+no_sum l f = rw (unrecordable l f)
 
 -- the first i latencies are in order, and this is their sum
 pub record Summed (l : List ℕ) (i sum : ℕ) : Type 0 where
@@ -87,26 +87,26 @@ pub record Summed (l : List ℕ) (i sum : ℕ) : Type 0 where
   pub adds : sum ≡ total (take i l)
   pub low : sum ≤ 32 * i
 
-pub summed-end : (l : List ℕ) (i sum : ℕ) → length l ≤ i → Summed l i sum → sum ≡ cond (recordable l) (total l) 0
-summed-end l i sum h s = go (dec_lt 0 (length l))
+pub summed_end : (l : List ℕ) (i sum : ℕ) → length l ≤ i → Summed l i sum → sum ≡ cond (recordable l) (total l) 0
+summed_end l i sum h s = go (dec_lt 0 (length l))
   where
     all : sum ≡ total l
-    all = let e : i ≡ length l = omega (arith, s.inside) in s.adds ∙ ap (λ k. total (take k l)) e ∙ sum-all l
+    all = let e : i ≡ length l = omega (arith, s.inside) in s.adds ∙ ap (λ k. total (take k l)) e ∙ sum_all l
 
     go : Dec (0 < length l) → sum ≡ cond (recordable l) (total l) 0
-    go (yes some) = rw (recordable-of l (record { some = some; few = s.few; least = λ k m. s.least k (omega arith); most = λ k m. s.most k (omega arith) })) all
-    go (no none) = let z : sum ≡ 0 = omega (arith, s.low, s.inside) in z ∙ no-sum l (λ r. none r.some)
+    go (yes some) = rw (recordable_of l (record { some = some; few = s.few; least = λ k m. s.least k (omega arith); most = λ k m. s.most k (omega arith) })) all
+    go (no none) = let z : sum ≡ 0 = omega (arith, s.low, s.inside) in z ∙ no_sum l (λ r. none r.some)
 
 -- a sum other than 0 is that of a cycle
-pub summed-cycle : (l : List ℕ) (sum : ℕ) → sum ≡ cond (recordable l) (total l) 0 → (sum ≡ 0 → ⊥) → (recordable l ≡ true) × (sum ≡ total l)
-summed-cycle l sum e n = go (recordable l) e
+pub summed_cycle : (l : List ℕ) (sum : ℕ) → sum ≡ cond (recordable l) (total l) 0 → (sum ≡ 0 → ⊥) → (recordable l ≡ true) × (sum ≡ total l)
+summed_cycle l sum e n = go (recordable l) e
   where
     go : (b : Bool) → sum ≡ cond b (total l) 0 → (b ≡ true) × (sum ≡ total l)
     go true e = (refl, e)
     go false e = absurd (n e)
 
-pub summed-none : (l : List ℕ) (sum : ℕ) → sum ≡ cond (recordable l) (total l) 0 → sum ≡ 0 → recordable l ≡ false
-summed-none l sum e z =
+pub summed_none : (l : List ℕ) (sum : ℕ) → sum ≡ cond (recordable l) (total l) 0 → sum ≡ 0 → recordable l ≡ false
+summed_none l sum e z =
     unrecordable l (λ r.
-    let same : cond (recordable l) (total l) 0 ≡ total l = rw (recordable-of l r) in
-    omega (arith, total-least l r))
+    let same : cond (recordable l) (total l) 0 ≡ total l = rw (recordable_of l r) in
+    omega (arith, total_least l r))

@@ -7,48 +7,48 @@ use native.Mathlib.Numerals.{add-one}
 use native.Mathlib.Omega.{arith}
 use lib.ListN.{length, get_or, set, replicate, length-replicate, get_or-replicate}
 use lib.Seq.{ext_get_or}
-use Rattle.words.specs.Below.{listBelow}
+use Rattle.words.specs.Below.{list_below}
 use Rattle.words.proofs.ListLaws.{list_length, list_at}
 use Rattle.text.specs.Text.{same, placed}
 use Rattle.text.proofs.SameLaws.{same_of, not_same}
-use Rattle.text.proofs.PutLaws.{placed-none, placed-more}
+use Rattle.text.proofs.PutLaws.{placed_none, placed_more}
 
 -- Byte by byte
 
 -- all agree with what f says
-pub all_same : (b : List ℕ) (f : ℕ → ℕ) → ((k : ℕ) → k < length b → get_or b k 0 ≡ f k) → same b (listBelow (length b) f) ≡ true
+pub all_same : (b : List ℕ) (f : ℕ → ℕ) → ((k : ℕ) → k < length b → get_or b k 0 ≡ f k) → same b (list_below (length b) f) ≡ true
 all_same b f h =
-    same_of b (listBelow (length b) f)
-    (ext_get_or 0 b (listBelow (length b) f) (sym (list_length (length b) f)) (λ k l. h k l ∙ sym (list_at (length b) f k l)))
+    same_of b (list_below (length b) f)
+    (ext_get_or 0 b (list_below (length b) f) (sym (list_length (length b) f)) (λ k l. h k l ∙ sym (list_at (length b) f k l)))
 
 -- one differs
-pub one-differs : (b : List ℕ) (f : ℕ → ℕ) (k : ℕ) → k < length b → (f k ≡ get_or b k 0 → ⊥) → same b (listBelow (length b) f) ≡ false
-one-differs b f k h n = not_same b (listBelow (length b) f) (λ e. n (sym (list_at (length b) f k h) ∙ ap (λ l. get_or l k 0) (sym e)))
+pub one_differs : (b : List ℕ) (f : ℕ → ℕ) (k : ℕ) → k < length b → (f k ≡ get_or b k 0 → ⊥) → same b (list_below (length b) f) ≡ false
+one_differs b f k h n = not_same b (list_below (length b) f) (λ e. n (sym (list_at (length b) f k h) ∙ ap (λ l. get_or l k 0) (sym e)))
 
-pub one_more : (j : ℕ) (f : ℕ → ℕ) → listBelow (j + 1) f ≡ listBelow j f ++ (f j ∷ [])
-unfolding listBelow
-one_more j f = ap (λ k. listBelow k f) (add-one j)
+pub one_more : (j : ℕ) (f : ℕ → ℕ) → list_below (j + 1) f ≡ list_below j f ++ (f j ∷ [])
+unfolding list_below
+one_more j f = ap (λ k. list_below k f) (add-one j)
 
-pub list-none : (b : List ℕ) (at : ℕ) (f : ℕ → ℕ) → b ≡ placed b at (listBelow 0 f)
-unfolding listBelow
-list-none b at f = sym (placed-none b at)
+pub list_none : (b : List ℕ) (at : ℕ) (f : ℕ → ℕ) → b ≡ placed b at (list_below 0 f)
+unfolding list_below
+list_none b at f = sym (placed_none b at)
 
 -- one byte more stands in the lent bytes
-pub list-more : (b : List ℕ) (at j : ℕ) (f : ℕ → ℕ) → at + j < length b → set (placed b at (listBelow j f)) (at + j) (f j) ≡ placed b at (listBelow (j + 1) f)
-list-more b at j f h =
-    let n : length (listBelow j f) ≡ j = list_length j f in
-    ap (λ k. set (placed b at (listBelow j f)) (at + k) (f j)) (sym n)
-    ∙ placed-more b at (listBelow j f) (f j) (omega arith)
+pub list_more : (b : List ℕ) (at j : ℕ) (f : ℕ → ℕ) → at + j < length b → set (placed b at (list_below j f)) (at + j) (f j) ≡ placed b at (list_below (j + 1) f)
+list_more b at j f h =
+    let n : length (list_below j f) ≡ j = list_length j f in
+    ap (λ k. set (placed b at (list_below j f)) (at + k) (f j)) (sym n)
+    ∙ placed_more b at (list_below j f) (f j) (omega arith)
     ∙ ap (placed b at) (sym (one_more j f))
 
 -- Zeros
 
-pub zeros-all : (b : List ℕ) → ((k : ℕ) → k < length b → get_or b k 0 ≡ 0) → same b (replicate (length b) 0) ≡ true
-zeros-all b h =
+pub zeros_all : (b : List ℕ) → ((k : ℕ) → k < length b → get_or b k 0 ≡ 0) → same b (replicate (length b) 0) ≡ true
+zeros_all b h =
     same_of b (replicate (length b) 0)
     (ext_get_or 0 b (replicate (length b) 0) (sym (length-replicate {A = ℕ} (length b) 0)) (λ k l. h k l ∙ sym (get_or-replicate {A = ℕ} (length b) k 0 0 l)))
 
-pub zeros-not : (b : List ℕ) (k : ℕ) → k < length b → (get_or b k 0 ≡ 0 → ⊥) → same b (replicate (length b) 0) ≡ false
-zeros-not b k h n =
+pub zeros_not : (b : List ℕ) (k : ℕ) → k < length b → (get_or b k 0 ≡ 0 → ⊥) → same b (replicate (length b) 0) ≡ false
+zeros_not b k h n =
     not_same b (replicate (length b) 0)
     (λ e. n (ap (λ x. get_or x k 0) e ∙ get_or-replicate {A = ℕ} (length b) k 0 0 h))

@@ -12,7 +12,7 @@ use Rattle.unit.specs.declared.Refusal.TheVariants.{BadRecord}
 use Rattle.unit.specs.declared.Answer.TheVariants.{Done, Refused}
 use Rattle.plan_record.specs.declared.Shown.{Shown}
 use Rattle.plan_record.specs.declared.Shown.TheVariants as Shown
-use Rattle.plan_record.specs.Read.{countIn, sumIn, listIn, ringIn, isRecord, recordAnswer, reportAnswer, reportList, loadAnswer, loadRing}
+use Rattle.plan_record.specs.Read.{count_in, sum_in, list_in, ring_in, is_record, record_answer, report_answer, report_list, load_answer, load_ring}
 
 -- A number that is shown is one number, and no refusal
 
@@ -24,60 +24,60 @@ abbrev is_number : Shown → Bool
 is_number (Shown.Number n) = true
 is_number (Shown.Refused why) = false
 
-pub number-shown : {m n : ℕ} → Shown.Number m ≡ Shown.Number n → m ≡ n
-number-shown e = ap number_in e
+pub number_shown : {m n : ℕ} → Shown.Number m ≡ Shown.Number n → m ≡ n
+number_shown e = ap number_in e
 
-pub number-not : {A : Type 0} {n : ℕ} {why : Refusal} → Shown.Number n ≡ Shown.Refused why → A
-number-not e = nowhere (ap is_number (sym e))
+pub number_not : {A : Type 0} {n : ℕ} {why : Refusal} → Shown.Number n ≡ Shown.Refused why → A
+number_not e = nowhere (ap is_number (sym e))
 
 -- By the test
 
-accepts : (b : List ℕ) → isRecord b ≡ true → recordAnswer b ≡ Done
-unfolding recordAnswer
+accepts : (b : List ℕ) → is_record b ≡ true → record_answer b ≡ Done
+unfolding record_answer
 accepts b e = rw e
 
-refuses : (b : List ℕ) → isRecord b ≡ false → recordAnswer b ≡ Refused BadRecord
-unfolding recordAnswer
+refuses : (b : List ℕ) → is_record b ≡ false → record_answer b ≡ Refused BadRecord
+unfolding record_answer
 refuses b e = rw e
 
 module _ (b : List ℕ) where
-  pub report-refused : isRecord b ≡ false → Shown.Refused BadRecord ≡ reportAnswer b
-  unfolding reportAnswer
+  pub report-refused : is_record b ≡ false → Shown.Refused BadRecord ≡ report_answer b
+  unfolding report_answer
   report-refused e = rw (refuses b e)
 
-  pub load-refused : isRecord b ≡ false → Shown.Refused BadRecord ≡ loadAnswer b
-  unfolding loadAnswer
+  pub load-refused : is_record b ≡ false → Shown.Refused BadRecord ≡ load_answer b
+  unfolding load_answer
   load-refused e = rw (refuses b e)
 
-  pub list-refused : isRecord b ≡ false → [] ≡ reportList b
-  unfolding reportList
+  pub list-refused : is_record b ≡ false → [] ≡ report_list b
+  unfolding report_list
   list-refused e = rw (refuses b e)
 
-  pub ring-refused : isRecord b ≡ false → [] ≡ loadRing b
-  unfolding loadRing
+  pub ring-refused : is_record b ≡ false → [] ≡ load_ring b
+  unfolding load_ring
   ring-refused e = rw (refuses b e)
 
-  pub report-shown : (r : ℕ) → isRecord b ≡ true → r ≡ countIn b → Shown.Number r ≡ reportAnswer b
-  unfolding reportAnswer
+  pub report-shown : (r : ℕ) → is_record b ≡ true → r ≡ count_in b → Shown.Number r ≡ report_answer b
+  unfolding report_answer
   report-shown r e v = rw (accepts b e) (ap Shown.Number v)
 
-  pub load-shown : (r : ℕ) → isRecord b ≡ true → r ≡ sumIn b → Shown.Number r ≡ loadAnswer b
-  unfolding loadAnswer
+  pub load-shown : (r : ℕ) → is_record b ≡ true → r ≡ sum_in b → Shown.Number r ≡ load_answer b
+  unfolding load_answer
   load-shown r e v = rw (accepts b e) (ap Shown.Number v)
 
-  pub list-is : isRecord b ≡ true → reportList b ≡ listIn b
-  unfolding reportList
+  pub list-is : is_record b ≡ true → report_list b ≡ list_in b
+  unfolding report_list
   list-is e = rw (accepts b e)
 
-  pub ring-is : isRecord b ≡ true → loadRing b ≡ ringIn b
-  unfolding loadRing
+  pub ring-is : is_record b ≡ true → load_ring b ≡ ring_in b
+  unfolding load_ring
   ring-is e = rw (accepts b e)
 
   -- the parts that are handed out
-  pub list-shown : (r : ℕ) → isRecord b ≡ true → r ≡ countIn b → take (8 + r - 8) (drop 8 b) ≡ reportList b
-  list-shown r e v = let k : 8 + r - 8 ≡ countIn b = omega arith in ap (λ i. take i (drop 8 b)) k ∙ sym (list-is e)
+  pub list-shown : (r : ℕ) → is_record b ≡ true → r ≡ count_in b → take (8 + r - 8) (drop 8 b) ≡ report_list b
+  list-shown r e v = let k : 8 + r - 8 ≡ count_in b = omega arith in ap (λ i. take i (drop 8 b)) k ∙ sym (list-is e)
 
-  pub ring-shown : (r : ℕ) → isRecord b ≡ true → r ≡ countIn b → take (length b - (8 + r)) (drop (8 + r) b) ≡ loadRing b
+  pub ring-shown : (r : ℕ) → is_record b ≡ true → r ≡ count_in b → take (length b - (8 + r)) (drop (8 + r) b) ≡ load_ring b
   ring-shown r e v =
       let n : length (drop (8 + r) b) ≤ length b - (8 + r) = omega (arith, length-drop (8 + r) b) in
       take_all (length b - (8 + r)) (drop (8 + r) b) n ∙ ap (λ i. drop (8 + i) b) v ∙ sym (ring-is e)

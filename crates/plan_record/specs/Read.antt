@@ -8,72 +8,72 @@ use Rattle.unit.specs.Calls.{check}
 use Rattle.unit_file.specs.Read.{word16}
 use Rattle.plan_record.specs.declared.Shown.{Shown}
 use Rattle.plan_record.specs.declared.Shown.TheVariants as Shown
-use Rattle.plan_record.specs.Record.{recordable, ringOf, ringBit, recordOf}
+use Rattle.plan_record.specs.Record.{recordable, ring_of, ring_bit, record_of}
 
 -- What stands in the bytes
 
 -- K and the list
-abbrev pub countIn : List ℕ → ℕ
-countIn bytes = word16 bytes 0
+abbrev pub count_in : List ℕ → ℕ
+count_in bytes = word16 bytes 0
 
-abbrev pub listIn : List ℕ → List ℕ
-listIn bytes = take (countIn bytes) (drop 8 bytes)
+abbrev pub list_in : List ℕ → List ℕ
+list_in bytes = take (count_in bytes) (drop 8 bytes)
 
 -- S and the ring
-abbrev pub sumIn : List ℕ → ℕ
-sumIn bytes = word16 bytes 2
+abbrev pub sum_in : List ℕ → ℕ
+sum_in bytes = word16 bytes 2
 
-abbrev pub ringIn : List ℕ → List ℕ
-ringIn bytes = drop (8 + countIn bytes) bytes
+abbrev pub ring_in : List ℕ → List ℕ
+ring_in bytes = drop (8 + count_in bytes) bytes
 
 -- Which bytes are a record
 
 -- the list that stands in them is a cycle that a record holds, and they are its record; so they are exactly the bytes that some such cycle gives
 -- (`AcceptedExactly`, specs/Claims.antt)
-unfoldable pub isRecord : List ℕ → Bool
-isRecord bytes = recordable (listIn bytes) && same bytes (recordOf (listIn bytes))
+unfoldable pub is_record : List ℕ → Bool
+is_record bytes = recordable (list_in bytes) && same bytes (record_of (list_in bytes))
 
 -- 15, for both readers
-unfoldable pub recordAnswer : List ℕ → Answer
-recordAnswer bytes = check (isRecord bytes) BadRecord Done
+unfoldable pub record_answer : List ℕ → Answer
+record_answer bytes = check (is_record bytes) BadRecord Done
 
 abbrev pub showing : Answer → ℕ → Shown
 showing Done n = Shown.Number n
 showing (Refused why) n = Shown.Refused why
 
 -- a part of the record, empty where it is refused
-abbrev pub showingPart : Answer → List ℕ → List ℕ
-showingPart Done part = part
-showingPart (Refused why) part = []
+abbrev pub showing_part : Answer → List ℕ → List ℕ
+showing_part Done part = part
+showing_part (Refused why) part = []
 
 -- The report reader shows K and the list
 
-unfoldable pub reportAnswer : List ℕ → Shown
-reportAnswer bytes = showing (recordAnswer bytes) (countIn bytes)
+unfoldable pub report_answer : List ℕ → Shown
+report_answer bytes = showing (record_answer bytes) (count_in bytes)
 
-unfoldable pub reportList : List ℕ → List ℕ
-reportList bytes = showingPart (recordAnswer bytes) (listIn bytes)
+unfoldable pub report_list : List ℕ → List ℕ
+report_list bytes = showing_part (record_answer bytes) (list_in bytes)
 
 -- The loader shows S and the ring
 
-unfoldable pub loadAnswer : List ℕ → Shown
-loadAnswer bytes = showing (recordAnswer bytes) (sumIn bytes)
+unfoldable pub load_answer : List ℕ → Shown
+load_answer bytes = showing (record_answer bytes) (sum_in bytes)
 
-unfoldable pub loadRing : List ℕ → List ℕ
-loadRing bytes = showingPart (recordAnswer bytes) (ringIn bytes)
+unfoldable pub load_ring : List ℕ → List ℕ
+load_ring bytes = showing_part (record_answer bytes) (ring_in bytes)
 
 -- One view from the other
 
 -- the ring, from K and the list
-abbrev pub ringFromList : ℕ → List ℕ → List ℕ
-ringFromList K l = ringOf (take K l)
+abbrev pub ring_from_list : ℕ → List ℕ → List ℕ
+ring_from_list K l = ring_of (take K l)
 
 -- the latencies of the starts below i, in front of those from i on: where i - 1 is a start, its latency is the interval to the next start
-unfoldable pub intervalsBelow : ℕ → (ℕ → Bool) → ℕ → List ℕ → List ℕ
-intervalsBelow zero start next latencies = latencies
-intervalsBelow (suc i) start next latencies =
-    intervalsBelow i start (cond (start i) i next) (cond (start i) ((next - i) ∷ latencies) latencies)
+unfoldable pub intervals_below : ℕ → (ℕ → Bool) → ℕ → List ℕ → List ℕ
+intervals_below zero start next latencies = latencies
+intervals_below (suc i) start next latencies =
+    intervals_below i start (cond (start i) i next) (cond (start i) ((next - i) ∷ latencies) latencies)
 
 -- the list, from S and the ring: the intervals between the bits of 0 below S, the last up to S
-unfoldable pub listFromRing : ℕ → List ℕ → List ℕ
-listFromRing S ring = intervalsBelow S (λ i. not (ringBit ring i)) S []
+unfoldable pub list_from_ring : ℕ → List ℕ → List ℕ
+list_from_ring S ring = intervals_below S (λ i. not (ring_bit ring i)) S []

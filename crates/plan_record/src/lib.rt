@@ -1,12 +1,12 @@
 // The plan record: a plan's cycle as bytes, for the report, which reads its latencies, and for the controller's loader, which reads document 000's
 // end-around bit ring. Every function here is proved, and every public one is total and without a `requires`; the crate assumes nothing of its own.
 ghost use Rattle.std.specs.Prelude.{◌≡◌, cond, ◌&&◌, ◌+◌, ◌*◌, ◌≤◌, ltb, eqb, length, replicate};
-ghost use Rattle.words.specs.Below.{listBelow};
+ghost use Rattle.words.specs.Below.{list_below};
 ghost use Rattle.text.specs.Text.{same, placed};
 ghost use Rattle.collision.specs.Pipeline.{total};
-ghost use Rattle.plan_record.specs.Record.{Recordable, recordable, ringByte, fields, recordOf, longestRecord};
-ghost use Rattle.plan_record.specs.Read.{isRecord, reportAnswer, reportList, loadAnswer, loadRing};
-ghost use Rattle.plan_record.specs.Write.{cycleIn, holdsCycle, writable, writeAnswer, writeOut};
+ghost use Rattle.plan_record.specs.Record.{Recordable, recordable, ring_byte, fields, record_of, longest_record};
+ghost use Rattle.plan_record.specs.Read.{is_record, report_answer, report_list, load_answer, load_ring};
+ghost use Rattle.plan_record.specs.Write.{cycle_in, holds_cycle, writable, write_answer, write_out};
 ghost use Rattle.plan_record.specs.Inner.{Reached, Made, Field, Writable};
 
 use unit::{Plan, Refusal};
@@ -17,7 +17,7 @@ pub const LONGEST: usize = 1288;
 
 // Zeros, room for every record.
 pub fn area() -> [u8; LONGEST]
-    ensures { result ≡ replicate longestRecord 0 }
+    ensures { result ≡ replicate longest_record 0 }
 {
     [0; LONGEST]
 }
@@ -102,7 +102,7 @@ fn ring_byte(list: &[u8], j: usize, index: usize, next: usize) -> Turned
 // Whether bytes are the first of the ring of a cycle.
 fn ring_matches(ring: &[u8], list: &[u8]) -> bool
     requires { (length ring.now ≤ 1024) × Recordable list.now }
-    ensures { result ≡ same ring.now (listBelow (length ring.now) (ringByte list.now)) }
+    ensures { result ≡ same ring.now (list_below (length ring.now) (ring_byte list.now)) }
 {
     let mut index: usize = 0;
     let mut next: usize = 0;
@@ -122,7 +122,7 @@ fn ring_matches(ring: &[u8], list: &[u8]) -> bool
 // Writes the first `size` bytes of the ring of a cycle from a place on.
 fn write_ring(out: &mut [u8], at: usize, size: usize, list: &[u8])
     requires { (size ≤ 1024) × (at + size ≤ length out.old) × Recordable list.now }
-    ensures { out.new ≡ placed out.old at (listBelow size (ringByte list.now)) }
+    ensures { out.new ≡ placed out.old at (list_below size (ring_byte list.now)) }
 {
     let mut index: usize = 0;
     let mut next: usize = 0;
@@ -146,7 +146,7 @@ fn field_at(bytes: &[u8], at: usize) -> u16
 
 // Whether the bytes are the record of a cycle of 1 to 256 latencies, each 1 to 32.
 fn is_record(bytes: &[u8]) -> bool
-    ensures { result ≡ isRecord bytes.now }
+    ensures { result ≡ is_record bytes.now }
 {
     if bytes.len() < 8 {
         return false;
@@ -179,7 +179,7 @@ fn is_record(bytes: &[u8]) -> bool
 
 // The report reader's number: K.
 pub fn report(bytes: &[u8]) -> Shown
-    ensures { result ≡ reportAnswer bytes.now }
+    ensures { result ≡ report_answer bytes.now }
 {
     if !is_record(bytes) {
         return Shown::Refused(Refusal::BadRecord);
@@ -189,7 +189,7 @@ pub fn report(bytes: &[u8]) -> Shown
 
 // The report reader's list, as a part of the record; empty where the record is refused.
 pub fn report_list(bytes: &[u8]) -> &[u8]
-    ensures { result.now ≡ reportList bytes.now }
+    ensures { result.now ≡ report_list bytes.now }
 {
     if !is_record(bytes) {
         return &bytes[..0];
@@ -200,7 +200,7 @@ pub fn report_list(bytes: &[u8]) -> &[u8]
 
 // The loader's number: S.
 pub fn load(bytes: &[u8]) -> Shown
-    ensures { result ≡ loadAnswer bytes.now }
+    ensures { result ≡ load_answer bytes.now }
 {
     if !is_record(bytes) {
         return Shown::Refused(Refusal::BadRecord);
@@ -210,7 +210,7 @@ pub fn load(bytes: &[u8]) -> Shown
 
 // The loader's ring, as a part of the record; empty where the record is refused.
 pub fn load_ring(bytes: &[u8]) -> &[u8]
-    ensures { result.now ≡ loadRing bytes.now }
+    ensures { result.now ≡ load_ring bytes.now }
 {
     if !is_record(bytes) {
         return &bytes[..0];
@@ -235,7 +235,7 @@ fn all_zero(bytes: &[u8]) -> bool
 
 // Whether some cycle of 1 to 256 latencies, each 1 to 32, gives the plan.
 pub fn holds_cycle(plan: Plan) -> bool
-    ensures { result ≡ holdsCycle plan }
+    ensures { result ≡ holds_cycle plan }
 {
     let count = plan.count as usize;
     if 256 < count {
@@ -272,7 +272,7 @@ fn fields_of(count: u16, sum: u16) -> [u8; 8]
 // Writes the record of a plan's cycle: the fields, the list, the ring.
 fn write_record(out: &mut [u8], plan: Plan)
     requires { Writable plan (length out.old) }
-    ensures { out.new ≡ placed out.old 0 (recordOf (cycleIn plan)) }
+    ensures { out.new ≡ placed out.old 0 (record_of (cycle_in plan)) }
 {
     let count = plan.count as usize;
     let ring_at = 8 + count;
@@ -296,8 +296,8 @@ fn is_writable(plan: Plan) -> bool
 
 // Writes the record of a plan to the front of the lent bytes; the others stay as before.
 pub fn write(plan: Plan, out: &mut [u8]) -> Written
-    ensures value { result ≡ writeAnswer plan (length out.old) }
-    ensures out_after { out.new ≡ writeOut plan out.old }
+    ensures value { result ≡ write_answer plan (length out.old) }
+    ensures out_after { out.new ≡ write_out plan out.old }
 {
     let size = 8 + plan.count as usize + (plan.sum as usize + 7) / 8;
     if !is_writable(plan) {

@@ -18,28 +18,28 @@ use Rattle.unit.specs.declared.Answer.{Answer}
 use Rattle.unit.specs.declared.Answer.TheVariants.{Done, Refused}
 use Rattle.unit.specs.Numbers.{number_of, number_in}
 use Rattle.unit.specs.Table.{Table, changed}
-use Rattle.unit.specs.Unit.{inside, marked, soundPlan, soundOf, goodCounts}
-use Rattle.unit.specs.Calls.{check, andThen, tagAnswer, spotAnswer, noPlan, fresh_of, mark_of, unmarkOf}
-use Rattle.unit.proofs.NumberLaws.{number-some}
-use Rattle.unit.proofs.Laws.{inside_of, sound-has, sound-of}
-use Rattle.unit.proofs.SoundLaws.{Words, inside-means, inside-test}
-use Rattle.unit.proofs.EditLaws.{Edited, mark-accepted, unmark-accepted, mark-refused, unmark-refused, mark-answer, unmark-answer, blank-words, blank-table, fresh-sound}
+use Rattle.unit.specs.Unit.{inside, marked, sound_plan, sound_of, good_counts}
+use Rattle.unit.specs.Calls.{check, and_then, tag_answer, spot_answer, no_plan, fresh_of, mark_of, unmark_of}
+use Rattle.unit.proofs.NumberLaws.{number_some}
+use Rattle.unit.proofs.Laws.{inside_of, sound_has, sound_of_lem}
+use Rattle.unit.proofs.SoundLaws.{Words, inside_means, inside_test}
+use Rattle.unit.proofs.EditLaws.{Edited, mark_accepted, unmark_accepted, mark_refused, unmark_refused, mark_answer, unmark_answer, blank_words, blank_table, fresh_sound}
 use Rattle.collision.specs.Pipeline.{total}
 use Rattle.planner.specs.declared.Handed.{Handed}
-use Rattle.planner.specs.Plans.{Best, plan_of, withPlan, searchAnswer, Found, readAnswer, read_of}
-use Rattle.planner.specs.Sheet.{Call, Reply, replyTo, readReply, Step, Run, Sheet, start, edited, owing, spotNumber, searchNumber, next, fed, told, Agrees, Right, EveryList, Leaves, Noted, EveryUnit}
+use Rattle.planner.specs.Plans.{Best, plan_of, with_plan, search_answer, Found, read_answer, read_of}
+use Rattle.planner.specs.Sheet.{Call, Reply, reply_to, read_reply, Step, Run, Sheet, start, edited, owing, spot_number, search_number, next, fed, told, Agrees, Right, EveryList, Leaves, Noted, EveryUnit}
 use Rattle.planner.specs.Sheet.Call.{Mark, Unmark, Search, Read}
 use Rattle.planner.specs.Sheet.Reply.{accepted}
 
 -- Answers and their numbers
 
-reply-told : (a : Answer) → replyTo a ≡ told (number_in a)
-reply-told Done = refl
-reply-told (Refused why) = simp (number-some why)
+reply_told : (a : Answer) → reply_to a ≡ told (number_in a)
+reply_told Done = refl
+reply_told (Refused why) = simp (number_some why)
 
-number-check : (ok : Bool) (why : Refusal) (rest : Answer) → number_in (check ok why rest) ≡ cond ok (number_in rest) (number_of why)
-number-check true why rest = refl
-number-check false why rest = refl
+number_check : (ok : Bool) (why : Refusal) (rest : Answer) → number_in (check ok why rest) ≡ cond ok (number_in rest) (number_of why)
+number_check true why rest = refl
+number_check false why rest = refl
 
 -- What holds between a unit and the sheet
 
@@ -52,13 +52,13 @@ KeptStep u t k a = Agrees t k a × Kept u (next t k)
 
 -- Edits
 
-spot-number : (u : FunctionUnit) (t : Sheet) (q s c : ℕ) → Kept u t → number_in (spotAnswer u q s c) ≡ spotNumber t q s c
-unfolding spotAnswer spotNumber
-spot-number u t q s c k = simp (k.noted.sound, k.noted.functions, k.noted.segments, k.noted.columns, number-check)
+spot_number_lem : (u : FunctionUnit) (t : Sheet) (q s c : ℕ) → Kept u t → number_in (spot_answer u q s c) ≡ spot_number t q s c
+unfolding spot_answer spot_number
+spot_number_lem u t q s c k = simp (k.noted.sound, k.noted.functions, k.noted.segments, k.noted.columns, number_check)
 
-edit-kept : (u after : FunctionUnit) (t : Sheet) (q s c : ℕ) (b : Bool) → Kept u t → Edited u after q s c b → Kept after (edited t (changed t.table q s c b))
-unfolding noPlan
-edit-kept u after t q s c b k e = record {
+edit_kept : (u after : FunctionUnit) (t : Sheet) (q s c : ℕ) (b : Bool) → Kept u t → Edited u after q s c b → Kept after (edited t (changed t.table q s c b))
+unfolding no_plan
+edit_kept u after t q s c b k e = record {
   noted = record {
     sound = e.sound;
     functions = e.functions ∙ k.noted.functions;
@@ -73,83 +73,83 @@ edit-kept u after t q s c b k e = record {
 }
 
 -- an edit, given what it leaves at each answer
-edit-step : (u after : FunctionUnit) (t : Sheet) (q s c : ℕ) (b : Bool) → Kept u t
-    → (spotAnswer u q s c ≡ Done → Edited u after q s c b) → ((why : Refusal) → spotAnswer u q s c ≡ Refused why → after ≡ u)
-    → Kept after (cond (eqb (spotNumber t q s c) 0) (edited t (changed t.table q s c b)) t)
-edit-step u after t q s c b k d r = go (spotAnswer u q s c) refl
+edit_step : (u after : FunctionUnit) (t : Sheet) (q s c : ℕ) (b : Bool) → Kept u t
+    → (spot_answer u q s c ≡ Done → Edited u after q s c b) → ((why : Refusal) → spot_answer u q s c ≡ Refused why → after ≡ u)
+    → Kept after (cond (eqb (spot_number t q s c) 0) (edited t (changed t.table q s c b)) t)
+edit_step u after t q s c b k d r = go (spot_answer u q s c) refl
   where
-    go : (a : Answer) → spotAnswer u q s c ≡ a → Kept after (cond (eqb (spotNumber t q s c) 0) (edited t (changed t.table q s c b)) t)
+    go : (a : Answer) → spot_answer u q s c ≡ a → Kept after (cond (eqb (spot_number t q s c) 0) (edited t (changed t.table q s c b)) t)
     go Done e =
-        let z : spotNumber t q s c ≡ 0 = sym (spot-number u t q s c k) ∙ ap number_in e in
-        rw z (edit-kept u after t q s c b k (d e))
+        let z : spot_number t q s c ≡ 0 = sym (spot_number_lem u t q s c k) ∙ ap number_in e in
+        rw z (edit_kept u after t q s c b k (d e))
     go (Refused why) e =
-        let z : spotNumber t q s c ≡ number_of why = sym (spot-number u t q s c k) ∙ ap number_in e in
-        rw (z, number-some why) (subst (λ (x : FunctionUnit). Kept x t) (sym (r why e)) k)
+        let z : spot_number t q s c ≡ number_of why = sym (spot_number_lem u t q s c k) ∙ ap number_in e in
+        rw (z, number_some why) (subst (λ (x : FunctionUnit). Kept x t) (sym (r why e)) k)
 
-edit-told : (u : FunctionUnit) (t : Sheet) (q s c : ℕ) (a : Reply) (x : Answer) → Kept u t → a ≡ replyTo x → x ≡ spotAnswer u q s c → a ≡ told (spotNumber t q s c)
-edit-told u t q s c a x k e f = e ∙ ap replyTo f ∙ reply-told (spotAnswer u q s c) ∙ ap told (spot-number u t q s c k)
+edit_told : (u : FunctionUnit) (t : Sheet) (q s c : ℕ) (a : Reply) (x : Answer) → Kept u t → a ≡ reply_to x → x ≡ spot_answer u q s c → a ≡ told (spot_number t q s c)
+edit_told u t q s c a x k e f = e ∙ ap reply_to f ∙ reply_told (spot_answer u q s c) ∙ ap told (spot_number_lem u t q s c k)
 
-mark-step : (u : FunctionUnit) (t : Sheet) (q s c : ℕ) (a : Reply) (after : FunctionUnit) → Kept u t → Step u (Mark q s c) a after → KeptStep after t (Mark q s c) a
-mark-step u t q s c a after k (r, er, ea, eu) = (
-  edit-told u t q s c a r.answer k ea (ap (λ (o : Outcome). o.answer) er ∙ mark-answer u q s c),
+mark_step : (u : FunctionUnit) (t : Sheet) (q s c : ℕ) (a : Reply) (after : FunctionUnit) → Kept u t → Step u (Mark q s c) a after → KeptStep after t (Mark q s c) a
+mark_step u t q s c a after k (r, er, ea, eu) = (
+  edit_told u t q s c a r.answer k ea (ap (λ (o : Outcome). o.answer) er ∙ mark_answer u q s c),
   subst (λ (x : FunctionUnit). Kept x (next t (Mark q s c))) (sym (eu ∙ ap (λ (o : Outcome). o.unit) er))
-      (edit-step u (mark_of u q s c).unit t q s c true k (mark-accepted u q s c k.words) (mark-refused u q s c)),
+      (edit_step u (mark_of u q s c).unit t q s c true k (mark_accepted u q s c k.words) (mark_refused u q s c)),
 )
 
-unmark-step : (u : FunctionUnit) (t : Sheet) (q s c : ℕ) (a : Reply) (after : FunctionUnit) → Kept u t → Step u (Unmark q s c) a after → KeptStep after t (Unmark q s c) a
-unmark-step u t q s c a after k (r, er, ea, eu) = (
-  edit-told u t q s c a r.answer k ea (ap (λ (o : Outcome). o.answer) er ∙ unmark-answer u q s c),
+unmark_step : (u : FunctionUnit) (t : Sheet) (q s c : ℕ) (a : Reply) (after : FunctionUnit) → Kept u t → Step u (Unmark q s c) a after → KeptStep after t (Unmark q s c) a
+unmark_step u t q s c a after k (r, er, ea, eu) = (
+  edit_told u t q s c a r.answer k ea (ap (λ (o : Outcome). o.answer) er ∙ unmark_answer u q s c),
   subst (λ (x : FunctionUnit). Kept x (next t (Unmark q s c))) (sym (eu ∙ ap (λ (o : Outcome). o.unit) er))
-      (edit-step u (unmarkOf u q s c).unit t q s c false k (unmark-accepted u q s c k.words) (unmark-refused u q s c)),
+      (edit_step u (unmark_of u q s c).unit t q s c false k (unmark_accepted u q s c k.words) (unmark_refused u q s c)),
 )
 
 -- A search
 
-search-number : (u : FunctionUnit) (t : Sheet) (q room : ℕ) → Kept u t → number_in (searchAnswer u q room) ≡ searchNumber t q room
-unfolding searchAnswer searchNumber tagAnswer
-search-number u t q room k = simp (k.noted.sound, k.noted.functions, k.noted.table) (go (inside q t.functions))
+search_number_lem : (u : FunctionUnit) (t : Sheet) (q room : ℕ) → Kept u t → number_in (search_answer u q room) ≡ search_number t q room
+unfolding search_answer search_number tag_answer
+search_number_lem u t q room k = simp (k.noted.sound, k.noted.functions, k.noted.table) (go (inside q t.functions))
   where
-    go : (b : Bool) → number_in (andThen (check b NoSuchTag Done) (check (leb 16000 room) ShortWork (check (leb (length (Rattle.diagram.specs.Answers.statesOf 1 t.table q)) 256) TooManyStates Done)))
-        ≡ cond b (cond (leb 16000 room) (cond (leb (length (Rattle.diagram.specs.Answers.statesOf 1 t.table q)) 256) 0 7) 5) 2
-    go true = simp number-check
+    go : (b : Bool) → number_in (and_then (check b NoSuchTag Done) (check (leb 16000 room) ShortWork (check (leb (length (Rattle.diagram.specs.Answers.states_of 1 t.table q)) 256) TooManyStates Done)))
+        ≡ cond b (cond (leb 16000 room) (cond (leb (length (Rattle.diagram.specs.Answers.states_of 1 t.table q)) 256) 0 7) 5) 2
+    go true = simp number_check
     go false = refl
 
-plan-sound : (q n : ℕ) → 1 ≤ n → n ≤ 256 → soundPlan q n ≡ true
-plan-sound q n a b = simp (inside_of n 256 a b) (cond_same (eqb q 0) true)
+plan_sound : (q n : ℕ) → 1 ≤ n → n ≤ 256 → sound_plan q n ≡ true
+plan_sound q n a b = simp (inside_of n 256 a b) (cond_same (eqb q 0) true)
 
 -- a unit with another plan has the same marks
-pub plan-marks : (u : FunctionUnit) (p : Plan) → marked (withPlan u p) ≡ marked u
+pub plan_marks : (u : FunctionUnit) (p : Plan) → marked (with_plan u p) ≡ marked u
 unfolding marked
-plan-marks u p = refl
+plan_marks u p = refl
 
 -- what a search leaves of a sound unit is sound
-pub found-sound : (u : FunctionUnit) (q : ℕ) (after : FunctionUnit) → soundOf u ≡ true → Found u q after → soundOf after ≡ true
-found-sound u q after e f =
-    let d = sound-has u e in
+pub found_sound : (u : FunctionUnit) (q : ℕ) (after : FunctionUnit) → sound_of u ≡ true → Found u q after → sound_of after ≡ true
+found_sound u q after e f =
+    let d = sound_has u e in
     let p = plan_of q f.cycle in
-    ap soundOf f.unit
-    ∙ sound-of (withPlan u p) (record {
+    ap sound_of f.unit
+    ∙ sound_of_lem (with_plan u p) (record {
       functions = d.functions;
       segments = d.segments;
       columns = d.columns;
-      plan = plan-sound q (length f.cycle) f.best.latencies.nonempty f.few;
-      marks = inside-test (withPlan u p) (λ x y z m. inside-means u d.marks x y z (sym (ap (λ g. g x y z) (plan-marks u p)) ∙ m));
+      plan = plan_sound q (length f.cycle) f.best.latencies.nonempty f.few;
+      marks = inside_test (with_plan u p) (λ x y z m. inside_means u d.marks x y z (sym (ap (λ g. g x y z) (plan_marks u p)) ∙ m));
     })
 
-found-kept : (u : FunctionUnit) (t : Sheet) (q : ℕ) (after : FunctionUnit) → Kept u t → inside q t.functions ≡ true → Found u q after
+found_kept : (u : FunctionUnit) (t : Sheet) (q : ℕ) (after : FunctionUnit) → Kept u t → inside q t.functions ≡ true → Found u q after
     → Kept after (owing t q)
-found-kept u t q after k member f =
+found_kept u t q after k member f =
     let cycle = f.cycle in
     let p = plan_of q cycle in
     let e : take (length cycle) (cycle ++ replicate (256 - length cycle) 0) ≡ cycle = take-append_seam cycle (replicate (256 - length cycle) 0) in
     subst (λ (x : FunctionUnit). Kept x (owing t q)) (sym f.unit)
     (record {
       noted = record {
-        sound = ap soundOf (sym f.unit) ∙ found-sound u q after k.noted.sound f;
+        sound = ap sound_of (sym f.unit) ∙ found_sound u q after k.noted.sound f;
         functions = k.noted.functions;
         segments = k.noted.segments;
         columns = k.noted.columns;
-        table = plan-marks u p ∙ k.noted.table;
+        table = plan_marks u p ∙ k.noted.table;
         tag = refl;
         member = λ ne. member;
         plan = λ ne. record {
@@ -166,48 +166,48 @@ found-kept u t q after k member f =
     })
 
 -- a search that is not refused is for one of the functions
-search-member : (t : Sheet) (q room : ℕ) → searchNumber t q room ≡ 0 → inside q t.functions ≡ true
-unfolding searchNumber
-search-member t q room = go (inside q t.functions)
+search_member : (t : Sheet) (q room : ℕ) → search_number t q room ≡ 0 → inside q t.functions ≡ true
+unfolding search_number
+search_member t q room = go (inside q t.functions)
   where
-    go : (b : Bool) → ◌≡◌ {A = ℕ} (cond b (cond (leb 16000 room) (cond (leb (length (Rattle.diagram.specs.Answers.statesOf 1 t.table q)) 256) 0 7) 5) 2) 0 → b ≡ true
+    go : (b : Bool) → ◌≡◌ {A = ℕ} (cond b (cond (leb 16000 room) (cond (leb (length (Rattle.diagram.specs.Answers.states_of 1 t.table q)) 256) 0 7) 5) 2) 0 → b ≡ true
     go true e = refl
     go false e = absurd (omega (arith, e))
 
-search-step : (u : FunctionUnit) (t : Sheet) (q room : ℕ) (a : Reply) (after : FunctionUnit) → Kept u t → Step u (Search q room) a after → KeptStep after t (Search q room) a
-search-step u t q room a after k h = (
-  h.told ∙ reply-told h.answer ∙ ap told (ap number_in says ∙ search-number u t q room k),
+search_step : (u : FunctionUnit) (t : Sheet) (q room : ℕ) (a : Reply) (after : FunctionUnit) → Kept u t → Step u (Search q room) a after → KeptStep after t (Search q room) a
+search_step u t q room a after k h = (
+  h.told ∙ reply_told h.answer ∙ ap told (ap number_in says ∙ search_number_lem u t q room k),
   go h.answer refl,
 )
   where
-    says : h.answer ≡ searchAnswer u q room
-    says = h.promise.says ∙ ap (searchAnswer u q) h.lent
+    says : h.answer ≡ search_answer u q room
+    says = h.promise.says ∙ ap (search_answer u q) h.lent
 
     go : (x : Answer) → h.answer ≡ x → Kept after (next t (Search q room))
     go Done e =
-        let z : searchNumber t q room ≡ 0 = sym (search-number u t q room k) ∙ ap number_in (sym says ∙ e) in
-        rw z (found-kept u t q after k (search-member t q room z) (h.promise.found e))
+        let z : search_number t q room ≡ 0 = sym (search_number_lem u t q room k) ∙ ap number_in (sym says ∙ e) in
+        rw z (found_kept u t q after k (search_member t q room z) (h.promise.found e))
     go (Refused why) e =
-        let z : searchNumber t q room ≡ number_of why = sym (search-number u t q room k) ∙ ap number_in (sym says ∙ e) in
-        rw (z, number-some why) (subst (λ (x : FunctionUnit). Kept x t) (sym (h.promise.kept why e)) k)
+        let z : search_number t q room ≡ number_of why = sym (search_number_lem u t q room k) ∙ ap number_in (sym says ∙ e) in
+        rw (z, number_some why) (subst (λ (x : FunctionUnit). Kept x t) (sym (h.promise.kept why e)) k)
 
 -- A read
 
-read_none : (u : FunctionUnit) → soundOf u ≡ true → u.plan.tag ≡ 0 → read_of u ≡ record { answer = Refused NoPlan; plan = noPlan }
-unfolding read_of readAnswer
+read_none : (u : FunctionUnit) → sound_of u ≡ true → u.plan.tag ≡ 0 → read_of u ≡ record { answer = Refused NoPlan; plan = no_plan }
+unfolding read_of read_answer
 read_none u h z = simp (h, eq-eqb u.plan.tag 0 z)
 
-read_some : (u : FunctionUnit) → soundOf u ≡ true → (u.plan.tag ≡ 0 → ⊥) → read_of u ≡ record { answer = Done; plan = u.plan }
-unfolding read_of readAnswer
+read_some : (u : FunctionUnit) → sound_of u ≡ true → (u.plan.tag ≡ 0 → ⊥) → read_of u ≡ record { answer = Done; plan = u.plan }
+unfolding read_of read_answer
 read_some u h ne = simp (h, ne_eqb u.plan.tag 0 ne)
 
 read_step : (u : FunctionUnit) (t : Sheet) (a : Reply) (after : FunctionUnit) → Kept u t → Step u Read a after → KeptStep after t Read a
 read_step u t a after k (r, er, ea, eu) = (
   record {
-    none = λ z. ea ∙ ap (λ (h : Handed). readReply h.answer h.plan) (er ∙ read_none u k.noted.sound (k.noted.tag ∙ z));
+    none = λ z. ea ∙ ap (λ (h : Handed). read_reply h.answer h.plan) (er ∙ read_none u k.noted.sound (k.noted.tag ∙ z));
     some = λ ne. (
       u.plan,
-      ea ∙ ap (λ (h : Handed). readReply h.answer h.plan) (er ∙ read_some u k.noted.sound (λ e. ne (sym k.noted.tag ∙ e))),
+      ea ∙ ap (λ (h : Handed). read_reply h.answer h.plan) (er ∙ read_some u k.noted.sound (λ e. ne (sym k.noted.tag ∙ e))),
       k.noted.plan ne,
     );
   },
@@ -217,46 +217,46 @@ read_step u t a after k (r, er, ea, eu) = (
 -- Every list of calls
 
 each_step : (k : Call) (u : FunctionUnit) (t : Sheet) (a : Reply) (after : FunctionUnit) → Kept u t → Step u k a after → KeptStep after t k a
-each_step (Mark q s c) u t a after = mark-step u t q s c a after
-each_step (Unmark q s c) u t a after = unmark-step u t q s c a after
-each_step (Search q room) u t a after = search-step u t q room a after
+each_step (Mark q s c) u t a after = mark_step u t q s c a after
+each_step (Unmark q s c) u t a after = unmark_step u t q s c a after
+each_step (Search q room) u t a after = search_step u t q room a after
 each_step Read u t a after = read_step u t a after
 
-every-run : (calls : List Call) (replies : List Reply) (u : FunctionUnit) (t : Sheet) → Kept u t → Run u calls replies → Right t calls replies
-every-run [] [] u t k run = tt
-every-run [] (a ∷ replies) u t k run = run
-every-run (c ∷ calls) [] u t k run = run
-every-run (c ∷ calls) (a ∷ replies) u t k (after, step, run) =
+every_run : (calls : List Call) (replies : List Reply) (u : FunctionUnit) (t : Sheet) → Kept u t → Run u calls replies → Right t calls replies
+every_run [] [] u t k run = tt
+every_run [] (a ∷ replies) u t k run = run
+every_run (c ∷ calls) [] u t k run = run
+every_run (c ∷ calls) (a ∷ replies) u t k (after, step, run) =
     let s = each_step c u t a after k step in
-    (s.0, every-run calls replies after (next t c) s.1 run)
+    (s.0, every_run calls replies after (next t c) s.1 run)
 
-fresh_kept : (f s c : ℕ) → goodCounts f s c ≡ true → Kept (fresh_of f s c).unit (start f s c)
-unfolding fresh_of noPlan
+fresh_kept : (f s c : ℕ) → good_counts f s c ≡ true → Kept (fresh_of f s c).unit (start f s c)
+unfolding fresh_of no_plan
 fresh_kept f s c g = record {
   noted = record {
-    sound = fresh-sound f s c g;
+    sound = fresh_sound f s c g;
     functions = refl;
     segments = refl;
     columns = refl;
-    table = blank-table f s c;
+    table = blank_table f s c;
     tag = refl;
     member = λ ne. absurd (ne refl);
     plan = λ ne. absurd (ne refl);
   };
-  words = blank-words f s c;
+  words = blank_words f s c;
 }
 
-pub every-list : EveryList
-every-list f s c g calls replies run = every-run calls replies (fresh_of f s c).unit (start f s c) (fresh_kept f s c g) run
+pub every_list : EveryList
+every_list f s c g calls replies run = every_run calls replies (fresh_of f s c).unit (start f s c) (fresh_kept f s c g) run
 
 -- the same by position: the reply to a call, and the sheet that was fed the calls before it
-pub right-at : (before : List Call) (k : Call) (rest : List Call) (replies : List Reply) (t : Sheet)
+pub right_at : (before : List Call) (k : Call) (rest : List Call) (replies : List Reply) (t : Sheet)
     → Right t (before ++ k ∷ rest) replies → Agrees (fed t before) k (get_or replies (length before) accepted)
 unfolding fed
-right-at [] k rest [] t r = absurd r
-right-at [] k rest (a ∷ replies) t r = r.0
-right-at (c ∷ before) k rest [] t r = absurd r
-right-at (c ∷ before) k rest (a ∷ replies) t r = right-at before k rest replies (next t c) r.1
+right_at [] k rest [] t r = absurd r
+right_at [] k rest (a ∷ replies) t r = r.0
+right_at (c ∷ before) k rest [] t r = absurd r
+right_at (c ∷ before) k rest (a ∷ replies) t r = right_at before k rest replies (next t c) r.1
 
 -- The unit that a list of calls leaves
 
@@ -267,12 +267,12 @@ leaves_run [] (a ∷ replies) u left run = run
 leaves_run (c ∷ calls) [] u left run = run
 leaves_run (c ∷ calls) (a ∷ replies) u left (after, step, run) = (after, step, leaves_run calls replies after left run)
 
-every-left : (calls : List Call) (replies : List Reply) (u left : FunctionUnit) (t : Sheet) → Kept u t → Leaves u calls replies left → Kept left (fed t calls)
+every_left : (calls : List Call) (replies : List Reply) (u left : FunctionUnit) (t : Sheet) → Kept u t → Leaves u calls replies left → Kept left (fed t calls)
 unfolding fed
-every-left [] [] u left t k e = subst (λ (x : FunctionUnit). Kept x t) (sym e) k
-every-left [] (a ∷ replies) u left t k run = absurd run
-every-left (c ∷ calls) [] u left t k run = absurd run
-every-left (c ∷ calls) (a ∷ replies) u left t k (after, step, run) = every-left calls replies after left (next t c) (each_step c u t a after k step).1 run
+every_left [] [] u left t k e = subst (λ (x : FunctionUnit). Kept x t) (sym e) k
+every_left [] (a ∷ replies) u left t k run = absurd run
+every_left (c ∷ calls) [] u left t k run = absurd run
+every_left (c ∷ calls) (a ∷ replies) u left t k (after, step, run) = every_left calls replies after left (next t c) (each_step c u t a after k step).1 run
 
-pub every-unit : EveryUnit
-every-unit f s c g calls replies u run = (every-left calls replies (fresh_of f s c).unit u (start f s c) (fresh_kept f s c g) run).noted
+pub every_unit : EveryUnit
+every_unit f s c g calls replies u run = (every_left calls replies (fresh_of f s c).unit u (start f s c) (fresh_kept f s c g) run).noted

@@ -17,28 +17,28 @@ use Rattle.unit.specs.declared.Answer.{Answer}
 use Rattle.unit.specs.declared.Answer.TheVariants.{Done, Refused}
 use Rattle.unit.specs.Table.{Table}
 use Rattle.unit.specs.Unit.{marked}
-use Rattle.unit.specs.Calls.{check, andThen, tagAnswer}
+use Rattle.unit.specs.Calls.{check, and_then, tag_answer}
 use Rattle.unit.proofs.Laws.{never_done}
 use Rattle.collision.specs.Pipeline.{total}
-use Rattle.collision.specs.Vector.{vectorWord}
-use Rattle.collision.proofs.VectorLaws.{marked-bounded, vector-lt}
+use Rattle.collision.specs.Vector.{vector_word}
+use Rattle.collision.proofs.VectorLaws.{marked_bounded, vector-lt}
 use Rattle.diagram.specs.Diagram.{width, longest}
 use Rattle.diagram.specs.States.{states}
-use Rattle.diagram.specs.Answers.{statesOf, fewStates}
+use Rattle.diagram.specs.Answers.{states_of, few_states}
 use Rattle.diagram.specs.Cycles.{CycleFrom}
 use Rattle.diagram.proofs.StatesLaws.{Vector}
 use Rattle.diagram.proofs.Walks.{walk-permits}
-use Rattle.diagram.proofs.WidthLaws.{width-le}
+use Rattle.diagram.proofs.WidthLaws.{width_le}
 use Rattle.cycles.specs.Greedy.{WorkAfter}
 use Rattle.graphs.specs.Rotation.{rotate}
-use Rattle.cycles.specs.Rotation.{firstRotation}
-use Rattle.graphs.proofs.Rotations.{rotate-length}
+use Rattle.cycles.specs.Rotation.{first_rotation}
+use Rattle.graphs.proofs.Rotations.{rotate_length}
 use Rattle.mean_cycle.specs.declared.Cycle.{Cycle}
 use Rattle.mean_cycle.specs.declared.Answer.TheVariants.{No, Found}
 use Rattle.mean_cycle.specs.Mean.{Floor, LeastMean, searchable, Searched}
-use Rattle.planner.specs.Plans.{Best, plan_of, withPlan, searchAnswer, SearchPromise}
-use Rattle.planner.specs.Inner.{found, inFirstRotation, Small, Standing, BestPlan, Sought}
-use Rattle.planner.proofs.PlanLaws.{found-length, found_at}
+use Rattle.planner.specs.Plans.{Best, plan_of, with_plan, search_answer, SearchPromise}
+use Rattle.planner.specs.Inner.{found, in_first_rotation, Small, Standing, BestPlan, Sought}
+use Rattle.planner.proofs.PlanLaws.{found_length, found_at}
 use Rattle.planner.proofs.BestLaws.{best_of}
 
 -- What is left as it was
@@ -49,19 +49,19 @@ untouched answer before = record { size = refl; beyond = λ i h. refl; kept = λ
 not_found : {A : Type 0} (answer : Answer) (why : Refusal) → answer ≡ Refused why → answer ≡ Done → A
 not_found answer why e d = never_done (sym e ∙ d)
 
-pub sought-refused : (u : FunctionUnit) (q : ℕ) (before : List ℕ) (why : Refusal) (answer : Answer) (p : Plan)
-    → tagAnswer u q ≡ Refused why → answer ≡ Refused why → Sought u q before before answer p
-unfolding searchAnswer
-sought-refused u q before why answer p t e = record {
-  says = e ∙ sym (ap (λ a. andThen a (check (leb 16000 (length before)) ShortWork (fewStates 1 (marked u) q))) t);
+pub sought_refused : (u : FunctionUnit) (q : ℕ) (before : List ℕ) (why : Refusal) (answer : Answer) (p : Plan)
+    → tag_answer u q ≡ Refused why → answer ≡ Refused why → Sought u q before before answer p
+unfolding search_answer
+sought_refused u q before why answer p t e = record {
+  says = e ∙ sym (ap (λ a. and_then a (check (leb 16000 (length before)) ShortWork (few_states 1 (marked u) q))) t);
   found = λ d. not_found answer why e d;
   work = untouched answer before;
 }
 
-pub sought-short : (u : FunctionUnit) (q w : ℕ) (before : List ℕ) (answer : Answer) (p : Plan)
+pub sought_short : (u : FunctionUnit) (q w : ℕ) (before : List ℕ) (answer : Answer) (p : Plan)
     → Vector u q w → length before < 16000 → answer ≡ Refused ShortWork → Sought u q before before answer p
-unfolding searchAnswer
-sought-short u q w before answer p v h e = record {
+unfolding search_answer
+sought_short u q w before answer p v h e = record {
   says = e ∙ sym (simp (v.accepted, lt-leb 16000 (length before) h));
   found = λ d. not_found answer ShortWork e d;
   work = untouched answer before;
@@ -73,18 +73,18 @@ module _ (u : FunctionUnit) (q w : ℕ) (before : List ℕ) (v : Vector u q w) (
   few-test : searchable (length before) 1 w ≡ leb (length (states 256 1 (width w) w)) 256
   unfolding searchable
   few-test =
-      let low : w < 2 ^ 31 = subst (λ (x : ℕ). x < 2 ^ 31) v.word (vector-lt (marked u) (marked-bounded u) q) in
+      let low : w < 2 ^ 31 = subst (λ (x : ℕ). x < 2 ^ 31) v.word (vector-lt (marked u) (marked_bounded u) q) in
       simp (le-leb 2048 (length before) (omega arith), lt-ltb w (2 ^ 31) low)
 
-  answer-is : (b : Bool) → searchable (length before) 1 w ≡ b → searchAnswer u q (length before) ≡ check b TooManyStates Done
-  unfolding searchAnswer
+  answer-is : (b : Bool) → searchable (length before) 1 w ≡ b → search_answer u q (length before) ≡ check b TooManyStates Done
+  unfolding search_answer
   answer-is b e =
-      let same : leb (length (statesOf 1 (marked u) q)) 256 ≡ b =
+      let same : leb (length (states_of 1 (marked u) q)) 256 ≡ b =
       ap (λ x. leb (length (states 256 1 (width x) x)) 256) v.word ∙ sym few-test ∙ e in
       simp (v.accepted, le-leb 16000 (length before) h, same)
 
-  pub sought-many : (words : List ℕ) (answer : Answer) (p : Plan) → Searched 1 w before words No → answer ≡ Refused TooManyStates → Sought u q before words answer p
-  sought-many words answer p s e = record {
+  pub sought_many : (words : List ℕ) (answer : Answer) (p : Plan) → Searched 1 w before words No → answer ≡ Refused TooManyStates → Sought u q before words answer p
+  sought_many words answer p s e = record {
     says = e ∙ sym (answer-is false (sym s.answer));
     found = λ d. not_found answer TooManyStates e d;
     work = record {
@@ -110,7 +110,7 @@ module _ (u : FunctionUnit) (q w : ℕ) (before : List ℕ) (v : Vector u q w) (
     label-low : (i : ℕ) → i < c.count → get_or (found words c.count) i 0 ≤ 33
     label-low i l =
         let p = walk-permits least.cycle.closed i (omega (arith, long)) in
-        omega (arith, p.small, width-le w)
+        omega (arith, p.small, width_le w)
 
     label_small : (i : ℕ) → i < c.count → get_or words (1536 + i) 0 < 2 ^ 8
     label_small i l = omega (arith, label-low i l, found_at words c.count i l)
@@ -120,20 +120,20 @@ module _ (u : FunctionUnit) (q w : ℕ) (before : List ℕ) (v : Vector u q w) (
       some = least.some;
       latencies = record { room = room; few = least.few; small = label_small };
       adds = least.adds;
-      low = omega (arith, least.adds, least.few, total-most 33 (found words c.count) (λ i l. label-low i (omega (arith, long))), long);
+      low = omega (arith, least.adds, least.few, total_most 33 (found words c.count) (λ i l. label-low i (omega (arith, long))), long);
     }
       where
-        total-most : (b : ℕ) (l : List ℕ) → ((i : ℕ) → i < length l → get_or l i 0 ≤ b) → total l ≤ length l * b
-        total-most b [] f = omega arith
-        total-most b (x ∷ l) f = omega (arith, f 0 (omega arith), total-most b l (λ i k. f (suc i) (omega arith)), suc-mul (length l) b)
+        total_most : (b : ℕ) (l : List ℕ) → ((i : ℕ) → i < length l → get_or l i 0 ≤ b) → total l ≤ length l * b
+        total_most b [] f = omega arith
+        total_most b (x ∷ l) f = omega (arith, f 0 (omega arith), total_most b l (λ i k. f (suc i) (omega arith)), suc-mul (length l) b)
 
-    pub sought-found : (p : Plan) → p ≡ plan_of q (inFirstRotation (found words c.count)) → Sought u q before words Done p
+    pub sought-found : (p : Plan) → p ≡ plan_of q (in_first_rotation (found words c.count)) → Sought u q before words Done p
     sought-found p e = record {
       says = sym (answer-is true (sym s.answer));
       found = λ d. record {
-        cycle = inFirstRotation l;
-        few = omega (arith, rotate-length l (firstRotation l), long, least.few);
-        best = best_of (marked u) (marked-bounded u) q l (omega (arith, long, least.some)) (rw v.word least.cycle)
+        cycle = in_first_rotation l;
+        few = omega (arith, rotate_length l (first_rotation l), long, least.few);
+        best = best_of (marked u) (marked_bounded u) q l (omega (arith, long, least.some)) (rw v.word least.cycle)
             (rw (v.word, long, ← least.adds) least.floor);
         plan = e;
       };
@@ -149,22 +149,22 @@ module _ (u : FunctionUnit) (q w : ℕ) (before : List ℕ) (v : Vector u q w) (
 
 -- What the call promises
 
-pub search-refused : (u : FunctionUnit) (q : ℕ) (before words : List ℕ) (answer : Answer) (p : Plan) (why : Refusal)
+pub search_refused : (u : FunctionUnit) (q : ℕ) (before words : List ℕ) (answer : Answer) (p : Plan) (why : Refusal)
     → Sought u q before words answer p → answer ≡ Refused why → SearchPromise u q before words answer u
-search-refused u q before words answer p why s e = record {
+search_refused u q before words answer p why s e = record {
   says = s.says;
   kept = λ other f. refl;
   found = λ d. not_found answer why e d;
   work = s.work;
 }
 
-pub search-found : (u : FunctionUnit) (q : ℕ) (before words : List ℕ) (answer : Answer) (p : Plan)
-    → Sought u q before words answer p → answer ≡ Done → SearchPromise u q before words Done (withPlan u p)
-search-found u q before words answer p s d =
+pub search_found : (u : FunctionUnit) (q : ℕ) (before words : List ℕ) (answer : Answer) (p : Plan)
+    → Sought u q before words answer p → answer ≡ Done → SearchPromise u q before words Done (with_plan u p)
+search_found u q before words answer p s d =
     let b = s.found d in
     record {
       says = sym d ∙ s.says;
       kept = λ why f. never_done (sym f);
-      found = λ e. record { cycle = b.cycle; few = b.few; best = b.best; unit = ap (withPlan u) b.plan };
+      found = λ e. record { cycle = b.cycle; few = b.few; best = b.best; unit = ap (with_plan u) b.plan };
       work = subst (λ (a : Answer). WorkAfter a before words) d s.work;
     }

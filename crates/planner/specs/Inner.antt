@@ -8,17 +8,17 @@ use Rattle.unit.specs.Unit.{marked}
 use Rattle.collision.specs.Pipeline.{total}
 use Rattle.cycles.specs.Greedy.{WorkAfter}
 use Rattle.graphs.specs.Rotation.{rotate}
-use Rattle.cycles.specs.Rotation.{firstRotation}
+use Rattle.cycles.specs.Rotation.{first_rotation}
 use Rattle.mean_cycle.specs.declared.Cycle.{Cycle}
-use Rattle.planner.specs.Plans.{Best, plan_of, searchAnswer}
+use Rattle.planner.specs.Plans.{Best, plan_of, search_answer}
 
 -- the latencies of a cycle of that many, which stand in the working words from 1536 on
 abbrev pub found : List ℕ → ℕ → List ℕ
 found w count = take count (drop 1536 w)
 
 -- the rotation of a cycle that comes first
-abbrev pub inFirstRotation : List ℕ → List ℕ
-inFirstRotation l = rotate l (firstRotation l)
+abbrev pub in_first_rotation : List ℕ → List ℕ
+in_first_rotation l = rotate l (first_rotation l)
 
 -- they are there, and each fits a byte
 pub record Small (w : List ℕ) (count : ℕ) : Type 0 where
@@ -42,6 +42,6 @@ pub record BestPlan (u : FunctionUnit) (q : ℕ) (p : Plan) : Type 0 where
 
 -- what the search before its plan is stored finds
 pub record Sought (u : FunctionUnit) (q : ℕ) (before words : List ℕ) (answer : Answer) (p : Plan) : Type 0 where
-  pub says : answer ≡ searchAnswer u q (length before)
+  pub says : answer ≡ search_answer u q (length before)
   pub found : answer ≡ Done → BestPlan u q p
   pub work : WorkAfter answer before words

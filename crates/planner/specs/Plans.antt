@@ -7,13 +7,13 @@ use Rattle.unit.specs.declared.Refusal.TheVariants.{NotSound, ShortWork, TooMany
 use Rattle.unit.specs.declared.Answer.{Answer}
 use Rattle.unit.specs.declared.Answer.TheVariants.{Done, Refused}
 use Rattle.unit.specs.Table.{Table}
-use Rattle.unit.specs.Unit.{marked, soundOf}
-use Rattle.unit.specs.Calls.{check, andThen, tagAnswer, noPlan}
+use Rattle.unit.specs.Unit.{marked, sound_of}
+use Rattle.unit.specs.Calls.{check, and_then, tag_answer, no_plan}
 use Rattle.collision.specs.Pipeline.{Cycle, total, NeverCollides}
-use Rattle.collision.specs.Vector.{vectorWord}
+use Rattle.collision.specs.Vector.{vector_word}
 use Rattle.diagram.specs.Diagram.{width}
 use Rattle.diagram.specs.Cycles.{CycleFrom}
-use Rattle.diagram.specs.Answers.{fewStates}
+use Rattle.diagram.specs.Answers.{few_states}
 use Rattle.cycles.specs.Greedy.{WorkAfter}
 use Rattle.cycles.specs.Rotation.{LeastRotated}
 use Rattle.planner.specs.declared.Handed.{Handed}
@@ -24,12 +24,12 @@ use Rattle.planner.specs.declared.Handed.{Handed}
 -- of m latencies of any size with sum T, has T × K at least S × m
 pub record Best (g : ℕ) (T : Table) (q : ℕ) (cycle : List ℕ) : Type 0 where
   pub latencies : Cycle g cycle
-  pub diagram : CycleFrom g (width (vectorWord T q)) (vectorWord T q) cycle
+  pub diagram : CycleFrom g (width (vector_word T q)) (vector_word T q) cycle
   pub rotation : LeastRotated cycle
   pub never : NeverCollides T q cycle
   pub least : (rival : List ℕ) → Cycle g rival → NeverCollides T q rival → total cycle * length rival ≤ total rival * length cycle
 
--- any two best cycles have the same average, S × K' = S' × K: free is which of them is found, and not its average (`same-average`, proofs/BestLaws.antt)
+-- any two best cycles have the same average, S × K' = S' × K: free is which of them is found, and not its average (`same_average`, proofs/BestLaws.antt)
 abbrev pub SameAverage : Type 0
 SameAverage = (g : ℕ) (T : Table) (q : ℕ) (a b : List ℕ) → Best g T q a → Best g T q b → total a * length b ≡ total b * length a
 
@@ -45,8 +45,8 @@ plan_of q cycle = record {
 }
 
 -- the plan is stored in place of an older one
-abbrev pub withPlan : FunctionUnit → Plan → FunctionUnit
-withPlan u p = record {
+abbrev pub with_plan : FunctionUnit → Plan → FunctionUnit
+with_plan u p = record {
   functions = u.functions;
   segments = u.segments;
   columns = u.columns;
@@ -56,32 +56,32 @@ withPlan u p = record {
 
 -- Search
 
-unfoldable pub searchAnswer : FunctionUnit → ℕ → ℕ → Answer
-searchAnswer u q room = andThen (tagAnswer u q) (check (leb 16000 room) ShortWork (fewStates 1 (marked u) q))
+unfoldable pub search_answer : FunctionUnit → ℕ → ℕ → Answer
+search_answer u q room = and_then (tag_answer u q) (check (leb 16000 room) ShortWork (few_states 1 (marked u) q))
 
 -- Free is which of several cycles of least average is found.
 pub record Found (u : FunctionUnit) (q : ℕ) (after : FunctionUnit) : Type 0 where
   pub cycle : List ℕ
   pub few : length cycle ≤ 256
   pub best : Best 1 (marked u) q cycle
-  pub unit : after ≡ withPlan u (plan_of q cycle)
+  pub unit : after ≡ with_plan u (plan_of q cycle)
 
 -- Free are the first 2,048 working words, unless the search is refused by 1, 2 or 5 (`WorkAfter`).
 pub record SearchPromise (u : FunctionUnit) (q : ℕ) (before words : List ℕ) (answer : Answer) (after : FunctionUnit) : Type 0 where
-  pub says : answer ≡ searchAnswer u q (length before)
+  pub says : answer ≡ search_answer u q (length before)
   pub kept : (why : Refusal) → answer ≡ Refused why → after ≡ u
   pub found : answer ≡ Done → Found u q after
   pub work : WorkAfter answer before words
 
 -- Read
 
-unfoldable pub readAnswer : FunctionUnit → Answer
-readAnswer u = check (soundOf u) NotSound (check (not (eqb u.plan.tag 0)) NoPlan Done)
+unfoldable pub read_answer : FunctionUnit → Answer
+read_answer u = check (sound_of u) NotSound (check (not (eqb u.plan.tag 0)) NoPlan Done)
 
 -- the plan by value; none where the read is refused
 abbrev pub handing : Answer → Plan → Handed
 handing Done p = record { answer = Done; plan = p }
-handing (Refused why) p = record { answer = Refused why; plan = noPlan }
+handing (Refused why) p = record { answer = Refused why; plan = no_plan }
 
 unfoldable pub read_of : FunctionUnit → Handed
-read_of u = handing (readAnswer u) u.plan
+read_of u = handing (read_answer u) u.plan

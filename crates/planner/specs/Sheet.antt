@@ -7,10 +7,10 @@ use Rattle.unit.specs.declared.Answer.{Answer}
 use Rattle.unit.specs.declared.Answer.TheVariants.{Done, Refused}
 use Rattle.unit.specs.Numbers.{number_of}
 use Rattle.unit.specs.Table.{Table, empty, changed}
-use Rattle.unit.specs.Unit.{inside, marked, goodCounts, soundOf}
-use Rattle.unit.specs.Calls.{fresh_of, mark_of, unmarkOf}
+use Rattle.unit.specs.Unit.{inside, marked, good_counts, sound_of}
+use Rattle.unit.specs.Calls.{fresh_of, mark_of, unmark_of}
 use Rattle.collision.specs.Pipeline.{total}
-use Rattle.diagram.specs.Answers.{statesOf}
+use Rattle.diagram.specs.Answers.{states_of}
 use Rattle.planner.specs.declared.Handed.{Handed}
 use Rattle.planner.specs.Plans.{Best, SearchPromise, read_of}
 
@@ -28,13 +28,13 @@ pub data Reply : Type 0 where
   refused : ℕ → Reply
   handed : Plan → Reply
 
-abbrev pub replyTo : Answer → Reply
-replyTo Done = accepted
-replyTo (Refused why) = refused (number_of why)
+abbrev pub reply_to : Answer → Reply
+reply_to Done = accepted
+reply_to (Refused why) = refused (number_of why)
 
-abbrev pub readReply : Answer → Plan → Reply
-readReply Done p = handed p
-readReply (Refused why) p = refused (number_of why)
+abbrev pub read_reply : Answer → Plan → Reply
+read_reply Done p = handed p
+read_reply (Refused why) p = refused (number_of why)
 
 -- A run
 
@@ -45,14 +45,14 @@ pub record Searching (u : FunctionUnit) (q room : ℕ) (a : Reply) (after : Func
   pub lent : length before ≡ room
   pub answer : Answer
   pub promise : SearchPromise u q before words answer after
-  pub told : a ≡ replyTo answer
+  pub told : a ≡ reply_to answer
 
 -- one call on a unit, as its contract states it: what the caller is told, and the unit that is left
 abbrev pub Step : FunctionUnit → Call → Reply → FunctionUnit → Type 0
-Step u (Mark q s c) a after = (r : Outcome) × (r ≡ mark_of u q s c) × (a ≡ replyTo r.answer) × (after ≡ r.unit)
-Step u (Unmark q s c) a after = (r : Outcome) × (r ≡ unmarkOf u q s c) × (a ≡ replyTo r.answer) × (after ≡ r.unit)
+Step u (Mark q s c) a after = (r : Outcome) × (r ≡ mark_of u q s c) × (a ≡ reply_to r.answer) × (after ≡ r.unit)
+Step u (Unmark q s c) a after = (r : Outcome) × (r ≡ unmark_of u q s c) × (a ≡ reply_to r.answer) × (after ≡ r.unit)
 Step u (Search q room) a after = Searching u q room a after
-Step u Read a after = (r : Handed) × (r ≡ read_of u) × (a ≡ readReply r.answer r.plan) × (after ≡ u)
+Step u Read a after = (r : Handed) × (r ≡ read_of u) × (a ≡ read_reply r.answer r.plan) × (after ≡ u)
 
 -- a list of calls, each on the unit as the one before left it
 abbrev pub Run : FunctionUnit → List Call → List Reply → Type 0
@@ -83,8 +83,8 @@ abbrev pub owing : Sheet → ℕ → Sheet
 owing t q = record { functions = t.functions; segments = t.segments; columns = t.columns; table = t.table; owed = q }
 
 -- the lowest number that applies to an edit, or 0
-unfoldable pub spotNumber : Sheet → ℕ → ℕ → ℕ → ℕ
-spotNumber t q s c =
+unfoldable pub spot_number : Sheet → ℕ → ℕ → ℕ → ℕ
+spot_number t q s c =
     cond (inside q t.functions)
     (cond (inside s t.segments)
     (cond (inside c t.columns) 0 4)
@@ -92,19 +92,19 @@ spotNumber t q s c =
     2
 
 -- the lowest number that applies to a search, or 0; for 7 the diagram is that of the tag's marks in the table
-unfoldable pub searchNumber : Sheet → ℕ → ℕ → ℕ
-searchNumber t q room =
+unfoldable pub search_number : Sheet → ℕ → ℕ → ℕ
+search_number t q room =
     cond (inside q t.functions)
     (cond (leb 16000 room)
-    (cond (leb (length (statesOf 1 t.table q)) 256) 0 7)
+    (cond (leb (length (states_of 1 t.table q)) 256) 0 7)
     5)
     2
 
 -- the sheet after a call: a refused call and a read change nothing
 abbrev pub next : Sheet → Call → Sheet
-next t (Mark q s c) = cond (eqb (spotNumber t q s c) 0) (edited t (changed t.table q s c true)) t
-next t (Unmark q s c) = cond (eqb (spotNumber t q s c) 0) (edited t (changed t.table q s c false)) t
-next t (Search q room) = cond (eqb (searchNumber t q room) 0) (owing t q) t
+next t (Mark q s c) = cond (eqb (spot_number t q s c) 0) (edited t (changed t.table q s c true)) t
+next t (Unmark q s c) = cond (eqb (spot_number t q s c) 0) (edited t (changed t.table q s c false)) t
+next t (Search q room) = cond (eqb (search_number t q room) 0) (owing t q) t
 next t Read = t
 
 -- the sheet after a list of calls
@@ -134,9 +134,9 @@ pub record ReadRight (t : Sheet) (a : Reply) : Type 0 where
 
 -- what a caller is told is what the sheet says
 abbrev pub Agrees : Sheet → Call → Reply → Type 0
-Agrees t (Mark q s c) a = a ≡ told (spotNumber t q s c)
-Agrees t (Unmark q s c) a = a ≡ told (spotNumber t q s c)
-Agrees t (Search q room) a = a ≡ told (searchNumber t q room)
+Agrees t (Mark q s c) a = a ≡ told (spot_number t q s c)
+Agrees t (Unmark q s c) a = a ≡ told (spot_number t q s c)
+Agrees t (Search q room) a = a ≡ told (search_number t q room)
 Agrees t Read a = ReadRight t a
 
 -- the sheet is fed the calls one after the other, and each reply agrees with it as it stands before its call
@@ -146,10 +146,10 @@ Right t [] (a ∷ replies) = ⊥
 Right t (k ∷ calls) [] = ⊥
 Right t (k ∷ calls) (a ∷ replies) = Agrees t k a × Right (next t k) calls replies
 
--- every list of calls from a fresh unit (`every-list`, proofs/EveryList.antt)
+-- every list of calls from a fresh unit (`every_list`, proofs/EveryList.antt)
 abbrev pub EveryList : Type 0
 EveryList =
-    (f s c : ℕ) → goodCounts f s c ≡ true → (calls : List Call) (replies : List Reply)
+    (f s c : ℕ) → good_counts f s c ≡ true → (calls : List Call) (replies : List Reply)
     → Run (fresh_of f s c).unit calls replies → Right (start f s c) calls replies
 
 -- The unit that a run leaves
@@ -163,7 +163,7 @@ Leaves u (k ∷ calls) (a ∷ replies) left = (after : FunctionUnit) × Step u k
 
 -- a unit that agrees with the sheet: its counts, its marks, and the plan that is owed, of a tag that it has
 pub record Noted (u : FunctionUnit) (t : Sheet) : Type 0 where
-  pub sound : soundOf u ≡ true
+  pub sound : sound_of u ≡ true
   pub functions : u.functions ≡ t.functions
   pub segments : u.segments ≡ t.segments
   pub columns : u.columns ≡ t.columns
@@ -172,8 +172,8 @@ pub record Noted (u : FunctionUnit) (t : Sheet) : Type 0 where
   pub member : (t.owed ≡ 0 → ⊥) → inside t.owed t.functions ≡ true
   pub plan : (t.owed ≡ 0 → ⊥) → Owed t u.plan
 
--- every list of calls from a fresh unit leaves a unit that agrees with the sheet (`every-unit`, proofs/EveryList.antt)
+-- every list of calls from a fresh unit leaves a unit that agrees with the sheet (`every_unit`, proofs/EveryList.antt)
 abbrev pub EveryUnit : Type 0
 EveryUnit =
-    (f s c : ℕ) → goodCounts f s c ≡ true → (calls : List Call) (replies : List Reply) (u : FunctionUnit)
+    (f s c : ℕ) → good_counts f s c ≡ true → (calls : List Call) (replies : List Reply) (u : FunctionUnit)
     → Leaves (fresh_of f s c).unit calls replies u → Noted u (fed (start f s c) calls)

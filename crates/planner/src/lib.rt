@@ -2,8 +2,8 @@
 // The claim over every list of mark, unmark, search and read calls is `EveryList` (specs/Sheet.antt), proved in proofs/EveryList.antt.
 ghost use Rattle.std.specs.Prelude.{◌≡◌, ◌++◌, ◌-◌, ◌≤◌, ◌<◌, length, take, replicate};
 ghost use Rattle.graphs.specs.Rotation.{rotate};
-ghost use Rattle.planner.specs.Plans.{plan_of, SearchPromise, readAnswer, read_of};
-ghost use Rattle.planner.specs.Inner.{found, inFirstRotation, Small, Standing, Sought};
+ghost use Rattle.planner.specs.Plans.{plan_of, SearchPromise, read_answer, read_of};
+ghost use Rattle.planner.specs.Inner.{found, in_first_rotation, Small, Standing, Sought};
 
 use collision::Number;
 use mean_cycle::Cycle;
@@ -54,7 +54,7 @@ fn rotated(bytes: [u8; 256], count: usize, first: usize) -> [u8; 256]
 // The plan of a cycle that stands in the working words, in the rotation that comes first.
 fn plan_of(tag: Tag, cycle: Cycle, work: &[u32]) -> Plan
     requires { Standing work.now cycle }
-    ensures { result ≡ plan_of tag.0 (inFirstRotation (found work.now cycle.count)) }
+    ensures { result ≡ plan_of tag.0 (in_first_rotation (found work.now cycle.count)) }
 {
     let count = cycle.count;
     let bytes = bytes_of(work, count);
@@ -130,7 +130,7 @@ pub fn search(u: FunctionUnit, tag: Tag, work: &mut [u32]) -> Outcome
 
 // Whether a read hands out a plan.
 fn check_plan(u: FunctionUnit) -> Answer
-    ensures { result ≡ readAnswer u }
+    ensures { result ≡ read_answer u }
 {
     if !unit::sound(u) {
         return Answer::Refused(Refusal::NotSound);

@@ -14,7 +14,7 @@ use Rattle.unit.specs.declared.Outcome.{Outcome}
 use Rattle.unit.specs.Calls.{fresh_of}
 use Rattle.planner.specs.Sheet.{Call, Reply, Step, Run, Leaves}
 use Rattle.planner.proofs.EveryList.{leaves_run}
-use Rattle.player.specs.Play.{call_at, calls_of, planBytes, replyBytes, repliesBytes, mayUse, NoneMayUse, Played}
+use Rattle.player.specs.Play.{call_at, calls_of, plan_bytes, reply_bytes, replies_bytes, may_use, NoneMayUse, Played}
 use Rattle.player.specs.Inner.{Turned}
 
 -- A run with one call more
@@ -28,18 +28,18 @@ run_more (c ∷ calls) (b ∷ replies) u last k a new (after, s, r) step = (afte
 
 -- The calls, the bytes and the working words with one call more
 
-calls-more : (room : ℕ) (bytes : List ℕ) (n : ℕ) → calls_of room bytes (n + 1) ≡ calls_of room bytes n ++ call_at room bytes n ∷ []
+calls_more : (room : ℕ) (bytes : List ℕ) (n : ℕ) → calls_of room bytes (n + 1) ≡ calls_of room bytes n ++ call_at room bytes n ∷ []
 unfolding calls_of
-calls-more room bytes n = rw (add-one n)
+calls_more room bytes n = rw (add-one n)
 
-bytes-more : (replies : List Reply) (a : Reply) → repliesBytes (replies ++ a ∷ []) ≡ repliesBytes replies ++ replyBytes a
-unfolding repliesBytes
-bytes-more [] a = append-nil (replyBytes a)
-bytes-more (b ∷ replies) a =
-    ap (λ (l : List ℕ). replyBytes b ++ l) (bytes-more replies a) ∙ sym (append_assoc (replyBytes b) (repliesBytes replies) (replyBytes a))
+bytes_more : (replies : List Reply) (a : Reply) → replies_bytes (replies ++ a ∷ []) ≡ replies_bytes replies ++ reply_bytes a
+unfolding replies_bytes
+bytes_more [] a = append-nil (reply_bytes a)
+bytes_more (b ∷ replies) a =
+    ap (λ (l : List ℕ). reply_bytes b ++ l) (bytes_more replies a) ∙ sym (append_assoc (reply_bytes b) (replies_bytes replies) (reply_bytes a))
 
 none_more : (calls : List Call) (replies : List Reply) (u last : FunctionUnit) (k : Call) (a : Reply) → Leaves u calls replies last
-    → NoneMayUse (calls ++ k ∷ []) (replies ++ a ∷ []) → NoneMayUse calls replies × (mayUse k a ≡ false)
+    → NoneMayUse (calls ++ k ∷ []) (replies ++ a ∷ []) → NoneMayUse calls replies × (may_use k a ≡ false)
 none_more [] [] u last k a r h = (tt, h.0)
 none_more [] (b ∷ replies) u last k a r h = absurd r
 none_more (c ∷ calls) [] u last k a r h = absurd r
@@ -73,16 +73,16 @@ module _ (xs ys : List ℕ) (a : ℕ) (size : length ys ≡ 262) (fits : a + 262
 pub record Playing (first : FunctionUnit) (calls before work : List ℕ) (n : ℕ) (after words : List ℕ) (u : FunctionUnit) : Type 0 where
   pub replies : List Reply
   pub run : Leaves first (calls_of (length work) calls n) replies u
-  pub wrote : take (n * 262) after ≡ repliesBytes replies
+  pub wrote : take (n * 262) after ≡ replies_bytes replies
   pub rest : drop (n * 262) after ≡ drop (n * 262) before
   pub size : length after ≡ length before
   pub room : length words ≡ length work
   pub beyond : (i : ℕ) → 2048 ≤ i → get_or words i 0 ≡ get_or work i 0
   pub kept : NoneMayUse (calls_of (length work) calls n) replies → words ≡ work
 
-pub playing-start : (first : FunctionUnit) (calls before work : List ℕ) → Playing first calls before work 0 before work first
-unfolding calls_of repliesBytes
-playing-start first calls before work = record {
+pub playing_start : (first : FunctionUnit) (calls before work : List ℕ) → Playing first calls before work 0 before work first
+unfolding calls_of replies_bytes
+playing_start first calls before work = record {
   replies = [];
   run = refl;
   wrote = refl;
@@ -96,7 +96,7 @@ playing-start first calls before work = record {
 module _ (first : FunctionUnit) (calls before work : List ℕ) (n : ℕ) (after words : List ℕ) (u : FunctionUnit) where
   pub playing-more : (used : List ℕ) (number : ℕ) (p : Plan) (left : FunctionUnit) (ys : List ℕ)
       → Playing first calls before work n after words u → Turned u (call_at (length words) calls n) words used number p left
-      → ys ≡ number ∷ planBytes p → length ys ≡ 262 → n * 262 + 262 ≤ length before
+      → ys ≡ number ∷ plan_bytes p → length ys ≡ 262 → n * 262 + 262 ≤ length before
       → Playing first calls before work (n + 1) (put_mid (n * 262) (n * 262 + 262 - n * 262) after ys) used left
   playing-more used number p left ys h turned e size fits =
       let k = call_at (length work) calls n in
@@ -104,11 +104,11 @@ module _ (first : FunctionUnit) (calls before work : List ℕ) (n : ℕ) (after 
       let t : Turned u k words used number p left = subst (λ (x : ℕ). Turned u (call_at x calls n) words used number p left) h.room turned in
       let f : n * 262 + 262 ≤ length after = omega (arith, h.size) in
       let m : (n + 1) * 262 ≡ n * 262 + 262 = omega arith in
-      let ks = calls-more w calls n in
+      let ks = calls_more w calls n in
       record {
         replies = h.replies ++ t.reply ∷ [];
         run = rw ks (run_more (calls_of w calls n) h.replies first u k t.reply left h.run t.step);
-        wrote = rw (m, put-take after ys (n * 262) size f, h.wrote, e, t.bytes) (sym (bytes-more h.replies t.reply));
+        wrote = rw (m, put-take after ys (n * 262) size f, h.wrote, e, t.bytes) (sym (bytes_more h.replies t.reply));
         rest = rw (m, put-drop after ys (n * 262) size f, ← drop-drop 262 (n * 262) after, h.rest, drop-drop 262 (n * 262) before);
         size = put-length after ys (n * 262) size f ∙ h.size;
         room = t.room ∙ h.room;
@@ -118,10 +118,10 @@ module _ (first : FunctionUnit) (calls before work : List ℕ) (n : ℕ) (after 
             t.kept q.1 ∙ h.kept q.0;
       }
 
-pub playing-end : (f s c : ℕ) (o : Outcome) (calls before work : List ℕ) (n : ℕ) (after words : List ℕ) (u : FunctionUnit) → o ≡ fresh_of f s c
+pub playing_end : (f s c : ℕ) (o : Outcome) (calls before work : List ℕ) (n : ℕ) (after words : List ℕ) (u : FunctionUnit) → o ≡ fresh_of f s c
     → Playing o.unit calls before work n after words u → n ≡ min (length calls / 4) (length before / 262)
     → Played f s c calls before after work words n
-playing-end f s c o calls before work n after words u e h m = record {
+playing_end f s c o calls before work n after words u e h m = record {
   count = m;
   replies = h.replies;
   run = subst (λ (x : Outcome). Run x.unit (calls_of (length work) calls n) h.replies) e

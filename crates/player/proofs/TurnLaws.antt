@@ -12,41 +12,41 @@ use Rattle.unit.specs.declared.Outcome.{Outcome}
 use Rattle.unit.specs.declared.Answer.{Answer}
 use Rattle.unit.specs.declared.Answer.TheVariants.{Done, Refused}
 use Rattle.unit.specs.Numbers.{number_of, number_in}
-use Rattle.unit.specs.Calls.{noPlan, mark_of, unmarkOf}
+use Rattle.unit.specs.Calls.{no_plan, mark_of, unmark_of}
 use Rattle.planner.specs.declared.Handed.{Handed}
-use Rattle.planner.specs.Plans.{SearchPromise, handing, readAnswer, read_of}
-use Rattle.planner.specs.Sheet.{Call, replyTo, readReply, Step}
+use Rattle.planner.specs.Plans.{SearchPromise, handing, read_answer, read_of}
+use Rattle.planner.specs.Sheet.{Call, reply_to, read_reply, Step}
 use Rattle.planner.specs.Sheet.Call.{Mark, Unmark, Search, Read}
-use Rattle.player.specs.Play.{call_of, planBytes, replyBytes, mayUse}
+use Rattle.player.specs.Play.{call_of, plan_bytes, reply_bytes, may_use}
 use Rattle.player.specs.Inner.{Told, Turned}
 
 -- The bytes of a reply
 
-no-plan-bytes : planBytes noPlan ≡ replicate 261 0
-unfolding planBytes noPlan
-no-plan-bytes = refl
+no_plan_bytes : plan_bytes no_plan ≡ replicate 261 0
+unfolding plan_bytes no_plan
+no_plan_bytes = refl
 
-told-bytes : (a : Answer) → number_in a ∷ planBytes noPlan ≡ replyBytes (replyTo a)
-unfolding replyBytes
-told-bytes Done = ap (λ (l : List ℕ). 0 ∷ l) no-plan-bytes
-told-bytes (Refused why) = ap (λ (l : List ℕ). number_of why ∷ l) no-plan-bytes
+told_bytes : (a : Answer) → number_in a ∷ plan_bytes no_plan ≡ reply_bytes (reply_to a)
+unfolding reply_bytes
+told_bytes Done = ap (λ (l : List ℕ). 0 ∷ l) no_plan_bytes
+told_bytes (Refused why) = ap (λ (l : List ℕ). number_of why ∷ l) no_plan_bytes
 
-handing-bytes : (a : Answer) (p : Plan)
-    → number_in (handing a p).answer ∷ planBytes (handing a p).plan ≡ replyBytes (readReply (handing a p).answer (handing a p).plan)
-unfolding replyBytes
-handing-bytes Done p = refl
-handing-bytes (Refused why) p = ap (λ (l : List ℕ). number_of why ∷ l) no-plan-bytes
+handing_bytes : (a : Answer) (p : Plan)
+    → number_in (handing a p).answer ∷ plan_bytes (handing a p).plan ≡ reply_bytes (read_reply (handing a p).answer (handing a p).plan)
+unfolding reply_bytes
+handing_bytes Done p = refl
+handing_bytes (Refused why) p = ap (λ (l : List ℕ). number_of why ∷ l) no_plan_bytes
 
-read-bytes : (u : FunctionUnit) → number_in (read_of u).answer ∷ planBytes (read_of u).plan ≡ replyBytes (readReply (read_of u).answer (read_of u).plan)
+read_bytes : (u : FunctionUnit) → number_in (read_of u).answer ∷ plan_bytes (read_of u).plan ≡ reply_bytes (read_reply (read_of u).answer (read_of u).plan)
 unfolding read_of
-read-bytes u = handing-bytes (readAnswer u) u.plan
+read_bytes u = handing_bytes (read_answer u) u.plan
 
 -- The working words after a search
 
-search-kept : (u after : FunctionUnit) (q : ℕ) (work words : List ℕ) (a : Answer) → SearchPromise u q work words a after
-    → mayUse (Search q (length work)) (replyTo a) ≡ false → words ≡ work
-search-kept u after q work words Done h e = let z : ◌≡◌ {A = ℕ} 0 1 = cc in absurd (omega arith)
-search-kept u after q work words (Refused why) h e = h.work.kept why refl (λ t. eqb-false (number_of why) 7 e (ap number_of t))
+search_kept : (u after : FunctionUnit) (q : ℕ) (work words : List ℕ) (a : Answer) → SearchPromise u q work words a after
+    → may_use (Search q (length work)) (reply_to a) ≡ false → words ≡ work
+search_kept u after q work words Done h e = let z : ◌≡◌ {A = ℕ} 0 1 = cc in absurd (omega arith)
+search_kept u after q work words (Refused why) h e = h.work.kept why refl (λ t. eqb-false (number_of why) 7 e (ap number_of t))
 
 module _ (u : FunctionUnit) (kind q s c : ℕ) (work : List ℕ) (n : ℕ) (p : Plan) (after : FunctionUnit) where
   at_call : (k : Call) (words : List ℕ) → call_of (length work) kind q s c ≡ k → Turned u k work words n p after
@@ -54,13 +54,13 @@ module _ (u : FunctionUnit) (kind q s c : ℕ) (work : List ℕ) (n : ℕ) (p : 
   at_call k words e t = subst (λ (x : Call). Turned u x work words n p after) (sym e) t
 
   -- a call that hands out no plan
-  told-turn : (k : Call) (words : List ℕ) (r : Outcome) → Told r n p after → Step u k (replyTo r.answer) r.unit
-      → length words ≡ length work → ((i : ℕ) → 2048 ≤ i → get_or words i 0 ≡ get_or work i 0) → (mayUse k (replyTo r.answer) ≡ false → words ≡ work)
+  told-turn : (k : Call) (words : List ℕ) (r : Outcome) → Told r n p after → Step u k (reply_to r.answer) r.unit
+      → length words ≡ length work → ((i : ℕ) → 2048 ≤ i → get_or words i 0 ≡ get_or work i 0) → (may_use k (reply_to r.answer) ≡ false → words ≡ work)
       → Turned u k work words n p after
   told-turn k words r t step room beyond kept = record {
-    reply = replyTo r.answer;
-    step = subst (λ (x : FunctionUnit). Step u k (replyTo r.answer) x) (sym t.unit) step;
-    bytes = ap₂ (λ (x : ℕ) (y : Plan). x ∷ planBytes y) t.number t.plan ∙ told-bytes r.answer;
+    reply = reply_to r.answer;
+    step = subst (λ (x : FunctionUnit). Step u k (reply_to r.answer) x) (sym t.unit) step;
+    bytes = ap₂ (λ (x : ℕ) (y : Plan). x ∷ plan_bytes y) t.number t.plan ∙ told_bytes r.answer;
     room = room;
     beyond = beyond;
     kept = kept;
@@ -71,7 +71,7 @@ module _ (u : FunctionUnit) (kind q s c : ℕ) (work : List ℕ) (n : ℕ) (p : 
       at_call (Mark q s c) work (simp (eq-eqb kind 0 z))
       (told-turn (Mark q s c) work r t (r, e, refl, refl) refl (λ i h. refl) (λ h. refl))
 
-  pub unmark-turn : (r : Outcome) → (kind ≡ 0 → ⊥) → kind ≡ 1 → r ≡ unmarkOf u q s c → Told r n p after
+  pub unmark-turn : (r : Outcome) → (kind ≡ 0 → ⊥) → kind ≡ 1 → r ≡ unmark_of u q s c → Told r n p after
       → Turned u (call_of (length work) kind q s c) work work n p after
   unmark-turn r y z e t =
       at_call (Unmark q s c) work (simp (ne_eqb kind 0 y, eq-eqb kind 1 z))
@@ -85,17 +85,17 @@ module _ (u : FunctionUnit) (kind q s c : ℕ) (work : List ℕ) (n : ℕ) (p : 
       (record { before = work; words = words; lent = refl; answer = r.answer; promise = h; told = refl })
       h.work.size
       h.work.beyond
-      (search-kept u r.unit q work words r.answer h))
+      (search_kept u r.unit q work words r.answer h))
 
   pub read-turn : (r : Handed) → (kind ≡ 0 → ⊥) → (kind ≡ 1 → ⊥) → (kind ≡ 2 → ⊥) → r ≡ read_of u → n ≡ number_in r.answer → p ≡ r.plan → after ≡ u
       → Turned u (call_of (length work) kind q s c) work work n p after
   read-turn r x y z e b f g =
       at_call Read work (simp (ne_eqb kind 0 x, ne_eqb kind 1 y, ne_eqb kind 2 z))
       (record {
-        reply = readReply r.answer r.plan;
+        reply = read_reply r.answer r.plan;
         step = (r, e, refl, g);
-        bytes = ap₂ (λ (i : ℕ) (j : Plan). i ∷ planBytes j) b f
-            ∙ subst (λ (h : Handed). number_in h.answer ∷ planBytes h.plan ≡ replyBytes (readReply h.answer h.plan)) (sym e) (read-bytes u);
+        bytes = ap₂ (λ (i : ℕ) (j : Plan). i ∷ plan_bytes j) b f
+            ∙ subst (λ (h : Handed). number_in h.answer ∷ plan_bytes h.plan ≡ reply_bytes (read_reply h.answer h.plan)) (sym e) (read_bytes u);
         room = refl;
         beyond = λ i h. refl;
         kept = λ h. refl;

@@ -26,51 +26,51 @@ calls_of room bytes (suc n) = calls_of room bytes n ++ call_at room bytes n ∷ 
 -- A reply
 
 -- two bytes, low first
-abbrev pub twoBytes : ℕ → List ℕ
-twoBytes x = x % 256 ∷ x / 256 ∷ []
+abbrev pub two_bytes : ℕ → List ℕ
+two_bytes x = x % 256 ∷ x / 256 ∷ []
 
 -- 261 bytes: tag, K, S and the plan's 256 bytes
-unfoldable pub planBytes : Plan → List ℕ
-planBytes p = p.tag ∷ twoBytes p.count ++ twoBytes p.sum ++ p.latencies
+unfoldable pub plan_bytes : Plan → List ℕ
+plan_bytes p = p.tag ∷ two_bytes p.count ++ two_bytes p.sum ++ p.latencies
 
 -- 262 bytes: the refusal's number or 0, and then the plan that was handed out, or zeros
-unfoldable pub replyBytes : Reply → List ℕ
-replyBytes accepted = 0 ∷ replicate 261 0
-replyBytes (refused n) = n ∷ replicate 261 0
-replyBytes (handed p) = 0 ∷ planBytes p
+unfoldable pub reply_bytes : Reply → List ℕ
+reply_bytes accepted = 0 ∷ replicate 261 0
+reply_bytes (refused n) = n ∷ replicate 261 0
+reply_bytes (handed p) = 0 ∷ plan_bytes p
 
 -- the replies one after the other
-unfoldable pub repliesBytes : List Reply → List ℕ
-repliesBytes [] = []
-repliesBytes (a ∷ replies) = replyBytes a ++ repliesBytes replies
+unfoldable pub replies_bytes : List Reply → List ℕ
+replies_bytes [] = []
+replies_bytes (a ∷ replies) = reply_bytes a ++ replies_bytes replies
 
 -- The working words
 
 -- whether a call may use them: a search that is accepted, or refused by 7 (none is told a plan)
-abbrev pub mayUse : Call → Reply → Bool
-mayUse (Mark q s c) a = false
-mayUse (Unmark q s c) a = false
-mayUse (Search q room) accepted = true
-mayUse (Search q room) (refused n) = eqb n 7
-mayUse (Search q room) (handed p) = true
-mayUse Read a = false
+abbrev pub may_use : Call → Reply → Bool
+may_use (Mark q s c) a = false
+may_use (Unmark q s c) a = false
+may_use (Search q room) accepted = true
+may_use (Search q room) (refused n) = eqb n 7
+may_use (Search q room) (handed p) = true
+may_use Read a = false
 
 -- none of the calls may
 abbrev pub NoneMayUse : List Call → List Reply → Type 0
 NoneMayUse [] replies = Unit {0}
 NoneMayUse (k ∷ calls) [] = Unit {0}
-NoneMayUse (k ∷ calls) (a ∷ replies) = (mayUse k a ≡ false) × NoneMayUse calls replies
+NoneMayUse (k ∷ calls) (a ∷ replies) = (may_use k a ≡ false) × NoneMayUse calls replies
 
 -- The claim
 
 -- As many calls as there are, or as have room for their replies, were played in turn from the fresh unit of the three counts, and what
 -- was written are the replies of a run. Free are the first 2,048 working words, if a call may use them.
--- Laws (proofs/PlayedLaws.antt): the replies are what the sheet says (`played-right`), or 1 where the counts are refused (`played-refused`).
+-- Laws (proofs/PlayedLaws.antt): the replies are what the sheet says (`played_right`), or 1 where the counts are refused (`played_refused`).
 pub record Played (f s c : ℕ) (calls before after work words : List ℕ) (n : ℕ) : Type 0 where
   pub count : n ≡ min (length calls / 4) (length before / 262)
   pub replies : List Reply
   pub run : Run (fresh_of f s c).unit (calls_of (length work) calls n) replies
-  pub wrote : take (n * 262) after ≡ repliesBytes replies
+  pub wrote : take (n * 262) after ≡ replies_bytes replies
   pub rest : drop (n * 262) after ≡ drop (n * 262) before
   pub size : length after ≡ length before
   pub room : length words ≡ length work

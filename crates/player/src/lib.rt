@@ -2,7 +2,7 @@
 // planner) speaks of running code. A call is four bytes and a reply 262 (specs/Play.antt); what was written is what the sheet says
 // (proofs/PlayedLaws.antt). Every function here is proved, and no public function has a `requires`.
 ghost use Rattle.std.specs.Prelude.{◌≡◌, ◌∷◌, min, length};
-ghost use Rattle.player.specs.Play.{planBytes, call_of, Played};
+ghost use Rattle.player.specs.Play.{plan_bytes, call_of, Played};
 ghost use Rattle.player.specs.Inner.{Told, Turned};
 
 use unit::{Answer, FunctionUnit, Outcome, Plan, Segment, Tag};
@@ -63,7 +63,7 @@ fn one(u: FunctionUnit, kind: u8, tag: u8, segment: u8, column: u8, work: &mut [
 // Writes a reply: its number, then the plan's tag, K and S, low byte first, and the plan's bytes.
 fn put_reply(out: &mut [u8], number: u8, plan: Plan)
     requires { length out.old ≡ 262 }
-    ensures { out.new ≡ number ∷ planBytes plan }
+    ensures { out.new ≡ number ∷ plan_bytes plan }
 {
     let latencies = plan.latencies;
     out[0] = number;

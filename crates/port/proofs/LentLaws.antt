@@ -17,56 +17,56 @@ use Rattle.controller.specs.declared.Bank.{Bank}
 use Rattle.queue.specs.declared.Waiting.{Waiting}
 use Rattle.queue.specs.declared.Passed.{Passed}
 use Rattle.queue.specs.declared.Passed.TheVariants as Passed
-use Rattle.queue.specs.Line.{noRecord, forward}
-use Rattle.queue.specs.Calls.{countThen, listThen, oldest, passedThen}
-use Rattle.queue.proofs.LineLaws.{forward-length}
+use Rattle.queue.specs.Line.{no_record, forward}
+use Rattle.queue.specs.Calls.{count_then, list_then, oldest, passed_then}
+use Rattle.queue.proofs.LineLaws.{forward_length}
 use Rattle.callers.specs.declared.ArrivalOn.{ArrivalOn}
 use Rattle.callers.specs.declared.UnitOn.{UnitOn}
-use Rattle.callers.specs.Queues.{room, place_of, queueOf, withQueue, count_of, waitingOf}
-use Rattle.callers.specs.Calls.{one_of, arrivalAt, arrivalOf, arrivalList, callerOf, passed_at, turnedBy, unit_of, listBy, unitList}
-use Rattle.callers.specs.Parts.{arrivalIn, arrivalOnBy, unitIn, unitOnBy}
-use Rattle.port.specs.Inner.{reachOf, loadedOf, storedOf}
-use Rattle.callers.proofs.PartLaws.{drop-take, parts, queue-length}
-use Rattle.callers.proofs.TestedLaws.{one-of, arrival-accepted}
-use Rattle.callers.proofs.SameLaws.{arrival-same, passed-same, started-there}
+use Rattle.callers.specs.Queues.{room, place_of, queue_of, with_queue, count_of, waiting_of}
+use Rattle.callers.specs.Calls.{one_of, arrival_at, arrival_of, arrival_list, caller_of, passed_at, turned_by, unit_of, list_by, unit_list}
+use Rattle.callers.specs.Parts.{arrival_in, arrival_on_by, unit_in, unit_on_by}
+use Rattle.port.specs.Inner.{reach_of, loaded_of, stored_of}
+use Rattle.callers.proofs.PartLaws.{drop_take, parts, queue_length}
+use Rattle.callers.proofs.TestedLaws.{one_of_lem, arrival_accepted}
+use Rattle.callers.proofs.SameLaws.{arrival-same, passed-same, started_there}
 
 -- How many are copied
 
-reach-cases : (i len : ℕ) (P : ℕ → Type 0) → (i ≤ 4 → room * i ≤ len → P (room * i)) → P 0 → P (reachOf i len)
-reach-cases i len P x y = go (leb i 4) refl (leb (room * i) len) refl
+reach_cases : (i len : ℕ) (P : ℕ → Type 0) → (i ≤ 4 → room * i ≤ len → P (room * i)) → P 0 → P (reach_of i len)
+reach_cases i len P x y = go (leb i 4) refl (leb (room * i) len) refl
   where
     go : (s : Bool) → leb i 4 ≡ s → (t : Bool) → leb (room * i) len ≡ t → P (cond s (cond t (room * i) 0) 0)
     go true e true f = x (leb-true i 4 e) (leb-true (room * i) len f)
     go true e false f = y
     go false e t f = y
 
-pub reach-most : (i len : ℕ) → reachOf i len ≤ 32
-reach-most i len = reach-cases i len (λ n. n ≤ 32) (λ h l. omega arith) (omega arith)
+pub reach_most : (i len : ℕ) → reach_of i len ≤ 32
+reach_most i len = reach_cases i len (λ n. n ≤ 32) (λ h l. omega arith) (omega arith)
 
-pub reach-there : (i len : ℕ) → reachOf i len ≤ len
-reach-there i len = reach-cases i len (λ n. n ≤ len) (λ h l. l) (omega arith)
+pub reach_there : (i len : ℕ) → reach_of i len ≤ len
+reach_there i len = reach_cases i len (λ n. n ≤ len) (λ h l. l) (omega arith)
 
-pub reach-all : (i len : ℕ) → i ≤ 4 → room * i ≤ len → reachOf i len ≡ room * i
-reach-all i len h l = simp (le-leb i 4 h, le-leb (room * i) len l)
+pub reach_all : (i len : ℕ) → i ≤ 4 → room * i ≤ len → reach_of i len ≡ room * i
+reach_all i len h l = simp (le-leb i 4 h, le-leb (room * i) len l)
 
 -- A queue that was copied
 
 module _ (ys : List Waiting) (n : ℕ) (there : n ≤ length ys) where
   abbrev copy : List Waiting
-  copy = loadedOf ys n
+  copy = loaded_of ys n
 
   copied : (m : ℕ) → m ≤ n → take m copy ≡ take m ys
-  copied m h = take-append-le m (take n ys) (replicate (32 - n) noRecord) (omega (arith, length-take-le n ys there)) ∙ take-take m n ys h
+  copied m h = take-append-le m (take n ys) (replicate (32 - n) no_record) (omega (arith, length-take-le n ys there)) ∙ take-take m n ys h
 
-  pub loaded-queue : (i : ℕ) → place_of i + room ≤ n → queueOf copy i ≡ queueOf ys i
-  loaded-queue i h = sym (drop-take (place_of i) room copy) ∙ ap (drop (place_of i)) (copied (place_of i + room) h) ∙ drop-take (place_of i) room ys
+  pub loaded-queue : (i : ℕ) → place_of i + room ≤ n → queue_of copy i ≡ queue_of ys i
+  loaded-queue i h = sym (drop_take (place_of i) room copy) ∙ ap (drop (place_of i)) (copied (place_of i + room) h) ∙ drop_take (place_of i) room ys
 
   -- nothing changed
-  pub stored-own : storedOf ys copy n ≡ ys
+  pub stored-own : stored_of ys copy n ≡ ys
   stored-own = ap (λ (l : List Waiting). l ++ drop n ys) (copied n (omega arith)) ∙ take-append-drop n ys
 
   -- a queue changed
-  pub stored-with : (i : ℕ) (q : List Waiting) → place_of i + room ≤ n → length q ≡ room → storedOf ys (withQueue copy i q) n ≡ withQueue ys i q
+  pub stored-with : (i : ℕ) (q : List Waiting) → place_of i + room ≤ n → length q ≡ room → stored_of ys (with_queue copy i q) n ≡ with_queue ys i q
   stored-with i q h l =
       let e = place_of i + room in
       let k = n - e in
@@ -78,7 +78,7 @@ module _ (ys : List Waiting) (n : ℕ) (there : n ≤ length ys) where
       ap (λ (m : ℕ). take m (take (place_of i) copy ++ q ++ drop e copy) ++ drop n ys) whole
       ∙ ap (λ (x : List Waiting). x ++ drop n ys) (take-append-add (take (place_of i) copy ++ q) (drop e copy) k)
       ∙ append_assoc (take (place_of i) copy ++ q) (take k (drop e copy)) (drop n ys)
-      ∙ ap (λ (x : List Waiting). take (place_of i) copy ++ q ++ (x ++ drop n ys)) (sym (drop-take e k copy) ∙ ap (λ (m : ℕ). drop e (take m copy)) up ∙ ap (drop e) (copied n (omega arith)))
+      ∙ ap (λ (x : List Waiting). take (place_of i) copy ++ q ++ (x ++ drop n ys)) (sym (drop_take e k copy) ∙ ap (λ (m : ℕ). drop e (take m copy)) up ∙ ap (drop e) (copied n (omega arith)))
       ∙ ap (λ (x : List Waiting). take (place_of i) copy ++ q ++ x)
       (sym (drop-append-le e (take n ys) (drop n ys) (omega (arith, length-take-le n ys there))) ∙ ap (drop e) (take-append-drop n ys))
       ∙ ap (λ (x : List Waiting). x ++ q ++ drop e ys) fronts
@@ -87,79 +87,79 @@ module _ (ys : List Waiting) (n : ℕ) (there : n ≤ length ys) where
 
 module _ (u : FunctionUnit) (C i : ℕ) (ys : List Waiting) (count : ℕ) (w : Waiting) where
   abbrev own : ℕ
-  own = reachOf i (length ys)
+  own = reach_of i (length ys)
 
   abbrev held : List Waiting
-  held = loadedOf ys own
+  held = loaded_of ys own
 
-  same : one_of C i ≡ true → place_of i + room ≤ length ys → queueOf held i ≡ queueOf ys i
+  same : one_of C i ≡ true → place_of i + room ≤ length ys → queue_of held i ≡ queue_of ys i
   same o l =
-      let c = one-of C i o in
-      let e = reach-all i (length ys) (omega (arith, c.few, c.most)) (omega (arith, c.least)) in
-      loaded-queue ys own (reach-there i (length ys)) i (omega (arith, e, c.least))
+      let c = one_of_lem C i o in
+      let e = reach_all i (length ys) (omega (arith, c.few, c.most)) (omega (arith, c.least)) in
+      loaded-queue ys own (reach_there i (length ys)) i (omega (arith, e, c.least))
 
-  found : arrivalIn u C i (length ys) held count w.tag ≡ arrivalAt u C i (queueOf ys i) count w
+  found : arrival_in u C i (length ys) held count w.tag ≡ arrival_at u C i (queue_of ys i) count w
   found = arrival-same u C i held ys same count w
 
-  stored : (a : Answer) → arrivalIn u C i (length ys) held count w.tag ≡ a
-      → storedOf ys (withQueue held i (listThen a (queueOf held i) count w)) own ≡ withQueue ys i (listThen a (queueOf ys i) count w)
-  stored (Refused why) e = ap (λ (l : List Waiting). storedOf ys l own) (parts held i) ∙ stored-own ys own (reach-there i (length ys)) ∙ sym (parts ys i)
+  stored : (a : Answer) → arrival_in u C i (length ys) held count w.tag ≡ a
+      → stored_of ys (with_queue held i (list_then a (queue_of held i) count w)) own ≡ with_queue ys i (list_then a (queue_of ys i) count w)
+  stored (Refused why) e = ap (λ (l : List Waiting). stored_of ys l own) (parts held i) ∙ stored-own ys own (reach_there i (length ys)) ∙ sym (parts ys i)
   stored Done e =
-      let a = arrival-accepted u C i (length ys) held count w.tag e in
-      let c = one-of C i a.caller in
-      let n = reach-all i (length ys) (omega (arith, c.few, c.most)) (omega (arith, c.least, a.long)) in
+      let a = arrival_accepted u C i (length ys) held count w.tag e in
+      let c = one_of_lem C i a.caller in
+      let n = reach_all i (length ys) (omega (arith, c.few, c.most)) (omega (arith, c.least, a.long)) in
       let q = same a.caller a.long in
-      ap (λ (l : List Waiting). storedOf ys (withQueue held i (set l count w)) own) q
-      ∙ stored-with ys own (reach-there i (length ys)) i (set (queueOf ys i) count w) (omega (arith, n, c.least))
-      (length-set (queueOf ys i) count w ∙ queue-length ys i a.long)
+      ap (λ (l : List Waiting). stored_of ys (with_queue held i (set l count w)) own) q
+      ∙ stored-with ys own (reach_there i (length ys)) i (set (queue_of ys i) count w) (omega (arith, n, c.least))
+      (length-set (queue_of ys i) count w ∙ queue_length ys i a.long)
 
-  pub arrival-lent : (on : ArrivalOn) → on ≡ arrivalOnBy i held count w (arrivalIn u C i (length ys) held count w.tag)
-      → (on.arrival ≡ arrivalOf u C i ys count w) × (storedOf ys on.records.list own ≡ arrivalList u C i ys count w)
-  unfolding arrivalOf arrivalList
+  pub arrival-lent : (on : ArrivalOn) → on ≡ arrival_on_by i held count w (arrival_in u C i (length ys) held count w.tag)
+      → (on.arrival ≡ arrival_of u C i ys count w) × (stored_of ys on.records.list own ≡ arrival_list u C i ys count w)
+  unfolding arrival_of arrival_list
   arrival-lent on e = (
-    ap (λ (x : ArrivalOn). x.arrival) e ∙ ap (λ (a : Answer). record { answer = a; count = countThen a count }) found,
-    ap (λ (x : ArrivalOn). storedOf ys x.records.list own) e
-        ∙ stored (arrivalIn u C i (length ys) held count w.tag) refl
-        ∙ ap (λ (a : Answer). withQueue ys i (listThen a (queueOf ys i) count w)) found,
+    ap (λ (x : ArrivalOn). x.arrival) e ∙ ap (λ (a : Answer). record { answer = a; count = count_then a count }) found,
+    ap (λ (x : ArrivalOn). stored_of ys x.records.list own) e
+        ∙ stored (arrival_in u C i (length ys) held count w.tag) refl
+        ∙ ap (λ (a : Answer). with_queue ys i (list_then a (queue_of ys i) count w)) found,
   )
 
 -- A time unit
 
 module _ (u : FunctionUnit) (b : Bank) (C turn : ℕ) (ys : List Waiting) (counts : List ℕ) where
   abbrev all : ℕ
-  all = reachOf C (length ys)
+  all = reach_of C (length ys)
 
   abbrev whole : List Waiting
-  whole = loadedOf ys all
+  whole = loaded_of ys all
 
   abbrev caller : ℕ
-  caller = callerOf C turn counts
+  caller = caller_of C turn counts
 
-  alike : inside C 4 ≡ true → room * C ≤ length ys → (i : ℕ) → inside i C ≡ true → queueOf whole i ≡ queueOf ys i
+  alike : inside C 4 ≡ true → room * C ≤ length ys → (i : ℕ) → inside i C ≡ true → queue_of whole i ≡ queue_of ys i
   alike c l i h =
-      let e = reach-all C (length ys) (within C 4 c).most l in
-      loaded-queue ys all (reach-there C (length ys)) i (omega (arith, e, (within i C h).least, (within i C h).most))
+      let e = reach_all C (length ys) (within C 4 c).most l in
+      loaded-queue ys all (reach_there C (length ys)) i (omega (arith, e, (within i C h).least, (within i C h).most))
 
-  passes : passedThen (unitIn u C turn (length ys) whole counts) (oldest b (waitingOf whole counts caller)) ≡ passed_at u b C turn ys counts
+  passes : passed_then (unit_in u C turn (length ys) whole counts) (oldest b (waiting_of whole counts caller)) ≡ passed_at u b C turn ys counts
   passes = passed-same u C turn whole ys counts alike b
 
-  left : (a : Passed) → passed_at u b C turn ys counts ≡ a → storedOf ys (listBy whole counts caller a) all ≡ listBy ys counts caller a
-  left Passed.Idle e = ap (λ (l : List Waiting). storedOf ys l all) (parts whole caller) ∙ stored-own ys all (reach-there C (length ys)) ∙ sym (parts ys caller)
-  left (Passed.Refused why) e = ap (λ (l : List Waiting). storedOf ys l all) (parts whole caller) ∙ stored-own ys all (reach-there C (length ys)) ∙ sym (parts ys caller)
+  left : (a : Passed) → passed_at u b C turn ys counts ≡ a → stored_of ys (list_by whole counts caller a) all ≡ list_by ys counts caller a
+  left Passed.Idle e = ap (λ (l : List Waiting). stored_of ys l all) (parts whole caller) ∙ stored-own ys all (reach_there C (length ys)) ∙ sym (parts ys caller)
+  left (Passed.Refused why) e = ap (λ (l : List Waiting). stored_of ys l all) (parts whole caller) ∙ stored-own ys all (reach_there C (length ys)) ∙ sym (parts ys caller)
   left (Passed.Started w) e =
-      let d = started-there u b C turn ys counts w e in
-      let n = reach-all C (length ys) d.caller.few d.long in
-      ap (λ (l : List Waiting). storedOf ys (withQueue whole caller (forward l (count_of counts caller))) all)
+      let d = started_there u b C turn ys counts w e in
+      let n = reach_all C (length ys) d.caller.few d.long in
+      ap (λ (l : List Waiting). stored_of ys (with_queue whole caller (forward l (count_of counts caller))) all)
       (alike d.four d.long caller (inside_of caller C d.caller.least d.caller.most))
-      ∙ stored-with ys all (reach-there C (length ys)) caller (forward (queueOf ys caller) (count_of counts caller)) (omega (arith, n, d.caller.least, d.caller.most))
-      (forward-length (queueOf ys caller) (count_of counts caller) (omega (arith, d.few, d.full)) d.some ∙ d.full)
+      ∙ stored-with ys all (reach_there C (length ys)) caller (forward (queue_of ys caller) (count_of counts caller)) (omega (arith, n, d.caller.least, d.caller.most))
+      (forward_length (queue_of ys caller) (count_of counts caller) (omega (arith, d.few, d.full)) d.some ∙ d.full)
 
-  pub unit-lent : (on : UnitOn) → on ≡ unitOnBy u b C turn whole counts (unitIn u C turn (length ys) whole counts)
-      → (on.turned ≡ unit_of u b C turn ys counts) × (storedOf ys on.records.list all ≡ unitList u b C turn ys counts)
-  unfolding unit_of unitList
+  pub unit-lent : (on : UnitOn) → on ≡ unit_on_by u b C turn whole counts (unit_in u C turn (length ys) whole counts)
+      → (on.turned ≡ unit_of u b C turn ys counts) × (stored_of ys on.records.list all ≡ unit_list u b C turn ys counts)
+  unfolding unit_of unit_list
   unit-lent on e = (
-    ap (λ (x : UnitOn). x.turned) e ∙ ap (turnedBy u b C turn counts caller) passes,
-    ap (λ (x : UnitOn). storedOf ys x.records.list all) e
-        ∙ ap (λ (a : Passed). storedOf ys (listBy whole counts caller a) all) passes
+    ap (λ (x : UnitOn). x.turned) e ∙ ap (turned_by u b C turn counts caller) passes,
+    ap (λ (x : UnitOn). stored_of ys x.records.list all) e
+        ∙ ap (λ (a : Passed). stored_of ys (list_by whole counts caller a) all) passes
         ∙ left (passed_at u b C turn ys counts) refl,
   )

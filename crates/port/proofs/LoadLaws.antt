@@ -9,8 +9,8 @@ use native.Mathlib.Omega.{arith}
 use mathlib.Core.List.{List, [], ◌∷◌, ◌++◌}
 use lib.ListN.{length, get_or, set, take, drop, replicate}
 use Rattle.queue.specs.declared.Waiting.{Waiting}
-use Rattle.queue.specs.Line.{noRecord}
-use Rattle.port.specs.Inner.{loadedOf, storedOf}
+use Rattle.queue.specs.Line.{no_record}
+use Rattle.port.specs.Inner.{loaded_of, stored_of}
 
 module _ {X : Type 0} where
   filled : (ys : List X) (j m : ℕ) (d : X) → j < length ys → set (take j ys ++ replicate (suc m) d) j (get_or ys j d) ≡ take (suc j) ys ++ replicate m d
@@ -33,24 +33,24 @@ module _ {X : Type 0} where
 left : {j : ℕ} → j < 32 → suc (32 - suc j) ≡ 32 - j
 left p = omega arith
 
-pub loaded-none : (ys : List Waiting) → replicate 32 noRecord ≡ loadedOf ys 0
-loaded-none ys = refl
+pub loaded_none : (ys : List Waiting) → replicate 32 no_record ≡ loaded_of ys 0
+loaded_none ys = refl
 
-pub loaded-more : (ys : List Waiting) (j : ℕ) → j < length ys → j < 32 → set (loadedOf ys j) j (get_or ys j noRecord) ≡ loadedOf ys (suc j)
-loaded-more ys j h k = subst (λ (m : ℕ). set (take j ys ++ replicate m noRecord) j (get_or ys j noRecord) ≡ loadedOf ys (suc j)) (left k) (filled ys j (32 - suc j) noRecord h)
+pub loaded_more : (ys : List Waiting) (j : ℕ) → j < length ys → j < 32 → set (loaded_of ys j) j (get_or ys j no_record) ≡ loaded_of ys (suc j)
+loaded_more ys j h k = subst (λ (m : ℕ). set (take j ys ++ replicate m no_record) j (get_or ys j no_record) ≡ loaded_of ys (suc j)) (left k) (filled ys j (32 - suc j) no_record h)
 
-pub stored_more : (ys rs : List Waiting) (j : ℕ) → j < length ys → j < length rs → set (storedOf ys rs j) j (get_or rs j noRecord) ≡ storedOf ys rs (suc j)
-stored_more ys rs j h k = replaced ys rs j noRecord h k
+pub stored_more : (ys rs : List Waiting) (j : ℕ) → j < length ys → j < length rs → set (stored_of ys rs j) j (get_or rs j no_record) ≡ stored_of ys rs (suc j)
+stored_more ys rs j h k = replaced ys rs j no_record h k
 
-pub stored-length : (ys rs : List Waiting) (j : ℕ) → j ≤ length ys → j ≤ length rs → length (storedOf ys rs j) ≡ length ys
-stored-length ys rs j h k = replaced-length ys rs j h k
+pub stored_length : (ys rs : List Waiting) (j : ℕ) → j ≤ length ys → j ≤ length rs → length (stored_of ys rs j) ≡ length ys
+stored_length ys rs j h k = replaced-length ys rs j h k
 
 -- numbers
 pub within : {j n l m : ℕ} → j ≤ n → n ≤ l → m ≡ l → j ≤ m
 within p q e = omega arith
 
-pub fits-too : {j n m : ℕ} → j ≤ n → n < m → j < m
-fits-too p q = omega arith
+pub fits_too : {j n m : ℕ} → j ≤ n → n < m → j < m
+fits_too p q = omega arith
 
 pub ended : {j n : ℕ} → j ≤ n → n ≤ j → j ≡ n
 ended p q = omega arith

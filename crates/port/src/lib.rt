@@ -1,10 +1,10 @@
 // The issue port that up to 4 callers share, on a lent list: caller i's queue is the part of 8 records from record 8 × (i - 1) on, counted from 0.
 // Every public function here is proved, total and without a `requires`.
 ghost use Rattle.std.specs.Prelude.{◌≡◌, ◌≤◌, ◌<◌, length, get_or, set, replicate};
-ghost use Rattle.queue.specs.Line.{noRecord};
-ghost use Rattle.callers.specs.Calls.{arrivalOf, arrivalList, unit_of, unitList};
-ghost use Rattle.callers.specs.Parts.{arrivalIn, arrivalOnBy, unitIn, unitOnBy};
-ghost use Rattle.port.specs.Inner.{reachOf, loadedOf, storedOf};
+ghost use Rattle.queue.specs.Line.{no_record};
+ghost use Rattle.callers.specs.Calls.{arrival_of, arrival_list, unit_of, unit_list};
+ghost use Rattle.callers.specs.Parts.{arrival_in, arrival_on_by, unit_in, unit_on_by};
+ghost use Rattle.port.specs.Inner.{reach_of, loaded_of, stored_of};
 
 use callers::{ArrivalOn, Counts, Records, Turned, UnitOn};
 use controller::Bank;
@@ -13,7 +13,7 @@ use unit::FunctionUnit;
 
 // How many records of a list hold the first queues; none where it does not reach their end.
 fn reach(callers: u8, length: usize) -> usize
-    ensures { result ≡ reachOf callers length }
+    ensures { result ≡ reach_of callers length }
 {
     if 4 < callers {
         return 0;
@@ -27,7 +27,7 @@ fn reach(callers: u8, length: usize) -> usize
 
 // No record yet.
 fn no_records() -> Records
-    ensures { result.list ≡ replicate 32 noRecord }
+    ensures { result.list ≡ replicate 32 no_record }
 {
     Records {
         list: [Waiting { tag: 0, ticket: 0 }; 32],
@@ -47,7 +47,7 @@ fn with_record(records: Records, place: usize, waiting: Waiting) -> Records
 // The record at a place.
 fn record_at(records: Records, place: usize) -> Waiting
     requires { place < 32 }
-    ensures { result ≡ get_or records.list place noRecord }
+    ensures { result ≡ get_or records.list place no_record }
 {
     let held = records.list;
     held[place]
@@ -56,7 +56,7 @@ fn record_at(records: Records, place: usize) -> Waiting
 // The first records of a lent list, which stays as it is.
 fn load(list: &mut [Waiting], count: usize) -> Records
     requires { (count ≤ 32) × (count ≤ length list.old) }
-    ensures { (result.list ≡ loadedOf list.old count) × (list.new ≡ list.old) }
+    ensures { (result.list ≡ loaded_of list.old count) × (list.new ≡ list.old) }
 {
     let mut records = no_records();
     let mut at = 0;
@@ -70,7 +70,7 @@ fn load(list: &mut [Waiting], count: usize) -> Records
 // The first records of a lent list become these.
 fn store(list: &mut [Waiting], records: Records, count: usize)
     requires { (count ≤ 32) × (count ≤ length list.old) }
-    ensures { list.new ≡ storedOf list.old records.list count }
+    ensures { list.new ≡ stored_of list.old records.list count }
 {
     let mut at = 0;
     while at < count {
@@ -90,7 +90,7 @@ fn arriving(
     count: usize,
     offered: Waiting,
 ) -> ArrivalOn
-    ensures { result ≡ arrivalOnBy caller records.list count offered (arrivalIn u callers caller length records.list count offered.tag) }
+    ensures { result ≡ arrival_on_by caller records.list count offered (arrival_in u callers caller length records.list count offered.tag) }
 {
     callers::arrival_on(u, callers, caller, length, records, count, offered)
 }
@@ -104,7 +104,7 @@ fn passing(
     records: Records,
     counts: Counts,
 ) -> UnitOn
-    ensures { result ≡ unitOnBy u bank callers turn records.list counts.each (unitIn u callers turn length records.list counts.each) }
+    ensures { result ≡ unit_on_by u bank callers turn records.list counts.each (unit_in u callers turn length records.list counts.each) }
 {
     callers::unit_on(u, bank, callers, turn, length, records, counts)
 }
@@ -118,8 +118,8 @@ pub fn arrive(
     count: usize,
     offered: Waiting,
 ) -> Arrival
-    ensures { (result ≡ arrivalOf u callers caller list.old count offered)
-        × (list.new ≡ arrivalList u callers caller list.old count offered) }
+    ensures { (result ≡ arrival_of u callers caller list.old count offered)
+        × (list.new ≡ arrival_list u callers caller list.old count offered) }
 {
     let n = reach(caller, list.len());
     let records = load(list, n);
@@ -138,7 +138,7 @@ pub fn time_unit(
     counts: Counts,
 ) -> Turned
     ensures { (result ≡ unit_of u bank callers turn list.old counts.each)
-        × (list.new ≡ unitList u bank callers turn list.old counts.each) }
+        × (list.new ≡ unit_list u bank callers turn list.old counts.each) }
 {
     let n = reach(callers, list.len());
     let records = load(list, n);

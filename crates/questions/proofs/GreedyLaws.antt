@@ -10,63 +10,63 @@ use Rattle.unit.specs.declared.Refusal.{Refusal}
 use Rattle.unit.specs.declared.Answer.{Answer}
 use Rattle.unit.specs.declared.Answer.TheVariants.{Done, Refused}
 use Rattle.unit.specs.Unit.{marked}
-use Rattle.unit.specs.Calls.{tagAnswer}
+use Rattle.unit.specs.Calls.{tag_answer}
 use Rattle.collision.specs.Pipeline.{total}
-use Rattle.collision.specs.Vector.{vectorWord}
+use Rattle.collision.specs.Vector.{vector_word}
 use Rattle.diagram.specs.Diagram.{width}
-use Rattle.diagram.specs.Answers.{statesOf, written}
+use Rattle.diagram.specs.Answers.{states_of, written}
 use Rattle.cycles.specs.declared.Counted.{Counted}
 use Rattle.cycles.specs.declared.GreedyAnswer.{GreedyAnswer}
 use Rattle.cycles.specs.declared.GreedyAnswer.TheVariants as GreedyAnswer
-use Rattle.cycles.specs.Greedy.{greedyOf, counting, greedyRefusal, greedyAnswer, greedyOut}
-use Rattle.cycles.proofs.GreedyLaws.{greedy-cycle}
-use Rattle.listing.specs.Lines.{newline, refusedLine, cycleLine}
-use Rattle.questions.specs.Replies.{answered, greedyReply}
-use Rattle.questions.proofs.StatesLaws.{Front, front-written, then-done, few-done}
+use Rattle.cycles.specs.Greedy.{greedy_of, counting, greedy_refusal, greedy_answer, greedy_out}
+use Rattle.cycles.proofs.GreedyLaws.{greedy_cycle_lem}
+use Rattle.listing.specs.Lines.{newline, refused_line, cycle_line}
+use Rattle.questions.specs.Replies.{answered, greedy_reply}
+use Rattle.questions.proofs.StatesLaws.{Front, front_written, then_done, few_done}
 
 -- the cycle stands in front of the bytes, and this is its sum
 pub record Handed (u : FunctionUnit) (q : ℕ) (bytes : List ℕ) (counted : Counted) : Type 0 where
-  pub passed : greedyRefusal u q 16000 256 ≡ Done
-  pub cycle : Front (greedyOf 1 (marked u) q) bytes counted.count
-  pub adds : counted.sum ≡ total (greedyOf 1 (marked u) q)
+  pub passed : greedy_refusal u q 16000 256 ≡ Done
+  pub cycle : Front (greedy_of 1 (marked u) q) bytes counted.count
+  pub adds : counted.sum ≡ total (greedy_of 1 (marked u) q)
 
 module _ (u : FunctionUnit) (q : ℕ) where
-  greedy-few : greedyRefusal u q 16000 256 ≡ Done → length (greedyOf 1 (marked u) q) ≤ 256
-  unfolding greedyRefusal
+  greedy-few : greedy_refusal u q 16000 256 ≡ Done → length (greedy_of 1 (marked u) q) ≤ 256
+  unfolding greedy_refusal
   greedy-few e =
-      let s : length (statesOf 1 (marked u) q) ≤ 256 = few-done (length (statesOf 1 (marked u) q)) (then-done (tagAnswer u q) _ e) in
-      (greedy-cycle 1 (width (vectorWord (marked u) q)) (vectorWord (marked u) q) s).few
+      let s : length (states_of 1 (marked u) q) ≤ 256 = few_done (length (states_of 1 (marked u) q)) (then_done (tag_answer u q) _ e) in
+      (greedy_cycle_lem 1 (width (vector_word (marked u) q)) (vector_word (marked u) q) s).few
 
-  pub greedy-handed : (words : List ℕ) {asked : GreedyAnswer} {counted : Counted} {bytes : List ℕ} → length words ≡ 256 → asked ≡ greedyAnswer u q 16000 256
-      → bytes ≡ greedyOut u q 16000 words → asked ≡ GreedyAnswer.Cycle counted → Handed u q bytes counted
-  unfolding greedyAnswer greedyOut
+  pub greedy-handed : (words : List ℕ) {asked : GreedyAnswer} {counted : Counted} {bytes : List ℕ} → length words ≡ 256 → asked ≡ greedy_answer u q 16000 256
+      → bytes ≡ greedy_out u q 16000 words → asked ≡ GreedyAnswer.Cycle counted → Handed u q bytes counted
+  unfolding greedy_answer greedy_out
   greedy-handed words {counted = counted} {bytes} l a w t =
-      go (greedyRefusal u q 16000 256) refl (sym t ∙ a) (w ∙ ap (λ k. written (greedyRefusal u q 16000 k) (greedyOf 1 (marked u) q) words) l)
+      go (greedy_refusal u q 16000 256) refl (sym t ∙ a) (w ∙ ap (λ k. written (greedy_refusal u q 16000 k) (greedy_of 1 (marked u) q) words) l)
     where
-      go : (r : Answer) → greedyRefusal u q 16000 256 ≡ r → GreedyAnswer.Cycle counted ≡ counting r (greedyOf 1 (marked u) q)
-          → bytes ≡ written r (greedyOf 1 (marked u) q) words → Handed u q bytes counted
+      go : (r : Answer) → greedy_refusal u q 16000 256 ≡ r → GreedyAnswer.Cycle counted ≡ counting r (greedy_of 1 (marked u) q)
+          → bytes ≡ written r (greedy_of 1 (marked u) q) words → Handed u q bytes counted
       go Done p e w =
-          let is : counted ≡ record { count = length (greedyOf 1 (marked u) q); sum = total (greedyOf 1 (marked u) q) } = cc in
+          let is : counted ≡ record { count = length (greedy_of 1 (marked u) q); sum = total (greedy_of 1 (marked u) q) } = cc in
           record {
             passed = p;
-            cycle = front-written (greedyOf 1 (marked u) q) words (ap (λ c. c.count) is) (greedy-few p) w;
+            cycle = front_written (greedy_of 1 (marked u) q) words (ap (λ c. c.count) is) (greedy-few p) w;
             adds = ap (λ c. c.sum) is;
           }
       go (Refused why) p e w = let z : ◌≡◌ {A = ℕ} 0 1 = cc in absurd (omega arith)
 
-  pub greedy-refused : {asked : GreedyAnswer} {why : Refusal} → asked ≡ greedyAnswer u q 16000 256 → asked ≡ GreedyAnswer.Refused why
-      → refusedLine why ≡ greedyReply u q
-  unfolding greedyAnswer greedyReply
-  greedy-refused {why = why} a t = go (greedyRefusal u q 16000 256) (sym t ∙ a)
+  pub greedy-refused : {asked : GreedyAnswer} {why : Refusal} → asked ≡ greedy_answer u q 16000 256 → asked ≡ GreedyAnswer.Refused why
+      → refused_line why ≡ greedy_reply u q
+  unfolding greedy_answer greedy_reply
+  greedy-refused {why = why} a t = go (greedy_refusal u q 16000 256) (sym t ∙ a)
     where
-      go : (r : Answer) → GreedyAnswer.Refused why ≡ counting r (greedyOf 1 (marked u) q)
-          → refusedLine why ≡ answered r (cycleLine "greedy" (greedyOf 1 (marked u) q))
+      go : (r : Answer) → GreedyAnswer.Refused why ≡ counting r (greedy_of 1 (marked u) q)
+          → refused_line why ≡ answered r (cycle_line "greedy" (greedy_of 1 (marked u) q))
       go Done e = let z : ◌≡◌ {A = ℕ} 0 1 = cc in absurd (omega arith)
-      go (Refused other) e = let s : why ≡ other = cc in ap refusedLine s
+      go (Refused other) e = let s : why ≡ other = cc in ap refused_line s
 
   pub greedy-shown : {bytes : List ℕ} {counted : Counted} → Handed u q bytes counted
-      → ascii "greedy" ++ spaced (take counted.count bytes) ++ ascii " sum " ++ decimal counted.sum ++ newline ≡ greedyReply u q
-  unfolding greedyReply
+      → ascii "greedy" ++ spaced (take counted.count bytes) ++ ascii " sum " ++ decimal counted.sum ++ newline ≡ greedy_reply u q
+  unfolding greedy_reply
   greedy-shown h =
       ap₂ (λ (l : List ℕ) (n : ℕ). ascii "greedy" ++ spaced l ++ ascii " sum " ++ decimal n ++ newline) h.cycle.front h.adds
-      ∙ ap (λ r. answered r (cycleLine "greedy" (greedyOf 1 (marked u) q))) (sym h.passed)
+      ∙ ap (λ r. answered r (cycle_line "greedy" (greedy_of 1 (marked u) q))) (sym h.passed)

@@ -3,8 +3,8 @@
 mod lines;
 
 ghost use Rattle.std.specs.Prelude.{◌≡◌};
-ghost use Rattle.text.specs.Text.{put_in, putEnd};
-ghost use Rattle.questions.specs.Replies.{replyTo};
+ghost use Rattle.text.specs.Text.{put_in, put_end};
+ghost use Rattle.questions.specs.Replies.{reply_to};
 
 use unit::{FunctionUnit, Tag};
 
@@ -24,8 +24,8 @@ pub enum Question {
 
 // Puts the line that answers a question; the cycle is what a judge is asked about. A line that does not fit is left out whole.
 pub fn ask(out: &mut [u8], at: usize, u: FunctionUnit, question: Question, cycle: &[u8]) -> usize
-    ensures value { result ≡ putEnd out.old at (replyTo u question cycle.now) }
-    ensures out_after { out.new ≡ put_in out.old at (replyTo u question cycle.now) }
+    ensures value { result ≡ put_end out.old at (reply_to u question cycle.now) }
+    ensures out_after { out.new ≡ put_in out.old at (reply_to u question cycle.now) }
 {
     let mut line = [0u8; 4096];
     let end = lines::put_reply(&mut line, u, question, cycle);

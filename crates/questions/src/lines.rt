@@ -1,12 +1,12 @@
 // The line that answers a question, put into bytes from the first one on. A line has at most 2835 bytes.
 ghost use Rattle.std.specs.Prelude.{◌≡◌, ◌++◌, ◌+◌, ◌≤◌, length};
-ghost use Rattle.text.specs.Text.{ascii, decimal, vectorText, spaced};
+ghost use Rattle.text.specs.Text.{ascii, decimal, vector_text, spaced};
 ghost use Rattle.text.specs.Wrote.{Wrote};
 ghost use Rattle.unit.specs.Unit.{marked};
-ghost use Rattle.collision.specs.Vector.{rowWord};
+ghost use Rattle.collision.specs.Vector.{row_word};
 ghost use Rattle.diagram.specs.Diagram.{width};
-ghost use Rattle.listing.specs.Lines.{newline, refusedLine};
-ghost use Rattle.questions.specs.Replies.{numbered, vectorReply, matrixWidth, rowReply, statesReply, greedyReply, verdictLine, replyTo};
+ghost use Rattle.listing.specs.Lines.{newline, refused_line};
+ghost use Rattle.questions.specs.Replies.{numbered, vector_reply, matrix_width, row_reply, states_reply, greedy_reply, verdict_line, reply_to};
 
 use crate::Question;
 use collision::Number;
@@ -27,7 +27,7 @@ fn put_value(line: &mut [u8], word: &[u8], number: u32) -> usize
 // Why there is no answer.
 fn put_refusal(line: &mut [u8], why: Refusal) -> usize
     requires { 4096 ≤ length line.old }
-    ensures { Wrote line.old 0 (refusedLine why) line.new result }
+    ensures { Wrote line.old 0 (refused_line why) line.new result }
 {
     put_value(
         line,
@@ -50,7 +50,7 @@ fn put_asked(line: &mut [u8], word: &[u8], asked: Number) -> usize
 // A word and the columns of a row.
 fn put_columns(line: &mut [u8], word: &[u8], columns: u32, row: u32) -> usize
     requires { (length word.now ≤ 7) × (columns ≤ 32) × (4096 ≤ length line.old) }
-    ensures { Wrote line.old 0 (word.now ++ vectorText columns row ++ newline) line.new result }
+    ensures { Wrote line.old 0 (word.now ++ vector_text columns row ++ newline) line.new result }
 {
     let after_word = text::put(line, 0, word);
     let after_columns = column_text::put_columns(line, after_word, columns, row);
@@ -59,7 +59,7 @@ fn put_columns(line: &mut [u8], word: &[u8], columns: u32, row: u32) -> usize
 
 fn put_vector(line: &mut [u8], u: FunctionUnit, tag: Tag) -> usize
     requires { 4096 ≤ length line.old }
-    ensures { Wrote line.old 0 (vectorReply u tag.0) line.new result }
+    ensures { Wrote line.old 0 (vector_reply u tag.0) line.new result }
 {
     let asked = collision::vector(u, tag);
     match asked {
@@ -73,7 +73,7 @@ fn put_vector(line: &mut [u8], u: FunctionUnit, tag: Tag) -> usize
 
 // The largest column with a 1 in row q of the matrix M_r, or 0.
 fn row_width(u: FunctionUnit, q: Tag, r: Tag) -> u32
-    ensures { result ≡ width (rowWord (marked u) q.0 r.0) }
+    ensures { result ≡ width (row_word (marked u) q.0 r.0) }
 {
     let later = columns::columns_of(u, q);
     let earlier = columns::columns_of(u, r);
@@ -83,7 +83,7 @@ fn row_width(u: FunctionUnit, q: Tag, r: Tag) -> u32
 
 // The largest column with a 1 in any row of the matrix M_r, or 0.
 fn matrix_width(u: FunctionUnit, r: Tag) -> u32
-    ensures { result ≡ matrixWidth (marked u) r.0 }
+    ensures { result ≡ matrix_width (marked u) r.0 }
 {
     let mut widest: u32 = 0;
     let mut tag: u8 = 0;
@@ -99,7 +99,7 @@ fn matrix_width(u: FunctionUnit, r: Tag) -> u32
 
 fn put_row(line: &mut [u8], u: FunctionUnit, q: Tag, r: Tag) -> usize
     requires { 4096 ≤ length line.old }
-    ensures { Wrote line.old 0 (rowReply u q.0 r.0) line.new result }
+    ensures { Wrote line.old 0 (row_reply u q.0 r.0) line.new result }
 {
     let asked = collision::matrix_row(u, q, r);
     match asked {
@@ -125,7 +125,7 @@ fn put_list(line: &mut [u8], count: u32, states: &[u32]) -> usize
 
 fn put_states(line: &mut [u8], u: FunctionUnit, tag: Tag) -> usize
     requires { 4096 ≤ length line.old }
-    ensures { Wrote line.old 0 (statesReply u tag.0) line.new result }
+    ensures { Wrote line.old 0 (states_reply u tag.0) line.new result }
 {
     let mut list = [0u32; 256];
     let asked = state_list::states(u, tag, &mut list);
@@ -152,7 +152,7 @@ fn put_cycle(line: &mut [u8], cycle: &[u8], sum: u32) -> usize
 
 fn put_greedy(line: &mut [u8], u: FunctionUnit, tag: Tag) -> usize
     requires { 4096 ≤ length line.old }
-    ensures { Wrote line.old 0 (greedyReply u tag.0) line.new result }
+    ensures { Wrote line.old 0 (greedy_reply u tag.0) line.new result }
 {
     let mut work = [0u32; 16000];
     let mut cycle = [0u8; 256];
@@ -168,7 +168,7 @@ fn put_greedy(line: &mut [u8], u: FunctionUnit, tag: Tag) -> usize
 
 fn put_verdict(line: &mut [u8], verdict: Verdict) -> usize
     requires { 4096 ≤ length line.old }
-    ensures { Wrote line.old 0 (verdictLine verdict) line.new result }
+    ensures { Wrote line.old 0 (verdict_line verdict) line.new result }
 {
     match verdict {
         Verdict::Yes => text::put(line, 0, b"yes\n"),
@@ -180,7 +180,7 @@ fn put_verdict(line: &mut [u8], verdict: Verdict) -> usize
 // The line that answers a question; the cycle is what a judge is asked about.
 pub fn put_reply(line: &mut [u8], u: FunctionUnit, question: Question, cycle: &[u8]) -> usize
     requires { 4096 ≤ length line.old }
-    ensures { Wrote line.old 0 (replyTo u question cycle.now) line.new result }
+    ensures { Wrote line.old 0 (reply_to u question cycle.now) line.new result }
 {
     match question {
         Question::Vector(q) => put_vector(line, u, q),

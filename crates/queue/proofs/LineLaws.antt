@@ -9,12 +9,12 @@ use lib.ListN.{length, get_or, take, drop, set, length-take, length-drop}
 use lib.Seq.{take_at, take-suc, take-suc-set}
 use lib.Dec.{eqb}
 use borrow.Author.Tests.{ne_eqb}
-use Rattle.words.proofs.Tests.{and_left, and_right, and-true}
+use Rattle.words.proofs.Tests.{and_left, and_right, and_true}
 use Rattle.unit.specs.declared.FunctionUnit.{FunctionUnit}
 use Rattle.unit.specs.Unit.{inside}
 use Rattle.queue.specs.declared.Waiting.{Waiting}
-use Rattle.queue.specs.Line.{noRecord, tagsInside, forward}
-use Rattle.queue.specs.Inner.{seenOf, look_of}
+use Rattle.queue.specs.Line.{no_record, tags_inside, forward}
+use Rattle.queue.specs.Inner.{seen_of, look_of}
 use Rattle.queue.proofs.Shift.{shift-length}
 
 and_one : (b : Bool) → b && true ≡ true && b
@@ -27,29 +27,29 @@ and_assoc false b c = refl
 
 -- Tags
 
-pub tags-first : (u : FunctionUnit) (w : Waiting) (line : List Waiting) → tagsInside u.functions (w ∷ line) ≡ true → inside w.tag u.functions ≡ true
-unfolding tagsInside
-tags-first u w line e = and_left (inside w.tag u.functions) _ e
+pub tags_first : (u : FunctionUnit) (w : Waiting) (line : List Waiting) → tags_inside u.functions (w ∷ line) ≡ true → inside w.tag u.functions ≡ true
+unfolding tags_inside
+tags_first u w line e = and_left (inside w.tag u.functions) _ e
 
-pub tags-rest : (u : FunctionUnit) (w : Waiting) (line : List Waiting) → tagsInside u.functions (w ∷ line) ≡ true → tagsInside u.functions line ≡ true
-unfolding tagsInside
-tags-rest u w line e = and_right (inside w.tag u.functions) _ e
+pub tags_rest : (u : FunctionUnit) (w : Waiting) (line : List Waiting) → tags_inside u.functions (w ∷ line) ≡ true → tags_inside u.functions line ≡ true
+unfolding tags_inside
+tags_rest u w line e = and_right (inside w.tag u.functions) _ e
 
 -- one more record
-pub tags-one-more : (f : ℕ) (line : List Waiting) (w : Waiting) → tagsInside f (line ++ w ∷ []) ≡ tagsInside f line && inside w.tag f
-unfolding tagsInside
-tags-one-more f [] w = and_one (inside w.tag f)
-tags-one-more f (x ∷ line) w = ap (λ t. inside x.tag f && t) (tags-one-more f line w) ∙ and_assoc (inside x.tag f) (tagsInside f line) (inside w.tag f)
+pub tags_one_more : (f : ℕ) (line : List Waiting) (w : Waiting) → tags_inside f (line ++ w ∷ []) ≡ tags_inside f line && inside w.tag f
+unfolding tags_inside
+tags_one_more f [] w = and_one (inside w.tag f)
+tags_one_more f (x ∷ line) w = ap (λ t. inside x.tag f && t) (tags_one_more f line w) ∙ and_assoc (inside x.tag f) (tags_inside f line) (inside w.tag f)
 
-pub tags-joined : (u : FunctionUnit) (line : List Waiting) (w : Waiting) → tagsInside u.functions line ≡ true → inside w.tag u.functions ≡ true
-    → tagsInside u.functions (line ++ w ∷ []) ≡ true
-tags-joined u line w e i = tags-one-more u.functions line w ∙ and-true e i
+pub tags_joined : (u : FunctionUnit) (line : List Waiting) (w : Waiting) → tags_inside u.functions line ≡ true → inside w.tag u.functions ≡ true
+    → tags_inside u.functions (line ++ w ∷ []) ≡ true
+tags_joined u line w e i = tags_one_more u.functions line w ∙ and_true e i
 
-pub tags-take : (f n : ℕ) (line : List Waiting) → tagsInside f line ≡ true → tagsInside f (take n line) ≡ true
-unfolding tagsInside
-tags-take f zero line e = refl
-tags-take f (suc n) [] e = refl
-tags-take f (suc n) (x ∷ line) e = and-true (and_left (inside x.tag f) _ e) (tags-take f n line (and_right (inside x.tag f) _ e))
+pub tags_take : (f n : ℕ) (line : List Waiting) → tags_inside f line ≡ true → tags_inside f (take n line) ≡ true
+unfolding tags_inside
+tags_take f zero line e = refl
+tags_take f (suc n) [] e = refl
+tags_take f (suc n) (x ∷ line) e = and_true (and_left (inside x.tag f) _ e) (tags_take f n line (and_right (inside x.tag f) _ e))
 
 -- An arrival
 
@@ -58,14 +58,14 @@ set_line list count w h = rw add-one (take-suc-set list count w h)
 
 -- A start
 
-pub forward-length : (list : List Waiting) (count : ℕ) → count ≤ length list → 1 ≤ count → length (forward list count) ≡ length list
+pub forward_length : (list : List Waiting) (count : ℕ) → count ≤ length list → 1 ≤ count → length (forward list count) ≡ length list
 unfolding forward
-forward-length list count h l = shift-length list (count - 1) (omega arith)
+forward_length list count h l = shift-length list (count - 1) (omega arith)
 
-pub forward-line : (list : List Waiting) (count : ℕ) (w : Waiting) (line : List Waiting) → count ≤ length list → take count list ≡ w ∷ line
+pub forward_line : (list : List Waiting) (count : ℕ) (w : Waiting) (line : List Waiting) → count ≤ length list → take count list ≡ w ∷ line
     → take (count - 1) (forward list count) ≡ line
 unfolding forward
-forward-line list count w line h e =
+forward_line list count w line h e =
     take_at (take (count - 1) (drop 1 list)) (drop (count - 1) list) (count - 1)
     (omega (arith, length-take (count - 1) (drop 1 list), length-drop 1 list))
     ∙ rest list count e
@@ -77,18 +77,18 @@ forward-line list count w line h e =
 
 -- A look at the records
 
-pub seen_none : (f : ℕ) (list : List Waiting) → seenOf 0 [] ≡ seenOf f (take 0 list)
-unfolding seenOf tagsInside
+pub seen_none : (f : ℕ) (list : List Waiting) → seen_of 0 [] ≡ seen_of f (take 0 list)
+unfolding seen_of tags_inside
 seen_none f list = refl
 
-pub seen_more : (f : ℕ) (list : List Waiting) (j : ℕ) → j < length list → look_of f (seenOf f (take j list)) j (get_or list j noRecord) ≡ seenOf f (take (suc j) list)
-unfolding seenOf look_of
+pub seen_more : (f : ℕ) (list : List Waiting) (j : ℕ) → j < length list → look_of f (seen_of f (take j list)) j (get_or list j no_record) ≡ seen_of f (take (suc j) list)
+unfolding seen_of look_of
 seen_more f list j h = λ i. record { fit = fits i; first = firsts list j h i }
   where
-    fits : tagsInside f (take j list) && inside (get_or list j noRecord).tag f ≡ tagsInside f (take (suc j) list)
-    fits = sym (ap (tagsInside f) (take-suc list j noRecord h) ∙ tags-one-more f (take j list) (get_or list j noRecord))
+    fits : tags_inside f (take j list) && inside (get_or list j no_record).tag f ≡ tags_inside f (take (suc j) list)
+    fits = sym (ap (tags_inside f) (take-suc list j no_record h) ∙ tags_one_more f (take j list) (get_or list j no_record))
 
-    firsts : (list : List Waiting) (j : ℕ) → j < length list → cond (eqb j 0) (get_or list j noRecord) (get_or (take j list) 0 noRecord) ≡ get_or (take (suc j) list) 0 noRecord
+    firsts : (list : List Waiting) (j : ℕ) → j < length list → cond (eqb j 0) (get_or list j no_record) (get_or (take j list) 0 no_record) ≡ get_or (take (suc j) list) 0 no_record
     firsts [] j h = absurd (omega arith)
     firsts (x ∷ list) zero h = refl
     firsts (x ∷ list) (suc j) h = let e : eqb (suc j) 0 ≡ false = ne_eqb (suc j) 0 (λ z. omega arith) in simp e

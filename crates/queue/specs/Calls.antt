@@ -5,7 +5,7 @@ use Rattle.unit.specs.declared.FunctionUnit.{FunctionUnit}
 use Rattle.unit.specs.declared.Refusal.TheVariants.{NotSound, NoSuchTag, ShortOutput, TooManyWait}
 use Rattle.unit.specs.declared.Answer.{Answer}
 use Rattle.unit.specs.declared.Answer.TheVariants as Answer
-use Rattle.unit.specs.Unit.{inside, soundOf}
+use Rattle.unit.specs.Unit.{inside, sound_of}
 use Rattle.unit.specs.Calls.{check}
 use Rattle.controller.specs.declared.Bank.{Bank}
 use Rattle.controller.specs.declared.Event.TheVariants.{Tick, Start}
@@ -18,7 +18,7 @@ use Rattle.queue.specs.declared.Pass.{Pass}
 use Rattle.queue.specs.declared.Queue.{Queue}
 use Rattle.queue.specs.declared.Joined.{Joined}
 use Rattle.queue.specs.declared.Advanced.{Advanced}
-use Rattle.queue.specs.Line.{noRecord, tag_of, tagsInside, forward}
+use Rattle.queue.specs.Line.{no_record, tag_of, tags_inside, forward}
 
 -- 32 records
 abbrev pub room : ℕ
@@ -28,66 +28,66 @@ room = 32
 
 -- 1; 6 for a list under the room; 2 for the tag offered; 14 where as many as there is room for already wait; 2 for the tag of any waiting record:
 -- by the length of the list, how many wait, the tag offered, and whether the tags that wait are the unit's
-abbrev pub arrivalBy : ℕ → FunctionUnit → ℕ → ℕ → ℕ → Bool → Answer
-arrivalBy size u length count tag fit =
-    check (soundOf u) NotSound
+abbrev pub arrival_by : ℕ → FunctionUnit → ℕ → ℕ → ℕ → Bool → Answer
+arrival_by size u length count tag fit =
+    check (sound_of u) NotSound
     (check (leb size length) ShortOutput
     (check (inside tag u.functions) NoSuchTag
     (check (ltb count size) TooManyWait
     (check fit NoSuchTag Answer.Done))))
 
-unfoldable pub arrivalAnswer : ℕ → FunctionUnit → List Waiting → ℕ → Waiting → Answer
-arrivalAnswer size u list count offered = arrivalBy size u (length list) count offered.tag (tagsInside u.functions (take count list))
+unfoldable pub arrival_answer : ℕ → FunctionUnit → List Waiting → ℕ → Waiting → Answer
+arrival_answer size u list count offered = arrival_by size u (length list) count offered.tag (tags_inside u.functions (take count list))
 
 -- an accepted arrival waits behind the others; a refused one changes nothing
-abbrev pub countThen : Answer → ℕ → ℕ
-countThen Answer.Done count = count + 1
-countThen (Answer.Refused why) count = count
+abbrev pub count_then : Answer → ℕ → ℕ
+count_then Answer.Done count = count + 1
+count_then (Answer.Refused why) count = count
 
-abbrev pub listThen : Answer → List Waiting → ℕ → Waiting → List Waiting
-listThen Answer.Done list count offered = set list count offered
-listThen (Answer.Refused why) list count offered = list
+abbrev pub list_then : Answer → List Waiting → ℕ → Waiting → List Waiting
+list_then Answer.Done list count offered = set list count offered
+list_then (Answer.Refused why) list count offered = list
 
-unfoldable pub arrivalOf : ℕ → FunctionUnit → List Waiting → ℕ → Waiting → Arrival
-arrivalOf size u list count offered = record {
-  answer = arrivalAnswer size u list count offered;
-  count = countThen (arrivalAnswer size u list count offered) count;
+unfoldable pub arrival_of : ℕ → FunctionUnit → List Waiting → ℕ → Waiting → Arrival
+arrival_of size u list count offered = record {
+  answer = arrival_answer size u list count offered;
+  count = count_then (arrival_answer size u list count offered) count;
 }
 
 -- the list afterwards
-unfoldable pub arrivalList : ℕ → FunctionUnit → List Waiting → ℕ → Waiting → List Waiting
-arrivalList size u list count offered = listThen (arrivalAnswer size u list count offered) list count offered
+unfoldable pub arrival_list : ℕ → FunctionUnit → List Waiting → ℕ → Waiting → List Waiting
+arrival_list size u list count offered = list_then (arrival_answer size u list count offered) list count offered
 
 -- A time unit
 
 -- 1; 6 for a list under the room; 14 for a count above it; 2 for the tag of any waiting record
 abbrev pub unit_by : ℕ → FunctionUnit → ℕ → ℕ → Bool → Answer
 unit_by size u length count fit =
-    check (soundOf u) NotSound
+    check (sound_of u) NotSound
     (check (leb size length) ShortOutput
     (check (leb count size) TooManyWait
     (check fit NoSuchTag Answer.Done)))
 
-unfoldable pub unitAnswer : ℕ → FunctionUnit → List Waiting → ℕ → Answer
-unitAnswer size u list count = unit_by size u (length list) count (tagsInside u.functions (take count list))
+unfoldable pub unit_answer : ℕ → FunctionUnit → List Waiting → ℕ → Answer
+unit_answer size u list count = unit_by size u (length list) count (tags_inside u.functions (take count list))
 
 -- the oldest of the records that wait is started if the bank grants it; otherwise none is
 unfoldable pub oldest : Bank → List Waiting → Passed
 oldest b [] = Passed.Idle
 oldest b (w ∷ line) = cond (granted b w.tag) (Passed.Started w) Passed.Idle
 
-abbrev pub passedThen : Answer → Passed → Passed
-passedThen Answer.Done next = next
-passedThen (Answer.Refused why) next = Passed.Refused why
+abbrev pub passed_then : Answer → Passed → Passed
+passed_then Answer.Done next = next
+passed_then (Answer.Refused why) next = Passed.Refused why
 
-unfoldable pub passedOf : ℕ → FunctionUnit → Bank → List Waiting → ℕ → Passed
-passedOf size u b list count = passedThen (unitAnswer size u list count) (oldest b (take count list))
+unfoldable pub passed_of : ℕ → FunctionUnit → Bank → List Waiting → ℕ → Passed
+passed_of size u b list count = passed_then (unit_answer size u list count) (oldest b (take count list))
 
 -- a start is the controller's start of the record's tag, and otherwise the unit passes as the controller's tick
-abbrev pub bankThen : FunctionUnit → Passed → Bank → Bank
-bankThen u (Passed.Started w) b = (step_of u b (Start (tag_of w))).bank
-bankThen u Passed.Idle b = (step_of u b Tick).bank
-bankThen u (Passed.Refused why) b = b
+abbrev pub bank_then : FunctionUnit → Passed → Bank → Bank
+bank_then u (Passed.Started w) b = (step_of u b (Start (tag_of w))).bank
+bank_then u Passed.Idle b = (step_of u b Tick).bank
+bank_then u (Passed.Refused why) b = b
 
 -- a start leaves one record less, and moves the others one place forward
 abbrev pub fewer : Passed → ℕ → ℕ
@@ -95,42 +95,42 @@ fewer (Passed.Started w) count = count - 1
 fewer Passed.Idle count = count
 fewer (Passed.Refused why) count = count
 
-abbrev pub listAfter : Passed → List Waiting → ℕ → List Waiting
-listAfter (Passed.Started w) list count = forward list count
-listAfter Passed.Idle list count = list
-listAfter (Passed.Refused why) list count = list
+abbrev pub list_after : Passed → List Waiting → ℕ → List Waiting
+list_after (Passed.Started w) list count = forward list count
+list_after Passed.Idle list count = list
+list_after (Passed.Refused why) list count = list
 
-unfoldable pub passOf : ℕ → FunctionUnit → Bank → List Waiting → ℕ → Pass
-passOf size u b list count = record {
-  answer = passedOf size u b list count;
-  bank = bankThen u (passedOf size u b list count) b;
-  count = fewer (passedOf size u b list count) count;
+unfoldable pub pass_of : ℕ → FunctionUnit → Bank → List Waiting → ℕ → Pass
+pass_of size u b list count = record {
+  answer = passed_of size u b list count;
+  bank = bank_then u (passed_of size u b list count) b;
+  count = fewer (passed_of size u b list count) count;
 }
 
 -- the list afterwards
-unfoldable pub passList : ℕ → FunctionUnit → Bank → List Waiting → ℕ → List Waiting
-passList size u b list count = listAfter (passedOf size u b list count) list count
+unfoldable pub pass_list : ℕ → FunctionUnit → Bank → List Waiting → ℕ → List Waiting
+pass_list size u b list count = list_after (passed_of size u b list count) list count
 
 -- A queue as a value: its list has 32 records, and an arrival and a time unit answer and leave the same
 
-abbrev pub emptyQueue : Queue
-emptyQueue = record { list = replicate room noRecord; count = 0 }
+abbrev pub empty_queue : Queue
+empty_queue = record { list = replicate room no_record; count = 0 }
 
 abbrev pub join_of : FunctionUnit → Queue → Waiting → Joined
 join_of u q offered = record {
-  answer = (arrivalOf room u q.list q.count offered).answer;
+  answer = (arrival_of room u q.list q.count offered).answer;
   queue = record {
-    list = arrivalList room u q.list q.count offered;
-    count = (arrivalOf room u q.list q.count offered).count;
+    list = arrival_list room u q.list q.count offered;
+    count = (arrival_of room u q.list q.count offered).count;
   };
 }
 
-abbrev pub advanceOf : FunctionUnit → Bank → Queue → Advanced
-advanceOf u b q = record {
-  answer = (passOf room u b q.list q.count).answer;
-  bank = (passOf room u b q.list q.count).bank;
+abbrev pub advance_of : FunctionUnit → Bank → Queue → Advanced
+advance_of u b q = record {
+  answer = (pass_of room u b q.list q.count).answer;
+  bank = (pass_of room u b q.list q.count).bank;
   queue = record {
-    list = passList room u b q.list q.count;
-    count = (passOf room u b q.list q.count).count;
+    list = pass_list room u b q.list q.count;
+    count = (pass_of room u b q.list q.count).count;
   };
 }

@@ -5,17 +5,17 @@ use Rattle.unit.specs.Unit.{inside}
 use Rattle.queue.specs.declared.Waiting.{Waiting}
 
 -- what stands past the end of a list
-abbrev pub noRecord : Waiting
-noRecord = record { tag = 0; ticket = 0 }
+abbrev pub no_record : Waiting
+no_record = record { tag = 0; ticket = 0 }
 
 -- the tag of a record's function
 abbrev pub tag_of : Waiting → Tag
 tag_of w = record { 0 = w.tag }
 
 -- each of the records has a tag of a unit with so many functions
-unfoldable pub tagsInside : ℕ → List Waiting → Bool
-tagsInside f [] = true
-tagsInside f (w ∷ line) = inside w.tag f && tagsInside f line
+unfoldable pub tags_inside : ℕ → List Waiting → Bool
+tags_inside f [] = true
+tags_inside f (w ∷ line) = inside w.tag f && tags_inside f line
 
 -- the list when the first of `count` records has left: the waiting records are one place further forward, and the records from the new
 -- count on are as before

@@ -2,9 +2,9 @@
 // Every public function here is proved, total and without a `requires`.
 ghost use Rattle.std.specs.Prelude.{◌≡◌, ◌&&◌, cond, ltb, [], ◌≤◌, ◌<◌, length, take, get_or};
 ghost use Rattle.unit.specs.Unit.{inside};
-ghost use Rattle.queue.specs.Inner.{listBy, arrivedBy, oldestBy, passBy, Startable, FirstFits, seenOf, look_of, shownOf};
-ghost use Rattle.queue.specs.Line.{noRecord, forward};
-ghost use Rattle.queue.specs.Calls.{room, arrivalBy, arrivalOf, unit_by, passedThen, arrivalList, passOf, passList, emptyQueue, join_of, advanceOf};
+ghost use Rattle.queue.specs.Inner.{list_by, arrived_by, oldest_by, pass_by, Startable, FirstFits, seen_of, look_of, shown_of};
+ghost use Rattle.queue.specs.Line.{no_record, forward};
+ghost use Rattle.queue.specs.Calls.{room, arrival_by, arrival_of, unit_by, passed_then, arrival_list, pass_of, pass_list, empty_queue, join_of, advance_of};
 
 use controller::{Bank, Event};
 use unit::{Answer, FunctionUnit, Refusal, Tag};
@@ -95,7 +95,7 @@ fn still(fit: bool, tag: u8, functions: u8) -> bool
 
 // How many records are looked at: those that wait, or none where the count is refused without a look.
 fn shown(room: usize, length: usize, count: usize) -> usize
-    ensures { result ≡ shownOf room length count }
+    ensures { result ≡ shown_of room length count }
 {
     if length < room {
         return 0;
@@ -108,7 +108,7 @@ fn shown(room: usize, length: usize, count: usize) -> usize
 
 // The tests of a list: the unit, and the length.
 fn check_list(room: usize, u: FunctionUnit, length: usize) -> Answer
-    ensures { result ≡ listBy room u length }
+    ensures { result ≡ list_by room u length }
 {
     let sound = unit::sound(u);
     let long = room <= length;
@@ -125,7 +125,7 @@ fn check_arrival(
     tag: u8,
     fit: bool,
 ) -> Answer
-    ensures { result ≡ arrivalBy room u length count tag fit }
+    ensures { result ≡ arrival_by room u length count tag fit }
 {
     let known = words::is_inside(tag, u.functions);
     let free = count < room;
@@ -154,7 +154,7 @@ fn arriving(
     tag: u8,
     fit: bool,
 ) -> Arrival
-    ensures { result ≡ arrivedBy (arrivalBy room u length count tag fit) count }
+    ensures { result ≡ arrived_by (arrival_by room u length count tag fit) count }
 {
     let answer = check_arrival(room, u, length, count, tag, fit);
     match answer {
@@ -171,7 +171,7 @@ fn arriving(
 
 // A time unit in which nothing is started.
 fn idled(u: FunctionUnit, bank: Bank, count: usize) -> Pass
-    ensures { result ≡ passBy u bank count Passed.Idle }
+    ensures { result ≡ pass_by u bank count Passed.Idle }
 {
     let after = controller::step(u, bank, Event::Tick);
     let later = after.bank;
@@ -185,7 +185,7 @@ fn idled(u: FunctionUnit, bank: Bank, count: usize) -> Pass
 // A time unit in which the record is started if the bank grants it.
 fn tried(u: FunctionUnit, bank: Bank, count: usize, first: Waiting) -> Pass
     requires { Startable u count first }
-    ensures { result ≡ passBy u bank count (oldestBy bank count first) }
+    ensures { result ≡ pass_by u bank count (oldest_by bank count first) }
 {
     let after = controller::step(u, bank, Event::Start(Tag(first.tag)));
     let answer = after.answer;
@@ -213,7 +213,7 @@ fn passing(
     fit: bool,
 ) -> Pass
     requires { FirstFits room u length count first fit }
-    ensures { result ≡ passBy u bank count (passedThen (unit_by room u length count fit) (oldestBy bank count first)) }
+    ensures { result ≡ pass_by u bank count (passed_then (unit_by room u length count fit) (oldest_by bank count first)) }
 {
     let answer = check_unit(room, u, length, count, fit);
     match answer {
@@ -234,7 +234,7 @@ fn passing(
 // A look at the first records of a lent list, which stays as it is.
 fn look_over(list: &mut [Waiting], count: usize, functions: u8) -> Seen
     requires { count ≤ length list.old }
-    ensures { (result ≡ seenOf functions (take count list.old)) × (list.new ≡ list.old) }
+    ensures { (result ≡ seen_of functions (take count list.old)) × (list.new ≡ list.old) }
 {
     let mut s = unseen();
     let mut at = 0;
@@ -247,7 +247,7 @@ fn look_over(list: &mut [Waiting], count: usize, functions: u8) -> Seen
 
 // Before a record was looked at.
 fn unseen() -> Seen
-    ensures { result ≡ seenOf 0 [] }
+    ensures { result ≡ seen_of 0 [] }
 {
     Seen {
         fit: true,
@@ -258,7 +258,7 @@ fn unseen() -> Seen
 // The removal at the front: the first of the records that wait leaves, and the others move one place forward.
 fn remove_first(list: &mut [Waiting], count: usize) -> Waiting
     requires { (1 ≤ count) × (count ≤ length list.old) }
-    ensures { (result ≡ get_or list.old 0 noRecord) × (list.new ≡ forward list.old count) }
+    ensures { (result ≡ get_or list.old 0 no_record) × (list.new ≡ forward list.old count) }
 {
     let first = list[0];
     let mut i = 1;
@@ -271,8 +271,8 @@ fn remove_first(list: &mut [Waiting], count: usize) -> Waiting
 
 // An arrival: the record goes in behind those that wait.
 pub fn arrive(u: FunctionUnit, list: &mut [Waiting], count: usize, offered: Waiting) -> Arrival
-    ensures { (result ≡ arrivalOf room u list.old count offered)
-        × (list.new ≡ arrivalList room u list.old count offered) }
+    ensures { (result ≡ arrival_of room u list.old count offered)
+        × (list.new ≡ arrival_list room u list.old count offered) }
 {
     let n = shown(32, list.len(), count);
     let s = look_over(list, n, u.functions);
@@ -285,8 +285,8 @@ pub fn arrive(u: FunctionUnit, list: &mut [Waiting], count: usize, offered: Wait
 
 // A time unit: the oldest record is started if the bank grants it, and otherwise the unit passes as a tick.
 pub fn time_unit(u: FunctionUnit, bank: Bank, list: &mut [Waiting], count: usize) -> Pass
-    ensures { (result ≡ passOf room u bank list.old count)
-        × (list.new ≡ passList room u bank list.old count) }
+    ensures { (result ≡ pass_of room u bank list.old count)
+        × (list.new ≡ pass_list room u bank list.old count) }
 {
     let n = shown(32, list.len(), count);
     let s = look_over(list, n, u.functions);
@@ -301,7 +301,7 @@ pub fn time_unit(u: FunctionUnit, bank: Bank, list: &mut [Waiting], count: usize
 
 // A queue in which nothing waits.
 pub fn empty_queue() -> Queue
-    ensures { result ≡ emptyQueue }
+    ensures { result ≡ empty_queue }
 {
     Queue {
         list: [Waiting { tag: 0, ticket: 0 }; 32],
@@ -312,7 +312,7 @@ pub fn empty_queue() -> Queue
 // A look at the first records of an array. The `ensures` gives the array's length too, which the callers' proofs need.
 fn look_through(list: [Waiting; 32], count: usize, functions: u8) -> Seen
     requires { count ≤ 32 }
-    ensures { (result ≡ seenOf functions (take count list)) × (length list ≡ 32) }
+    ensures { (result ≡ seen_of functions (take count list)) × (length list ≡ 32) }
 {
     let mut s = unseen();
     let mut place = 0;
@@ -373,7 +373,7 @@ pub fn join(u: FunctionUnit, queue: Queue, offered: Waiting) -> Joined
 
 // A time unit.
 pub fn advance(u: FunctionUnit, bank: Bank, queue: Queue) -> Advanced
-    ensures { result ≡ advanceOf u bank queue }
+    ensures { result ≡ advance_of u bank queue }
 {
     let list = queue.list;
     let count = queue.count;

@@ -11,7 +11,7 @@ use Rattle.controller.specs.Bank.{granted}
 use Rattle.queue.specs.declared.Waiting.{Waiting}
 use Rattle.queue.specs.declared.Passed.{Passed}
 use Rattle.queue.specs.declared.Passed.TheVariants as Passed
-use Rattle.queue.specs.Calls.{oldest, passedThen}
+use Rattle.queue.specs.Calls.{oldest, passed_then}
 
 module _ (b : Bank) (answer : Answer) (line : List Waiting) where
   -- a record was started: the unit was accepted, and the record was the oldest and granted
@@ -21,9 +21,9 @@ module _ (b : Bank) (answer : Answer) (line : List Waiting) where
     pub first : line ≡ w ∷ rest
     pub granted : granted b w.tag ≡ true
 
-  pub was-started : (w : Waiting) → passedThen answer (oldest b line) ≡ Passed.Started w → Started w
+  pub was_started : (w : Waiting) → passed_then answer (oldest b line) ≡ Passed.Started w → Started w
   unfolding oldest
-  was-started w e = go answer line refl refl e
+  was_started w e = go answer line refl refl e
     where
       same : (x : Waiting) (rest : List Waiting) → answer ≡ Done → line ≡ x ∷ rest → (g : Bool) → granted b x.tag ≡ g
           → cond g (Passed.Started x) Passed.Idle ≡ Passed.Started w → Started w
@@ -37,24 +37,24 @@ module _ (b : Bank) (answer : Answer) (line : List Waiting) where
           }
       same x rest a p false g e = let z : ◌≡◌ {A = ℕ} 0 1 = cc in absurd (omega arith)
 
-      go : (a : Answer) (l : List Waiting) → answer ≡ a → line ≡ l → passedThen a (oldest b l) ≡ Passed.Started w → Started w
+      go : (a : Answer) (l : List Waiting) → answer ≡ a → line ≡ l → passed_then a (oldest b l) ≡ Passed.Started w → Started w
       go Done [] a p e = let z : ◌≡◌ {A = ℕ} 0 1 = cc in absurd (omega arith)
       go Done (x ∷ l) a p e = same x l a p (granted b x.tag) refl e
       go (Refused why) l a p e = let z : ◌≡◌ {A = ℕ} 0 1 = cc in absurd (omega arith)
 
   -- where none was started the unit was accepted too, as far as it was not refused
-  pub was-idle : passedThen answer (oldest b line) ≡ Passed.Idle → answer ≡ Done
-  was-idle e = go answer refl e
+  pub was_idle : passed_then answer (oldest b line) ≡ Passed.Idle → answer ≡ Done
+  was_idle e = go answer refl e
     where
-      go : (a : Answer) → answer ≡ a → passedThen a (oldest b line) ≡ Passed.Idle → answer ≡ Done
+      go : (a : Answer) → answer ≡ a → passed_then a (oldest b line) ≡ Passed.Idle → answer ≡ Done
       go Done a e = a
       go (Refused why) a e = let z : ◌≡◌ {A = ℕ} 0 1 = cc in absurd (omega arith)
 
   -- an accepted time unit at which the bank grants the oldest starts it
-  pub granted-started : (w : Waiting) (rest : List Waiting) → answer ≡ Done → line ≡ w ∷ rest → granted b w.tag ≡ true
-      → passedThen answer (oldest b line) ≡ Passed.Started w
+  pub granted_started : (w : Waiting) (rest : List Waiting) → answer ≡ Done → line ≡ w ∷ rest → granted b w.tag ≡ true
+      → passed_then answer (oldest b line) ≡ Passed.Started w
   unfolding oldest
-  granted-started w rest a e g =
-      ap (λ (x : Answer). passedThen x (oldest b line)) a
+  granted_started w rest a e g =
+      ap (λ (x : Answer). passed_then x (oldest b line)) a
       ∙ ap (oldest b) e
       ∙ ap (λ ok. cond ok (Passed.Started w) Passed.Idle) g

@@ -9,32 +9,32 @@ use lib.ListN.{length, take, length-set, length-take}
 use Rattle.unit.specs.declared.FunctionUnit.{FunctionUnit}
 use Rattle.unit.specs.declared.Answer.{Answer}
 use Rattle.unit.specs.declared.Answer.TheVariants.{Done, Refused}
-use Rattle.unit.specs.Unit.{inside, marked, soundOf}
-use Rattle.collision.specs.Vector.{largestColumn}
+use Rattle.unit.specs.Unit.{inside, marked, sound_of}
+use Rattle.collision.specs.Vector.{largest_column}
 use Rattle.controller.specs.declared.Bank.{Bank}
 use Rattle.controller.specs.declared.Event.TheVariants.{Tick, Start}
 use Rattle.controller.specs.declared.Stepped.{Stepped}
 use Rattle.controller.specs.Bank.{shifted, started, granted, moved, step_of}
-use Rattle.controller.proofs.StepLaws.{step-done, start-answered}
-use Rattle.controller.proofs.TickLaws.{tick-shifts, shifted-below, step-below}
+use Rattle.controller.proofs.StepLaws.{step_done, start_answered}
+use Rattle.controller.proofs.TickLaws.{tick-shifts, shifted_below, step_below}
 use Rattle.queue.specs.declared.Waiting.{Waiting}
 use Rattle.queue.specs.declared.Passed.{Passed}
 use Rattle.queue.specs.declared.Passed.TheVariants as Passed
-use Rattle.queue.specs.Line.{tag_of, tagsInside}
-use Rattle.queue.specs.Calls.{room, arrivalAnswer, countThen, listThen, arrivalOf, arrivalList, oldest, passedThen, passedOf, bankThen, fewer, listAfter, passOf, passList}
+use Rattle.queue.specs.Line.{tag_of, tags_inside}
+use Rattle.queue.specs.Calls.{room, arrival_answer, count_then, list_then, arrival_of, arrival_list, oldest, passed_then, passed_of, bank_then, fewer, list_after, pass_of, pass_list}
 use Rattle.queue_claims.specs.Runs.{Port, after}
 use Rattle.queue_claims.specs.Runs.Call.{arrival, unit}
-use Rattle.queue_claims.proofs.DelayLaws.{Low, low-started}
-use Rattle.queue.proofs.AcceptedLaws.{arrival-accepted, unit-answered}
-use Rattle.queue.proofs.LineLaws.{tags-first, tags-rest, tags-joined, set_line, forward-length, forward-line}
+use Rattle.queue_claims.proofs.DelayLaws.{Low, low_started}
+use Rattle.queue.proofs.AcceptedLaws.{arrival_accepted, unit_answered}
+use Rattle.queue.proofs.LineLaws.{tags_first, tags_rest, tags_joined, set_line, forward_length, forward_line}
 
 -- The bank, given by the controller
 
-pub bank-start : (u : FunctionUnit) (b : Bank) (w : Waiting) → soundOf u ≡ true → inside w.tag u.functions ≡ true → granted b w.tag ≡ true
+pub bank_start : (u : FunctionUnit) (b : Bank) (w : Waiting) → sound_of u ≡ true → inside w.tag u.functions ≡ true → granted b w.tag ≡ true
     → (step_of u b (Start (tag_of w))).bank ≡ started u w.tag b
 unfolding moved
-bank-start u b w sound i g =
-    ap (λ (s : Stepped). s.bank) (sym (step-done u b (Start (tag_of w)) (start-answered u b (tag_of w) sound i g)))
+bank_start u b w sound i g =
+    ap (λ (s : Stepped). s.bank) (sym (step_done u b (Start (tag_of w)) (start_answered u b (tag_of w) sound i g)))
 
 -- A port at which every time unit is accepted, and the records that wait there
 pub record Ready (u : FunctionUnit) (p : Port) (line : List Waiting) : Type 0 where
@@ -42,77 +42,77 @@ pub record Ready (u : FunctionUnit) (p : Port) (line : List Waiting) : Type 0 wh
   pub long : room ≤ length p.list
   pub few : p.count ≤ room
   pub waits : take p.count p.list ≡ line
-  pub tags : tagsInside u.functions line ≡ true
+  pub tags : tags_inside u.functions line ≡ true
 
-pub ready-count : {u : FunctionUnit} {p : Port} {line : List Waiting} → Ready u p line → length line ≡ p.count
-ready-count {u} {p} {line} r = sym (ap length r.waits) ∙ omega (arith, length-take p.count p.list, r.long, r.few)
+pub ready_count : {u : FunctionUnit} {p : Port} {line : List Waiting} → Ready u p line → length line ≡ p.count
+ready_count {u} {p} {line} r = sym (ap length r.waits) ∙ omega (arith, length-take p.count p.list, r.long, r.few)
 
 -- Arrivals
 
-pub arrival-port : (u : FunctionUnit) (p : Port) (w : Waiting) (a : Answer) → arrivalAnswer room u p.list p.count w ≡ a
-    → after u p (arrival w) ≡ record { bank = p.bank; list = listThen a p.list p.count w; count = countThen a p.count }
-unfolding after arrivalOf arrivalList
-arrival-port u p w a e = ap (λ (a : Answer). record { bank = p.bank; list = listThen a p.list p.count w; count = countThen a p.count }) e
+pub arrival_port : (u : FunctionUnit) (p : Port) (w : Waiting) (a : Answer) → arrival_answer room u p.list p.count w ≡ a
+    → after u p (arrival w) ≡ record { bank = p.bank; list = list_then a p.list p.count w; count = count_then a p.count }
+unfolding after arrival_of arrival_list
+arrival_port u p w a e = ap (λ (a : Answer). record { bank = p.bank; list = list_then a p.list p.count w; count = count_then a p.count }) e
 
-pub ready-joined : (u : FunctionUnit) (p : Port) (w : Waiting) → Low u p.bank → arrivalAnswer room u p.list p.count w ≡ Done
+pub ready_joined : (u : FunctionUnit) (p : Port) (w : Waiting) → Low u p.bank → arrival_answer room u p.list p.count w ≡ Done
     → Ready u (after u p (arrival w)) (take p.count p.list ++ w ∷ [])
-ready-joined u p w low e =
-    let a = arrival-accepted room u p.list p.count w e in
-    subst (λ (q : Port). Ready u q (take p.count p.list ++ w ∷ [])) (sym (arrival-port u p w Done e))
+ready_joined u p w low e =
+    let a = arrival_accepted room u p.list p.count w e in
+    subst (λ (q : Port). Ready u q (take p.count p.list ++ w ∷ [])) (sym (arrival_port u p w Done e))
     (record {
       low = low;
       long = omega (arith, length-set p.list p.count w, a.long);
       few = omega (arith, a.few);
       waits = set_line p.list p.count w (omega (arith, a.few, a.long));
-      tags = tags-joined u (take p.count p.list) w a.tags a.tag;
+      tags = tags_joined u (take p.count p.list) w a.tags a.tag;
     })
 
-pub ready-arrival : (u : FunctionUnit) (p : Port) (line : List Waiting) (w : Waiting) → Ready u p line
+pub ready_arrival : (u : FunctionUnit) (p : Port) (line : List Waiting) (w : Waiting) → Ready u p line
     → Ready u (after u p (arrival w)) line ⊎ Ready u (after u p (arrival w)) (line ++ w ∷ [])
-ready-arrival u p line w r = go (arrivalAnswer room u p.list p.count w) refl
+ready_arrival u p line w r = go (arrival_answer room u p.list p.count w) refl
   where
-    go : (a : Answer) → arrivalAnswer room u p.list p.count w ≡ a
+    go : (a : Answer) → arrival_answer room u p.list p.count w ≡ a
         → Ready u (after u p (arrival w)) line ⊎ Ready u (after u p (arrival w)) (line ++ w ∷ [])
-    go Done e = inr (subst (λ (l : List Waiting). Ready u (after u p (arrival w)) (l ++ w ∷ [])) r.waits (ready-joined u p w r.low e))
-    go (Refused why) e = inl (subst (λ (q : Port). Ready u q line) (sym (arrival-port u p w (Refused why) e)) r)
+    go Done e = inr (subst (λ (l : List Waiting). Ready u (after u p (arrival w)) (l ++ w ∷ [])) r.waits (ready_joined u p w r.low e))
+    go (Refused why) e = inl (subst (λ (q : Port). Ready u q line) (sym (arrival_port u p w (Refused why) e)) r)
 
-pub arrival-bank : (u : FunctionUnit) (p : Port) (w : Waiting) → (after u p (arrival w)).bank ≡ p.bank
+pub arrival_bank : (u : FunctionUnit) (p : Port) (w : Waiting) → (after u p (arrival w)).bank ≡ p.bank
 unfolding after
-arrival-bank u p w = refl
+arrival_bank u p w = refl
 
 -- Time units
 
-unit-port : (u : FunctionUnit) (p : Port) (a : Passed) → passedOf room u p.bank p.list p.count ≡ a
-    → after u p unit ≡ record { bank = bankThen u a p.bank; list = listAfter a p.list p.count; count = fewer a p.count }
-unfolding after passOf passList
-unit-port u p a e =
-    ap (λ (a : Passed). record { bank = bankThen u a p.bank; list = listAfter a p.list p.count; count = fewer a p.count }) e
+unit_port : (u : FunctionUnit) (p : Port) (a : Passed) → passed_of room u p.bank p.list p.count ≡ a
+    → after u p unit ≡ record { bank = bank_then u a p.bank; list = list_after a p.list p.count; count = fewer a p.count }
+unfolding after pass_of pass_list
+unit_port u p a e =
+    ap (λ (a : Passed). record { bank = bank_then u a p.bank; list = list_after a p.list p.count; count = fewer a p.count }) e
 
-module _ (u : FunctionUnit) (sound : soundOf u ≡ true) (p : Port) where
-  passed-oldest : (line : List Waiting) → Ready u p line → passedOf room u p.bank p.list p.count ≡ oldest p.bank line
-  unfolding passedOf
+module _ (u : FunctionUnit) (sound : sound_of u ≡ true) (p : Port) where
+  passed-oldest : (line : List Waiting) → Ready u p line → passed_of room u p.bank p.list p.count ≡ oldest p.bank line
+  unfolding passed_of
   passed-oldest line r =
-      let t : tagsInside u.functions (take p.count p.list) ≡ true = ap (tagsInside u.functions) r.waits ∙ r.tags in
-      ap (λ (a : Answer). passedThen a (oldest p.bank (take p.count p.list))) (unit-answered room u p.list p.count sound r.long r.few t)
+      let t : tags_inside u.functions (take p.count p.list) ≡ true = ap (tags_inside u.functions) r.waits ∙ r.tags in
+      ap (λ (a : Answer). passed_then a (oldest p.bank (take p.count p.list))) (unit_answered room u p.list p.count sound r.long r.few t)
       ∙ ap (oldest p.bank) r.waits
 
   -- what a time unit does where nothing waits, where the oldest is granted, and where it is not
 
   pub record Does (a : Passed) (b : Bank) (line : List Waiting) : Type 0 where
-    pub passed : passedOf room u p.bank p.list p.count ≡ a
+    pub passed : passed_of room u p.bank p.list p.count ≡ a
     pub bank : (after u p unit).bank ≡ b
     pub ready : Ready u (after u p unit) line
 
-  ticks-on : (line : List Waiting) → Ready u p line → passedOf room u p.bank p.list p.count ≡ Passed.Idle
+  ticks_on : (line : List Waiting) → Ready u p line → passed_of room u p.bank p.list p.count ≡ Passed.Idle
       → Does Passed.Idle (shifted p.bank) line
-  ticks-on line r e =
+  ticks_on line r e =
       let t = tick-shifts u sound p.bank in
       record {
         passed = e;
-        bank = ap (λ (q : Port). q.bank) (unit-port u p Passed.Idle e) ∙ t;
-        ready = subst (λ (q : Port). Ready u q line) (sym (unit-port u p Passed.Idle e))
+        bank = ap (λ (q : Port). q.bank) (unit_port u p Passed.Idle e) ∙ t;
+        ready = subst (λ (q : Port). Ready u q line) (sym (unit_port u p Passed.Idle e))
             (record {
-              low = subst (Low u) (sym t) (shifted-below (largestColumn (marked u)) p.bank r.low);
+              low = subst (Low u) (sym t) (shifted_below (largest_column (marked u)) p.bank r.low);
               long = r.long;
               few = r.few;
               waits = r.waits;
@@ -121,43 +121,43 @@ module _ (u : FunctionUnit) (sound : soundOf u ≡ true) (p : Port) where
       }
 
   module _ (w : Waiting) (line : List Waiting) (r : Ready u p (w ∷ line)) where
-    tag-there : inside w.tag u.functions ≡ true
-    tag-there = tags-first u w line r.tags
+    tag_there : inside w.tag u.functions ≡ true
+    tag_there = tags_first u w line r.tags
 
-    pub unit-waits : granted p.bank w.tag ≡ false → Does Passed.Idle (shifted p.bank) (w ∷ line)
+    pub unit_waits : granted p.bank w.tag ≡ false → Does Passed.Idle (shifted p.bank) (w ∷ line)
     unfolding oldest
-    unit-waits g = ticks-on (w ∷ line) r (passed-oldest (w ∷ line) r ∙ ap (λ ok. cond ok (Passed.Started w) Passed.Idle) g)
+    unit_waits g = ticks_on (w ∷ line) r (passed-oldest (w ∷ line) r ∙ ap (λ ok. cond ok (Passed.Started w) Passed.Idle) g)
 
-    pub unit-starts : granted p.bank w.tag ≡ true → Does (Passed.Started w) (started u w.tag p.bank) line
+    pub unit_starts : granted p.bank w.tag ≡ true → Does (Passed.Started w) (started u w.tag p.bank) line
     unfolding oldest
-    unit-starts g =
-        let e : passedOf room u p.bank p.list p.count ≡ Passed.Started w =
+    unit_starts g =
+        let e : passed_of room u p.bank p.list p.count ≡ Passed.Started w =
         passed-oldest (w ∷ line) r ∙ ap (λ ok. cond ok (Passed.Started w) Passed.Idle) g in
-        let s = bank-start u p.bank w sound tag-there g in
-        let n : suc (length line) ≡ p.count = ready-count r in
+        let s = bank_start u p.bank w sound tag_there g in
+        let n : suc (length line) ≡ p.count = ready_count r in
         record {
           passed = e;
-          bank = ap (λ (q : Port). q.bank) (unit-port u p (Passed.Started w) e) ∙ s;
-          ready = subst (λ (q : Port). Ready u q line) (sym (unit-port u p (Passed.Started w) e))
+          bank = ap (λ (q : Port). q.bank) (unit_port u p (Passed.Started w) e) ∙ s;
+          ready = subst (λ (q : Port). Ready u q line) (sym (unit_port u p (Passed.Started w) e))
               (record {
-                low = subst (Low u) (sym s) (low-started u w.tag p.bank sound tag-there r.low);
-                long = omega (arith, r.long, r.few, forward-length p.list p.count (omega (arith, r.long, r.few)) (omega arith));
+                low = subst (Low u) (sym s) (low_started u w.tag p.bank sound tag_there r.low);
+                long = omega (arith, r.long, r.few, forward_length p.list p.count (omega (arith, r.long, r.few)) (omega arith));
                 few = omega (arith, r.few);
-                waits = forward-line p.list p.count w line (omega (arith, r.long, r.few)) r.waits;
-                tags = tags-rest u w line r.tags;
+                waits = forward_line p.list p.count w line (omega (arith, r.long, r.few)) r.waits;
+                tags = tags_rest u w line r.tags;
               });
         }
 
 -- a call keeps the registers low, at any port
 
-pub arrival-low : (u : FunctionUnit) (p : Port) (w : Waiting) → Low u p.bank → Low u (after u p (arrival w)).bank
-arrival-low u p w low = subst (Low u) (sym (arrival-bank u p w)) low
+pub arrival_low : (u : FunctionUnit) (p : Port) (w : Waiting) → Low u p.bank → Low u (after u p (arrival w)).bank
+arrival_low u p w low = subst (Low u) (sym (arrival_bank u p w)) low
 
-pub unit-low : (u : FunctionUnit) → soundOf u ≡ true → (p : Port) → Low u p.bank → Low u (after u p unit).bank
-unfolding after passOf
-unit-low u sound p low = go (passedOf room u p.bank p.list p.count)
+pub unit_low : (u : FunctionUnit) → sound_of u ≡ true → (p : Port) → Low u p.bank → Low u (after u p unit).bank
+unfolding after pass_of
+unit_low u sound p low = go (passed_of room u p.bank p.list p.count)
   where
-    go : (a : Passed) → Low u (bankThen u a p.bank)
-    go (Passed.Started w) = step-below u p.bank (Start (tag_of w)) sound low
-    go Passed.Idle = step-below u p.bank Tick sound low
+    go : (a : Passed) → Low u (bank_then u a p.bank)
+    go (Passed.Started w) = step_below u p.bank (Start (tag_of w)) sound low
+    go Passed.Idle = step_below u p.bank Tick sound low
     go (Passed.Refused why) = low

@@ -7,8 +7,8 @@ use Rattle.controller.specs.Bank.{empty, step_of}
 use Rattle.queue.specs.declared.Waiting.{Waiting}
 use Rattle.queue.specs.declared.Passed.{Passed}
 use Rattle.queue.specs.declared.Passed.TheVariants as Passed
-use Rattle.queue.specs.Line.{noRecord}
-use Rattle.queue.specs.Calls.{room, arrivalOf, arrivalList, passedOf, passOf, passList}
+use Rattle.queue.specs.Line.{no_record}
+use Rattle.queue.specs.Calls.{room, arrival_of, arrival_list, passed_of, pass_of, pass_list}
 
 -- what is handed from call to call
 pub record Port : Type 0 where
@@ -25,13 +25,13 @@ pub data Call : Type 0 where
 unfoldable pub after : FunctionUnit → Port → Call → Port
 after u p (arrival w) = record {
   bank = p.bank;
-  list = arrivalList room u p.list p.count w;
-  count = (arrivalOf room u p.list p.count w).count;
+  list = arrival_list room u p.list p.count w;
+  count = (arrival_of room u p.list p.count w).count;
 }
 after u p unit = record {
-  bank = (passOf room u p.bank p.list p.count).bank;
-  list = passList room u p.bank p.list p.count;
-  count = (passOf room u p.bank p.list p.count).count;
+  bank = (pass_of room u p.bank p.list p.count).bank;
+  list = pass_list room u p.bank p.list p.count;
+  count = (pass_of room u p.bank p.list p.count).count;
 }
 
 -- From empty: events on the bank, and calls, in any order, some of them refused
@@ -44,25 +44,25 @@ unfoldable pub done : FunctionUnit → Port → Action → Port
 done u p (event e) = record { bank = (step_of u p.bank e).bank; list = p.list; count = p.count }
 done u p (call k) = after u p k
 
-unfoldable pub doneAll : FunctionUnit → Port → List Action → Port
-doneAll u p [] = p
-doneAll u p (d ∷ actions) = doneAll u (done u p d) actions
+unfoldable pub done_all : FunctionUnit → Port → List Action → Port
+done_all u p [] = p
+done_all u p (d ∷ actions) = done_all u (done u p d) actions
 
 -- empty: an empty bank, and a lent list in which nothing waits
-abbrev pub emptyPort : List Waiting → Port
-emptyPort list = record { bank = empty; list = list; count = 0 }
+abbrev pub empty_port : List Waiting → Port
+empty_port list = record { bank = empty; list = list; count = 0 }
 
 -- bank and list brought from empty
 abbrev pub brought : FunctionUnit → List Waiting → List Action → Port
-brought u list actions = doneAll u (emptyPort list) actions
+brought u list actions = done_all u (empty_port list) actions
 
 -- From then on: calls alone
 
 -- how many time units pass
-unfoldable pub unitsIn : List Call → ℕ
-unitsIn [] = 0
-unitsIn (arrival w ∷ calls) = unitsIn calls
-unitsIn (unit ∷ calls) = unitsIn calls + 1
+unfoldable pub units_in : List Call → ℕ
+units_in [] = 0
+units_in (arrival w ∷ calls) = units_in calls
+units_in (unit ∷ calls) = units_in calls + 1
 
 -- a record that was started, and the number of the time unit, counted from 1
 pub record Start : Type 0 where
@@ -70,8 +70,8 @@ pub record Start : Type 0 where
   pub unit : ℕ
 
 -- what stands past the end of the starts
-abbrev pub noStart : Start
-noStart = record { task = noRecord; unit = 0 }
+abbrev pub no_start : Start
+no_start = record { task = no_record; unit = 0 }
 
 abbrev pub start_in : Passed → ℕ → List Start
 start_in (Passed.Started w) n = record { task = w; unit = n } ∷ []
@@ -82,4 +82,4 @@ start_in (Passed.Refused why) n = []
 unfoldable pub starts : FunctionUnit → Port → ℕ → List Call → List Start
 starts u p n [] = []
 starts u p n (arrival w ∷ calls) = starts u (after u p (arrival w)) n calls
-starts u p n (unit ∷ calls) = start_in (passedOf room u p.bank p.list p.count) (n + 1) ++ starts u (after u p unit) (n + 1) calls
+starts u p n (unit ∷ calls) = start_in (passed_of room u p.bank p.list p.count) (n + 1) ++ starts u (after u p unit) (n + 1) calls

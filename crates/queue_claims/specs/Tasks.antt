@@ -6,74 +6,74 @@ use Rattle.unit.specs.Unit.{marked}
 use Rattle.controller.specs.declared.Event.{Event}
 use Rattle.controller.specs.declared.Event.TheVariants.{Tick, Start}
 use Rattle.controller.specs.Bank.{step_of}
-use Rattle.controller.specs.History.{History, accepted, historyThen, taskNow, outset, bankAfter, historyAfter, Free, Apart}
+use Rattle.controller.specs.History.{History, accepted, history_then, task_now, outset, bank_after, history_after, Free, Apart}
 use Rattle.queue.specs.declared.Waiting.{Waiting}
 use Rattle.queue.specs.declared.Passed.{Passed}
 use Rattle.queue.specs.declared.Passed.TheVariants as Passed
 use Rattle.queue.specs.Line.{tag_of}
-use Rattle.queue.specs.Calls.{room, passedOf}
-use Rattle.queue_claims.specs.Runs.{Port, Action, done, emptyPort, brought}
+use Rattle.queue.specs.Calls.{room, passed_of}
+use Rattle.queue_claims.specs.Runs.{Port, Action, done, empty_port, brought}
 use Rattle.queue_claims.specs.Runs.Call.{arrival, unit}
 use Rattle.queue_claims.specs.Runs.Action.{event, call}
 
 -- The tasks and the time, from what the calls answer
 
 -- a time unit that started a record adds its task; one that was refused takes no time
-abbrev pub unitThen : Passed → History → History
-unitThen (Passed.Started w) h = accepted h (Start (tag_of w))
-unitThen Passed.Idle h = accepted h Tick
-unitThen (Passed.Refused why) h = h
+abbrev pub unit_then : Passed → History → History
+unit_then (Passed.Started w) h = accepted h (Start (tag_of w))
+unit_then Passed.Idle h = accepted h Tick
+unit_then (Passed.Refused why) h = h
 
 -- an event goes into the history by the controller's answer, and an arrival takes no time
-unfoldable pub historyNext : FunctionUnit → Port → History → Action → History
-historyNext u p h (event e) = historyThen (step_of u p.bank e).answer h e
-historyNext u p h (call (arrival w)) = h
-historyNext u p h (call unit) = unitThen (passedOf room u p.bank p.list p.count) h
+unfoldable pub history_next : FunctionUnit → Port → History → Action → History
+history_next u p h (event e) = history_then (step_of u p.bank e).answer h e
+history_next u p h (call (arrival w)) = h
+history_next u p h (call unit) = unit_then (passed_of room u p.bank p.list p.count) h
 
-unfoldable pub historyFrom : FunctionUnit → Port → History → List Action → History
-historyFrom u p h [] = h
-historyFrom u p h (d ∷ actions) = historyFrom u (done u p d) (historyNext u p h d) actions
+unfoldable pub history_from : FunctionUnit → Port → History → List Action → History
+history_from u p h [] = h
+history_from u p h (d ∷ actions) = history_from u (done u p d) (history_next u p h d) actions
 
 -- of a list of actions from empty
-abbrev pub tasksAfter : FunctionUnit → List Waiting → List Action → History
-tasksAfter u list actions = historyFrom u (emptyPort list) outset.history actions
+abbrev pub tasks_after : FunctionUnit → List Waiting → List Action → History
+tasks_after u list actions = history_from u (empty_port list) outset.history actions
 
 -- The events of the controller that they are
 
-abbrev pub unitEvents : Passed → List Event
-unitEvents (Passed.Started w) = Start (tag_of w) ∷ []
-unitEvents Passed.Idle = Tick ∷ []
-unitEvents (Passed.Refused why) = []
+abbrev pub unit_events : Passed → List Event
+unit_events (Passed.Started w) = Start (tag_of w) ∷ []
+unit_events Passed.Idle = Tick ∷ []
+unit_events (Passed.Refused why) = []
 
-abbrev pub actionEvents : FunctionUnit → Port → Action → List Event
-actionEvents u p (event e) = e ∷ []
-actionEvents u p (call (arrival w)) = []
-actionEvents u p (call unit) = unitEvents (passedOf room u p.bank p.list p.count)
+abbrev pub action_events : FunctionUnit → Port → Action → List Event
+action_events u p (event e) = e ∷ []
+action_events u p (call (arrival w)) = []
+action_events u p (call unit) = unit_events (passed_of room u p.bank p.list p.count)
 
-unfoldable pub eventsFrom : FunctionUnit → Port → List Action → List Event
-eventsFrom u p [] = []
-eventsFrom u p (d ∷ actions) = actionEvents u p d ++ eventsFrom u (done u p d) actions
+unfoldable pub events_from : FunctionUnit → Port → List Action → List Event
+events_from u p [] = []
+events_from u p (d ∷ actions) = action_events u p d ++ events_from u (done u p d) actions
 
-abbrev pub eventsOf : FunctionUnit → List Waiting → List Action → List Event
-eventsOf u list actions = eventsFrom u (emptyPort list) actions
+abbrev pub events_of : FunctionUnit → List Waiting → List Action → List Event
+events_of u list actions = events_from u (empty_port list) actions
 
 -- Claims, for one unchanged unit from empty (proofs/Tasks.antt)
 
--- bank, time and tasks are those of the controller's events (`queue-plays`)
+-- bank, time and tasks are those of the controller's events (`queue_plays`)
 abbrev pub QueuePlays : Type 0
 QueuePlays =
     (u : FunctionUnit) (list : List Waiting) (actions : List Action)
-    → ((brought u list actions).bank ≡ bankAfter u (eventsOf u list actions))
-    × (tasksAfter u list actions ≡ historyAfter u (eventsOf u list actions))
+    → ((brought u list actions).bank ≡ bank_after u (events_of u list actions))
+    × (tasks_after u list actions ≡ history_after u (events_of u list actions))
 
--- so that no segment ever serves two of the tasks in one time unit (`queue-apart`)
+-- so that no segment ever serves two of the tasks in one time unit (`queue_apart`)
 abbrev pub QueueApart : Type 0
-QueueApart = (u : FunctionUnit) (list : List Waiting) (actions : List Action) → Apart (marked u) (tasksAfter u list actions).tasks
+QueueApart = (u : FunctionUnit) (list : List Waiting) (actions : List Action) → Apart (marked u) (tasks_after u list actions).tasks
 
--- and a time unit starts the oldest record exactly when its task would collide with none of those started before (`queue-exactly`)
+-- and a time unit starts the oldest record exactly when its task would collide with none of those started before (`queue_exactly`)
 abbrev pub QueueExactly : Type 0
 QueueExactly =
     (u : FunctionUnit) (list : List Waiting) (actions : List Action) (w : Waiting) (line : List Waiting)
     → take (brought u list actions).count (brought u list actions).list ≡ w ∷ line
-    → (passedOf room u (brought u list actions).bank (brought u list actions).list (brought u list actions).count ≡ Passed.Started w)
-    ↔ Free (marked u) (taskNow (tasksAfter u list actions) w.tag) (tasksAfter u list actions).tasks
+    → (passed_of room u (brought u list actions).bank (brought u list actions).list (brought u list actions).count ≡ Passed.Started w)
+    ↔ Free (marked u) (task_now (tasks_after u list actions) w.tag) (tasks_after u list actions).tasks

@@ -1,6 +1,6 @@
 -- What a designer is told at the issue port, and what the session is then.
 use Rattle.std.specs.Prelude.{◌≡◌, List, [], ◌∷◌, ◌++◌, ℕ, length, take}
-use Rattle.text.specs.Text.{ascii, decimal, spaced, put_in, putEnd}
+use Rattle.text.specs.Text.{ascii, decimal, spaced, put_in, put_end}
 use Rattle.unit.specs.declared.Answer.TheVariants.{Refused}
 use Rattle.listing.specs.Lines.{newline}
 use Rattle.queue.specs.declared.Waiting.{Waiting}
@@ -9,13 +9,13 @@ use Rattle.queue.specs.declared.Joined.{Joined}
 use Rattle.queue.specs.declared.Advanced.{Advanced}
 use Rattle.queue.specs.declared.Passed.{Passed}
 use Rattle.queue.specs.declared.Passed.TheVariants as Passed
-use Rattle.queue.specs.Calls.{join_of, advanceOf}
+use Rattle.queue.specs.Calls.{join_of, advance_of}
 use Rattle.command_table.specs.declared.Issue.{Issue}
 use Rattle.command_table.specs.declared.Issue.TheVariants as Issue
 use Rattle.command.specs.declared.Request.{Request}
 use Rattle.session.specs.declared.Session.{Session}
 use Rattle.session.specs.declared.Reply.{Reply}
-use Rattle.session.specs.Sessions.{withPort, one, answerLine}
+use Rattle.session.specs.Sessions.{with_port, one, answer_line}
 
 -- The calls
 
@@ -27,19 +27,19 @@ abbrev pub arrived : Session → Request → Joined
 arrived s r = join_of s.unit s.queue (offered r)
 
 abbrev pub passed : Session → Advanced
-passed s = advanceOf s.unit s.bank s.queue
+passed s = advance_of s.unit s.bank s.queue
 
 -- Lines
 
 -- the record that was started: its tag and its ticket
-abbrev pub startedLine : Waiting → List ℕ
-startedLine w = ascii "started " ++ decimal w.tag ++ ascii " " ++ decimal w.ticket ++ newline
+abbrev pub started_line : Waiting → List ℕ
+started_line w = ascii "started " ++ decimal w.tag ++ ascii " " ++ decimal w.ticket ++ newline
 
 -- or that none was
-abbrev pub passedLine : Passed → List ℕ
-passedLine (Passed.Started w) = startedLine w
-passedLine Passed.Idle = ascii "none\n"
-passedLine (Passed.Refused why) = answerLine (Refused why)
+abbrev pub passed_line : Passed → List ℕ
+passed_line (Passed.Started w) = started_line w
+passed_line Passed.Idle = ascii "none\n"
+passed_line (Passed.Refused why) = answer_line (Refused why)
 
 -- the tags and tickets of records, one after the other
 unfoldable pub flat : List Waiting → List ℕ
@@ -50,24 +50,24 @@ flat (w ∷ line) = w.tag ∷ w.ticket ∷ flat line
 abbrev pub line_of : List Waiting → List ℕ
 line_of line = ascii "queue " ++ decimal (length line) ++ ascii ":" ++ spaced (flat line) ++ newline
 
-abbrev pub queueLine : Queue → List ℕ
-queueLine q = line_of (take q.count q.list)
+abbrev pub queue_line : Queue → List ℕ
+queue_line q = line_of (take q.count q.list)
 
 -- Commands
 
-abbrev pub issueReply : Issue → Session → Request → List ℕ
-issueReply Issue.Arrive s r = answerLine (arrived s r).answer
-issueReply Issue.Pass s r = passedLine (passed s).answer
-issueReply Issue.Queue s r = queueLine s.queue
+abbrev pub issue_reply : Issue → Session → Request → List ℕ
+issue_reply Issue.Arrive s r = answer_line (arrived s r).answer
+issue_reply Issue.Pass s r = passed_line (passed s).answer
+issue_reply Issue.Queue s r = queue_line s.queue
 
 -- an arrival leaves another queue, a time unit another bank and another queue
-abbrev pub issueNext : Issue → Session → Request → Session
-issueNext Issue.Arrive s r = withPort s s.bank (arrived s r).queue s.shared
-issueNext Issue.Pass s r = withPort s (passed s).bank (passed s).queue s.shared
-issueNext Issue.Queue s r = s
+abbrev pub issue_next : Issue → Session → Request → Session
+issue_next Issue.Arrive s r = with_port s s.bank (arrived s r).queue s.shared
+issue_next Issue.Pass s r = with_port s (passed s).bank (passed s).queue s.shared
+issue_next Issue.Queue s r = s
 
 -- one command: the line stands in front of the lent bytes, if there is room for it, and the session goes on
 pub record Issued (what : Issue) (s : Session) (r : Request) (before after : List ℕ) (t : Reply) : Type 0 where
-  pub out : after ≡ put_in before 0 (issueReply what s r)
-  pub end : t.end ≡ putEnd before 0 (issueReply what s r)
-  pub next : t.session ≡ issueNext what s r
+  pub out : after ≡ put_in before 0 (issue_reply what s r)
+  pub end : t.end ≡ put_end before 0 (issue_reply what s r)
+  pub next : t.session ≡ issue_next what s r

@@ -5,7 +5,7 @@ ghost use Rattle.text.specs.Text.{ascii, decimal, spaced};
 ghost use Rattle.text.specs.Wrote.{Wrote};
 ghost use Rattle.listing.specs.Lines.{newline};
 ghost use Rattle.session.specs.Sessions.{Line};
-ghost use Rattle.queue_text.specs.Told.{startedLine, passedLine, flat, queueLine, Issued};
+ghost use Rattle.queue_text.specs.Told.{started_line, passed_line, flat, queue_line, Issued};
 
 use command::Request;
 use command_table::Issue;
@@ -53,7 +53,7 @@ fn write_queue(line: &mut [u8], numbers: &[u32], count: u32) -> usize
 }
 
 fn put_queue(out: &mut [u8], queue: Queue) -> usize
-    ensures { Line (queueLine queue) out.old out.new result }
+    ensures { Line (queue_line queue) out.old out.new result }
 {
     let mut line = [0u8; 1024];
     let list = queue.list;
@@ -67,7 +67,7 @@ fn put_queue(out: &mut [u8], queue: Queue) -> usize
 // The record that was started.
 fn write_started(line: &mut [u8], started: Waiting) -> usize
     requires { 64 ≤ length line.old }
-    ensures { Wrote line.old 0 (startedLine started) line.new result }
+    ensures { Wrote line.old 0 (started_line started) line.new result }
 {
     let after_word = text::put(line, 0, b"started ");
     let after_tag = text::put_number(line, after_word, started.tag as u32);
@@ -77,7 +77,7 @@ fn write_started(line: &mut [u8], started: Waiting) -> usize
 }
 
 fn put_started(out: &mut [u8], started: Waiting) -> usize
-    ensures { Line (startedLine started) out.old out.new result }
+    ensures { Line (started_line started) out.old out.new result }
 {
     let mut line = [0u8; 64];
     let end = write_started(&mut line, started);
@@ -86,7 +86,7 @@ fn put_started(out: &mut [u8], started: Waiting) -> usize
 
 // What a time unit did.
 fn put_passed(out: &mut [u8], passed: Passed) -> usize
-    ensures { Line (passedLine passed) out.old out.new result }
+    ensures { Line (passed_line passed) out.old out.new result }
 {
     match passed {
         Passed::Started(started) => put_started(out, started),

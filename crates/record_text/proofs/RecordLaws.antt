@@ -8,50 +8,50 @@ use Rattle.unit.specs.declared.FunctionUnit.{FunctionUnit}
 use Rattle.unit.specs.declared.Refusal.{Refusal}
 use Rattle.unit.specs.declared.Answer.{Answer}
 use Rattle.unit.specs.declared.Answer.TheVariants.{Done, Refused}
-use Rattle.unit.specs.Calls.{andThen}
+use Rattle.unit.specs.Calls.{and_then}
 use Rattle.unit_file.specs.declared.Written.{Written}
 use Rattle.unit_file.specs.declared.Written.TheVariants as Written
-use Rattle.unit_file.specs.Write.{lengthAnswer, fileInFront}
-use Rattle.plan_record.specs.Record.{recordOf}
-use Rattle.plan_record.specs.Write.{cycleIn, writeRefusal, writeAnswer, writeOut}
+use Rattle.unit_file.specs.Write.{length_answer, file_in_front}
+use Rattle.plan_record.specs.Record.{record_of}
+use Rattle.plan_record.specs.Write.{cycle_in, write_refusal, write_answer, write_out}
 use Rattle.planner.specs.declared.Handed.{Handed}
-use Rattle.function_plan.specs.Own.{ownAnswer, ownPlan}
+use Rattle.function_plan.specs.Own.{own_answer, own_plan}
 use Rattle.function_plan.proofs.Claims.{own-says, own-hands}
-use Rattle.record_text.specs.Plans.{planRecordRefusal, planRecordAnswer, planRecordOut}
+use Rattle.record_text.specs.Plans.{plan_record_refusal, plan_record_answer, plan_record_out}
 
 -- what is left is the writer's
-module _ (u : FunctionUnit) (q : ℕ) (own : ownAnswer u q ≡ Done) where
-  by-writer : (room : ℕ) → planRecordRefusal u q room ≡ writeRefusal u.plan room
-  unfolding planRecordRefusal
-  by-writer room = ap (λ (a : Answer). andThen a (writeRefusal u.plan room)) own
+module _ (u : FunctionUnit) (q : ℕ) (own : own_answer u q ≡ Done) where
+  by-writer : (room : ℕ) → plan_record_refusal u q room ≡ write_refusal u.plan room
+  unfolding plan_record_refusal
+  by-writer room = ap (λ (a : Answer). and_then a (write_refusal u.plan room)) own
 
-  pub writer-answer : (room : ℕ) → planRecordAnswer u q room ≡ writeAnswer u.plan room
-  unfolding planRecordAnswer writeAnswer
-  writer-answer room = ap (λ (a : Answer). lengthAnswer a (length (recordOf (cycleIn u.plan)))) (by-writer room)
+  pub writer-answer : (room : ℕ) → plan_record_answer u q room ≡ write_answer u.plan room
+  unfolding plan_record_answer write_answer
+  writer-answer room = ap (λ (a : Answer). length_answer a (length (record_of (cycle_in u.plan)))) (by-writer room)
 
-  pub writer_out : (bytes : List ℕ) → planRecordOut u q bytes ≡ writeOut u.plan bytes
-  unfolding planRecordOut writeOut
-  writer_out bytes = ap (λ (a : Answer). fileInFront a (recordOf (cycleIn u.plan)) bytes) (by-writer (length bytes))
+  pub writer_out : (bytes : List ℕ) → plan_record_out u q bytes ≡ write_out u.plan bytes
+  unfolding plan_record_out write_out
+  writer_out bytes = ap (λ (a : Answer). file_in_front a (record_of (cycle_in u.plan)) bytes) (by-writer (length bytes))
 
 abbrev Ends : FunctionUnit → ℕ → List ℕ → List ℕ → Written → Type 0
-Ends u q before after r = (r ≡ planRecordAnswer u q (length before)) × (after ≡ planRecordOut u q before)
+Ends u q before after r = (r ≡ plan_record_answer u q (length before)) × (after ≡ plan_record_out u q before)
 
 -- by what is handed out as the function's plan
-module _ (u : FunctionUnit) (q : ℕ) (h : Handed) (e : h ≡ ownPlan u q) where
-  pub plan-refused : (before : List ℕ) (why : Refusal) → h.answer ≡ Refused why → Ends u q before before (Written.Refused why)
-  unfolding planRecordAnswer planRecordOut planRecordRefusal
-  plan-refused before why d =
-      let no : planRecordRefusal u q (length before) ≡ Refused why =
-      ap (λ (a : Answer). andThen a (writeRefusal u.plan (length before))) (sym (own-says u q h e) ∙ d) in (
-        sym (ap (λ (a : Answer). lengthAnswer a (length (recordOf (cycleIn u.plan)))) no),
-        sym (ap (λ (a : Answer). fileInFront a (recordOf (cycleIn u.plan)) before) no),
+module _ (u : FunctionUnit) (q : ℕ) (h : Handed) (e : h ≡ own_plan u q) where
+  pub plan_refused : (before : List ℕ) (why : Refusal) → h.answer ≡ Refused why → Ends u q before before (Written.Refused why)
+  unfolding plan_record_answer plan_record_out plan_record_refusal
+  plan_refused before why d =
+      let no : plan_record_refusal u q (length before) ≡ Refused why =
+      ap (λ (a : Answer). and_then a (write_refusal u.plan (length before))) (sym (own-says u q h e) ∙ d) in (
+        sym (ap (λ (a : Answer). length_answer a (length (record_of (cycle_in u.plan)))) no),
+        sym (ap (λ (a : Answer). file_in_front a (record_of (cycle_in u.plan)) before) no),
       )
 
   pub plan-written : (before after : List ℕ) (r : Written) → h.answer ≡ Done
-      → (r ≡ writeAnswer h.plan (length before)) × (after ≡ writeOut h.plan before) → Ends u q before after r
+      → (r ≡ write_answer h.plan (length before)) × (after ≡ write_out h.plan before) → Ends u q before after r
   plan-written before after r d w =
-      let own : ownAnswer u q ≡ Done = sym (own-says u q h e) ∙ d in
+      let own : own_answer u q ≡ Done = sym (own-says u q h e) ∙ d in
       let same : h.plan ≡ u.plan = own-hands u q h e d in (
-        w.0 ∙ ap (λ (p : Plan). writeAnswer p (length before)) same ∙ sym (writer-answer u q own (length before)),
-        w.1 ∙ ap (λ (p : Plan). writeOut p before) same ∙ sym (writer_out u q own before),
+        w.0 ∙ ap (λ (p : Plan). write_answer p (length before)) same ∙ sym (writer-answer u q own (length before)),
+        w.1 ∙ ap (λ (p : Plan). write_out p before) same ∙ sym (writer_out u q own before),
       )

@@ -2,21 +2,21 @@
 use Rattle.std.specs.Prelude.{List, ℕ, length}
 use Rattle.unit.specs.declared.FunctionUnit.{FunctionUnit}
 use Rattle.unit.specs.declared.Answer.{Answer}
-use Rattle.unit.specs.Calls.{andThen}
+use Rattle.unit.specs.Calls.{and_then}
 use Rattle.unit_file.specs.declared.Written.{Written}
-use Rattle.unit_file.specs.Write.{lengthAnswer, fileInFront}
-use Rattle.plan_record.specs.Record.{recordOf}
-use Rattle.plan_record.specs.Write.{cycleIn, writeRefusal}
-use Rattle.function_plan.specs.Own.{ownAnswer}
+use Rattle.unit_file.specs.Write.{length_answer, file_in_front}
+use Rattle.plan_record.specs.Record.{record_of}
+use Rattle.plan_record.specs.Write.{cycle_in, write_refusal}
+use Rattle.function_plan.specs.Own.{own_answer}
 
 -- 1 and 2 for the unit and the tag, 8 for a function without a plan, and then the writer's 15 and 6
-unfoldable pub planRecordRefusal : FunctionUnit → ℕ → ℕ → Answer
-planRecordRefusal u q room = andThen (ownAnswer u q) (writeRefusal u.plan room)
+unfoldable pub plan_record_refusal : FunctionUnit → ℕ → ℕ → Answer
+plan_record_refusal u q room = and_then (own_answer u q) (write_refusal u.plan room)
 
 -- the record's length
-unfoldable pub planRecordAnswer : FunctionUnit → ℕ → ℕ → Written
-planRecordAnswer u q room = lengthAnswer (planRecordRefusal u q room) (length (recordOf (cycleIn u.plan)))
+unfoldable pub plan_record_answer : FunctionUnit → ℕ → ℕ → Written
+plan_record_answer u q room = length_answer (plan_record_refusal u q room) (length (record_of (cycle_in u.plan)))
 
 -- the record fills the front of the lent bytes, the others stay as before; a refused call changes none
-unfoldable pub planRecordOut : FunctionUnit → ℕ → List ℕ → List ℕ
-planRecordOut u q bytes = fileInFront (planRecordRefusal u q (length bytes)) (recordOf (cycleIn u.plan)) bytes
+unfoldable pub plan_record_out : FunctionUnit → ℕ → List ℕ → List ℕ
+plan_record_out u q bytes = file_in_front (plan_record_refusal u q (length bytes)) (record_of (cycle_in u.plan)) bytes

@@ -3,8 +3,8 @@
 ghost use Rattle.std.specs.Prelude.{◌≡◌, ◌+◌, ◌*◌, ◌≤◌, ◌<◌, length};
 ghost use Rattle.text.specs.Wrote.{Wrote};
 ghost use Rattle.session.specs.Sessions.{Line};
-ghost use Rattle.record_text.specs.Plans.{planRecordAnswer, planRecordOut};
-ghost use Rattle.record_text.specs.Lines.{bitText, bitsText, listLine, ringLine, reportLine, loadLine};
+ghost use Rattle.record_text.specs.Plans.{plan_record_answer, plan_record_out};
+ghost use Rattle.record_text.specs.Lines.{bit_text, bits_text, list_line, ring_line, report_line, load_line};
 
 use plan_record::Shown;
 use unit::{Answer, FunctionUnit, Tag};
@@ -12,8 +12,8 @@ use unit_file::Written;
 
 // Writes the record of a function's plan to the front of the lent bytes; the others stay as before.
 pub fn write_plan(u: FunctionUnit, tag: Tag, out: &mut [u8]) -> Written
-    ensures value { result ≡ planRecordAnswer u tag.0 (length out.old) }
-    ensures out_after { out.new ≡ planRecordOut u tag.0 out.old }
+    ensures value { result ≡ plan_record_answer u tag.0 (length out.old) }
+    ensures out_after { out.new ≡ plan_record_out u tag.0 out.old }
 {
     let own = function_plan::read_for(u, tag);
     let answer = own.answer;
@@ -26,7 +26,7 @@ pub fn write_plan(u: FunctionUnit, tag: Tag, out: &mut [u8]) -> Written
 // `count`, K, `list` and the latencies.
 fn write_list(line: &mut [u8], count: u32, list: &[u8]) -> usize
     requires { (length list.now ≤ 256) × (2048 ≤ length line.old) }
-    ensures { Wrote line.old 0 (listLine count list.now) line.new result }
+    ensures { Wrote line.old 0 (list_line count list.now) line.new result }
 {
     let after_word = text::put(line, 0, b"count ");
     let after_count = text::put_number(line, after_word, count);
@@ -37,7 +37,7 @@ fn write_list(line: &mut [u8], count: u32, list: &[u8]) -> usize
 
 fn put_list(out: &mut [u8], count: u32, list: &[u8]) -> usize
     requires { length list.now ≤ 256 }
-    ensures { Line (listLine count list.now) out.old out.new result }
+    ensures { Line (list_line count list.now) out.old out.new result }
 {
     let mut line = [0u8; 2048];
     let end = write_list(&mut line, count, list);
@@ -46,7 +46,7 @@ fn put_list(out: &mut [u8], count: u32, list: &[u8]) -> usize
 
 // Puts the line that shows what the report reads from a file: K and the list, or `refused 15`.
 pub fn report(file: &[u8], out: &mut [u8]) -> usize
-    ensures { Line (reportLine file.now) out.old out.new result }
+    ensures { Line (report_line file.now) out.old out.new result }
 {
     let shown = plan_record::report(file);
     match shown {
@@ -61,7 +61,7 @@ pub fn report(file: &[u8], out: &mut [u8]) -> usize
 // A bit of a ring as a digit.
 fn bit_text(ring: &[u8], i: usize) -> u8
     requires { i < 8 * length ring.now }
-    ensures { result ≡ bitText ring.now i }
+    ensures { result ≡ bit_text ring.now i }
 {
     if words::test(ring[i / 8] as u32, (i % 8) as u32) {
         return 49;
@@ -72,7 +72,7 @@ fn bit_text(ring: &[u8], i: usize) -> u8
 // The first bits of a ring, bit 0 first.
 fn write_bits(line: &mut [u8], at: usize, ring: &[u8], count: usize) -> usize
     requires { (count ≤ 8 * length ring.now) × (at + count ≤ length line.old) }
-    ensures { Wrote line.old at (bitsText count ring.now) line.new result }
+    ensures { Wrote line.old at (bits_text count ring.now) line.new result }
 {
     let mut i: usize = 0;
     while i < count {
@@ -85,7 +85,7 @@ fn write_bits(line: &mut [u8], at: usize, ring: &[u8], count: usize) -> usize
 // `sum`, S, `ring` and the S bits of the ring.
 fn write_ring(line: &mut [u8], sum: u16, ring: &[u8]) -> usize
     requires { (sum ≤ 8192) × (sum ≤ 8 * length ring.now) × (8448 ≤ length line.old) }
-    ensures { Wrote line.old 0 (ringLine sum ring.now) line.new result }
+    ensures { Wrote line.old 0 (ring_line sum ring.now) line.new result }
 {
     let after_word = text::put(line, 0, b"sum ");
     let after_sum = text::put_number(line, after_word, sum as u32);
@@ -96,7 +96,7 @@ fn write_ring(line: &mut [u8], sum: u16, ring: &[u8]) -> usize
 
 fn put_ring(out: &mut [u8], sum: u16, ring: &[u8]) -> usize
     requires { (sum ≤ 8192) × (sum ≤ 8 * length ring.now) }
-    ensures { Line (ringLine sum ring.now) out.old out.new result }
+    ensures { Line (ring_line sum ring.now) out.old out.new result }
 {
     let mut line = [0u8; 8448];
     let end = write_ring(&mut line, sum, ring);
@@ -105,7 +105,7 @@ fn put_ring(out: &mut [u8], sum: u16, ring: &[u8]) -> usize
 
 // Puts the line that shows what the loader reads from a file: S and the ring, or `refused 15`.
 pub fn ring(file: &[u8], out: &mut [u8]) -> usize
-    ensures { Line (loadLine file.now) out.old out.new result }
+    ensures { Line (load_line file.now) out.old out.new result }
 {
     let shown = plan_record::load(file);
     match shown {

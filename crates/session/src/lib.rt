@@ -3,8 +3,8 @@
 ghost use Rattle.std.specs.Prelude.{◌≡◌, ◌≤◌, length};
 ghost use Rattle.text.specs.Wrote.{Wrote};
 ghost use Rattle.unit_file.specs.Read.{read_of};
-ghost use Rattle.listing.specs.Lines.{refusedLine};
-ghost use Rattle.session.specs.Sessions.{opening, withPort, answerLine, Line, freshAsked, Made};
+ghost use Rattle.listing.specs.Lines.{refused_line};
+ghost use Rattle.session.specs.Sessions.{opening, with_port, answer_line, Line, fresh_asked, Made};
 
 use callers::Shared;
 use command::Request;
@@ -54,7 +54,7 @@ pub fn open() -> Session
 
 // The session with this at its unit's issue port.
 pub fn with_port(session: Session, bank: Bank, queue: Queue, shared: Shared) -> Session
-    ensures { result ≡ withPort session bank queue shared }
+    ensures { result ≡ with_port session bank queue shared }
 {
     let unit = session.unit;
     Session {
@@ -71,7 +71,7 @@ pub fn with_port(session: Session, bank: Bank, queue: Queue, shared: Shared) -> 
 // `refused` and the number of the refusal.
 fn write_refused(line: &mut [u8], why: Refusal) -> usize
     requires { 64 ≤ length line.old }
-    ensures { Wrote line.old 0 (refusedLine why) line.new result }
+    ensures { Wrote line.old 0 (refused_line why) line.new result }
 {
     let after_word = text::put(line, 0, b"refused ");
     let after_number = text::put_number(
@@ -83,7 +83,7 @@ fn write_refused(line: &mut [u8], why: Refusal) -> usize
 }
 
 fn put_refused(out: &mut [u8], why: Refusal) -> usize
-    ensures { Line (refusedLine why) out.old out.new result }
+    ensures { Line (refused_line why) out.old out.new result }
 {
     let mut line = [0u8; 64];
     let end = write_refused(&mut line, why);
@@ -92,7 +92,7 @@ fn put_refused(out: &mut [u8], why: Refusal) -> usize
 
 // `ok`, or `refused` and the number.
 pub fn put_answer(out: &mut [u8], answer: Answer) -> usize
-    ensures { Line (answerLine answer) out.old out.new result }
+    ensures { Line (answer_line answer) out.old out.new result }
 {
     match answer {
         Answer::Done => text::put(out, 0, b"ok\n"),
@@ -133,7 +133,7 @@ pub fn take_unit(session: Session, made: Outcome, out: &mut [u8]) -> Reply
 
 // A unit of three counts, without marks.
 pub fn fresh(session: Session, request: Request, out: &mut [u8]) -> Reply
-    ensures { Made session (freshAsked request) out.old out.new result }
+    ensures { Made session (fresh_asked request) out.old out.new result }
 {
     let made = unit::fresh(
         words::byte(request.first),

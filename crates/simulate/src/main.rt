@@ -40,7 +40,7 @@ fn skip_rest() {
     }
 }
 
-// No unit file has more than 268 bytes, and the answer to a longer one depends on its first 269 alone (`read-cut`, crate unit_file).
+// No unit file has more than 268 bytes, and the answer to a longer one depends on its first 269 alone (`read_cut`, crate unit_file).
 fn read_unit() -> Outcome {
     let mut file = [0u8; 512];
     let count = io::read_full(0, &mut file);

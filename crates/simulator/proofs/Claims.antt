@@ -16,21 +16,21 @@ use Rattle.unit.specs.declared.Refusal.TheVariants.{NotSound, NoPlan}
 use Rattle.unit.specs.declared.Answer.{Answer}
 use Rattle.unit.specs.declared.Answer.TheVariants.{Done, Refused}
 use Rattle.unit.specs.Table.{Table}
-use Rattle.unit.specs.Unit.{inside, marked, soundOf}
-use Rattle.unit.specs.Calls.{tagAnswer, spotAnswer}
-use Rattle.unit.proofs.Laws.{never_done, check-ok, check-next, tag-accepted}
-use Rattle.unit.proofs.EndLaws.{then-both}
-use Rattle.unit.proofs.EditLaws.{mark-answer, unmark-answer, mark-refused, unmark-refused}
+use Rattle.unit.specs.Unit.{inside, marked, sound_of}
+use Rattle.unit.specs.Calls.{tag_answer, spot_answer}
+use Rattle.unit.proofs.Laws.{never_done, check_ok, check_next, tag_accepted}
+use Rattle.unit.proofs.EndLaws.{then_both}
+use Rattle.unit.proofs.EditLaws.{mark_answer, unmark_answer, mark_refused, unmark_refused}
 use Rattle.collision.specs.Pipeline.{NeverCollides}
 use Rattle.planner.specs.declared.Handed.{Handed}
-use Rattle.planner.specs.Plans.{Best, plan_of, searchAnswer, Found, readAnswer, handing, read_of}
-use Rattle.planner.specs.Sheet.{Call, Reply, replyTo, Step, Sheet, start, fed, Owed, Leaves, Noted}
+use Rattle.planner.specs.Plans.{Best, plan_of, search_answer, Found, read_answer, handing, read_of}
+use Rattle.planner.specs.Sheet.{Call, Reply, reply_to, Step, Sheet, start, fed, Owed, Leaves, Noted}
 use Rattle.planner.specs.Sheet.Call.{Mark, Unmark, Search, Read}
 use Rattle.planner.specs.Sheet.Reply.{accepted}
-use Rattle.planner.proofs.EveryList.{plan-marks, found-sound, every-unit}
-use Rattle.plan_record.specs.Write.{cycleIn, holdsCycle}
-use Rattle.plan_record.proofs.Claims.{holds-exactly}
-use Rattle.function_plan.proofs.Claims.{best-recordable, planned}
+use Rattle.planner.proofs.EveryList.{plan_marks, found_sound, every_unit}
+use Rattle.plan_record.specs.Write.{cycle_in, holds_cycle}
+use Rattle.plan_record.proofs.Claims.{holds_exactly}
+use Rattle.function_plan.proofs.Claims.{best_recordable, planned}
 use Rattle.simulator.specs.Claims.{Plays, NoEdit, EveryPlanPlays, EverySearchPlays}
 use Rattle.simulator.proofs.PlayLaws.{never-plays}
 
@@ -43,33 +43,33 @@ module _ (u : FunctionUnit) (t : Sheet) (n : Noted u t) (some : t.owed ≡ 0 →
   owed : Owed t plan
   owed = n.plan some
 
-  long : plan.count ≡ length (cycleIn plan)
+  long : plan.count ≡ length (cycle_in plan)
   long = sym (length-take-le plan.count plan.latencies (omega (arith, owed.long, owed.few)))
 
-  best : Best 1 (marked u) plan.tag (cycleIn plan)
-  best = subst₂ (λ (T : Table) (q : ℕ). Best 1 T q (cycleIn plan)) (sym n.table) (sym n.tag) owed.best
+  best : Best 1 (marked u) plan.tag (cycle_in plan)
+  best = subst₂ (λ (T : Table) (q : ℕ). Best 1 T q (cycle_in plan)) (sym n.table) (sym n.tag) owed.best
 
-  owed-holds : holdsCycle plan ≡ true
-  owed-holds = (holds-exactly plan).1 (record {
-    cycle = cycleIn plan;
-    recordable = best-recordable u plan.tag (cycleIn plan) (omega (arith, long, owed.few)) best;
+  owed-holds : holds_cycle plan ≡ true
+  owed-holds = (holds_exactly plan).1 (record {
+    cycle = cycle_in plan;
+    recordable = best_recordable u plan.tag (cycle_in plan) (omega (arith, long, owed.few)) best;
     holds = record {
       count = long;
       sum = owed.sum;
-      latencies = sym (take-append-drop plan.count plan.latencies) ∙ ap (λ x. cycleIn plan ++ x) owed.rest
-          ∙ ap (λ k. cycleIn plan ++ replicate (256 - k) 0) long;
+      latencies = sym (take-append-drop plan.count plan.latencies) ∙ ap (λ x. cycle_in plan ++ x) owed.rest
+          ∙ ap (λ k. cycle_in plan ++ replicate (256 - k) 0) long;
     };
   })
 
 -- What a read that hands out a plan says
 
-read-gives : (u : FunctionUnit) (p : Plan) → read_of u ≡ record { answer = Done; plan = p } → (u.plan ≡ p) × (u.plan.tag ≡ 0 → ⊥)
-unfolding read_of readAnswer
-read-gives u p e = go (readAnswer u) refl e
+read_gives : (u : FunctionUnit) (p : Plan) → read_of u ≡ record { answer = Done; plan = p } → (u.plan ≡ p) × (u.plan.tag ≡ 0 → ⊥)
+unfolding read_of read_answer
+read_gives u p e = go (read_answer u) refl e
   where
-    go : (a : Answer) → readAnswer u ≡ a → handing a u.plan ≡ record { answer = Done; plan = p } → (u.plan ≡ p) × (u.plan.tag ≡ 0 → ⊥)
+    go : (a : Answer) → read_answer u ≡ a → handing a u.plan ≡ record { answer = Done; plan = p } → (u.plan ≡ p) × (u.plan.tag ≡ 0 → ⊥)
     go Done d e =
-        let held = check-ok (not (eqb u.plan.tag 0)) NoPlan Done (check-next (soundOf u) NotSound _ d) in
+        let held = check_ok (not (eqb u.plan.tag 0)) NoPlan Done (check_next (sound_of u) NotSound _ d) in
         (ap (λ (h : Handed). h.plan) e, eqb-false u.plan.tag 0 (not-true (eqb u.plan.tag 0) held))
     go (Refused why) d e = never_done (ap (λ (h : Handed). h.answer) e)
 
@@ -79,49 +79,49 @@ read-gives u p e = go (readAnswer u) refl e
 record SameMarks (u after : FunctionUnit) : Type 0 where
   pub functions : after.functions ≡ u.functions
   pub marks : marked after ≡ marked u
-  pub sound : soundOf u ≡ true → soundOf after ≡ true
+  pub sound : sound_of u ≡ true → sound_of after ≡ true
 
-same-unit : (u after : FunctionUnit) → after ≡ u → SameMarks u after
-same-unit u after e = record { functions = ap (λ (x : FunctionUnit). x.functions) e; marks = ap marked e; sound = λ s. ap soundOf e ∙ s }
+same_unit : (u after : FunctionUnit) → after ≡ u → SameMarks u after
+same_unit u after e = record { functions = ap (λ (x : FunctionUnit). x.functions) e; marks = ap marked e; sound = λ s. ap sound_of e ∙ s }
 
 same_then : {u v w : FunctionUnit} → SameMarks u v → SameMarks v w → SameMarks u w
 same_then a b = record { functions = b.functions ∙ a.functions; marks = b.marks ∙ a.marks; sound = λ s. b.sound (a.sound s) }
 
-found-same : (u : FunctionUnit) (q : ℕ) (after : FunctionUnit) → Found u q after → SameMarks u after
-found-same u q after f = record {
+found_same : (u : FunctionUnit) (q : ℕ) (after : FunctionUnit) → Found u q after → SameMarks u after
+found_same u q after f = record {
   functions = ap (λ (x : FunctionUnit). x.functions) f.unit;
-  marks = ap marked f.unit ∙ plan-marks u (plan_of q f.cycle);
-  sound = λ s. found-sound u q after s f;
+  marks = ap marked f.unit ∙ plan_marks u (plan_of q f.cycle);
+  sound = λ s. found_sound u q after s f;
 }
 
 -- an edit that is not accepted leaves the unit
-left_alone : (u after : FunctionUnit) (x : Answer) (a : Reply) → a ≡ replyTo x → (a ≡ accepted → ⊥) → ((why : Refusal) → x ≡ Refused why → after ≡ u) → after ≡ u
+left_alone : (u after : FunctionUnit) (x : Answer) (a : Reply) → a ≡ reply_to x → (a ≡ accepted → ⊥) → ((why : Refusal) → x ≡ Refused why → after ≡ u) → after ≡ u
 left_alone u after Done a e n f = absurd (n e)
 left_alone u after (Refused why) a e n f = f why refl
 
 step_same : (k : Call) (calls : List Call) (u : FunctionUnit) (a : Reply) (replies : List Reply) (after : FunctionUnit)
     → Step u k a after → NoEdit (k ∷ calls) (a ∷ replies) → SameMarks u after × NoEdit calls replies
 step_same (Mark q s c) calls u a replies after (r, er, ea, eu) (n, rest) = (
-  same-unit u after (left_alone u after (spotAnswer u q s c) a
-      (ea ∙ ap replyTo (ap (λ (o : Outcome). o.answer) er ∙ mark-answer u q s c)) n
-      (λ why e. eu ∙ ap (λ (o : Outcome). o.unit) er ∙ mark-refused u q s c why e)),
+  same_unit u after (left_alone u after (spot_answer u q s c) a
+      (ea ∙ ap reply_to (ap (λ (o : Outcome). o.answer) er ∙ mark_answer u q s c)) n
+      (λ why e. eu ∙ ap (λ (o : Outcome). o.unit) er ∙ mark_refused u q s c why e)),
   rest,
 )
 step_same (Unmark q s c) calls u a replies after (r, er, ea, eu) (n, rest) = (
-  same-unit u after (left_alone u after (spotAnswer u q s c) a
-      (ea ∙ ap replyTo (ap (λ (o : Outcome). o.answer) er ∙ unmark-answer u q s c)) n
-      (λ why e. eu ∙ ap (λ (o : Outcome). o.unit) er ∙ unmark-refused u q s c why e)),
+  same_unit u after (left_alone u after (spot_answer u q s c) a
+      (ea ∙ ap reply_to (ap (λ (o : Outcome). o.answer) er ∙ unmark_answer u q s c)) n
+      (λ why e. eu ∙ ap (λ (o : Outcome). o.unit) er ∙ unmark_refused u q s c why e)),
   rest,
 )
 step_same (Search q room) calls u a replies after h rest = (go h.answer refl, rest)
   where
     go : (x : Answer) → h.answer ≡ x → SameMarks u after
-    go Done e = found-same u q after (h.promise.found e)
-    go (Refused why) e = same-unit u after (h.promise.kept why e)
-step_same Read calls u a replies after (r, er, ea, eu) rest = (same-unit u after eu, rest)
+    go Done e = found_same u q after (h.promise.found e)
+    go (Refused why) e = same_unit u after (h.promise.kept why e)
+step_same Read calls u a replies after (r, er, ea, eu) rest = (same_unit u after eu, rest)
 
 unedited : (calls : List Call) (replies : List Reply) (u left : FunctionUnit) → Leaves u calls replies left → NoEdit calls replies → SameMarks u left
-unedited [] [] u left e n = same-unit u left e
+unedited [] [] u left e n = same_unit u left e
 unedited [] (a ∷ replies) u left run n = absurd run
 unedited (k ∷ calls) [] u left run n = absurd run
 unedited (k ∷ calls) (a ∷ replies) u left (after, one, run) n =
@@ -131,35 +131,35 @@ unedited (k ∷ calls) (a ∷ replies) u left (after, one, run) n =
 -- The claims
 
 -- a plan that plays on a unit plays on every one with the same marks
-same-plays : (p : Plan) (u left : FunctionUnit) → holdsCycle p ≡ true → soundOf u ≡ true → inside p.tag u.functions ≡ true
-    → NeverCollides (marked u) p.tag (cycleIn p) → SameMarks u left → Plays left p
-same-plays p u left holds sound member never same =
+same_plays : (p : Plan) (u left : FunctionUnit) → holds_cycle p ≡ true → sound_of u ≡ true → inside p.tag u.functions ≡ true
+    → NeverCollides (marked u) p.tag (cycle_in p) → SameMarks u left → Plays left p
+same_plays p u left holds sound member never same =
     never-plays p holds left (same.sound sound) (ap (inside p.tag) same.functions ∙ member)
-    (subst (λ (T : Table). NeverCollides T p.tag (cycleIn p)) (sym same.marks) never)
+    (subst (λ (T : Table). NeverCollides T p.tag (cycle_in p)) (sym same.marks) never)
 
-pub every-plan-plays : EveryPlanPlays
-every-plan-plays p later told left h quiet =
+pub every_plan_plays : EveryPlanPlays
+every_plan_plays p later told left h quiet =
     let t = fed (start h.functions h.segments h.columns) h.calls in
-    let n = every-unit h.functions h.segments h.columns h.good h.calls h.replies h.unit h.leaves in
+    let n = every_unit h.functions h.segments h.columns h.good h.calls h.replies h.unit h.leaves in
     let u = h.unit in
-    let r = read-gives u p h.handed in
+    let r = read_gives u p h.handed in
     let some : t.owed ≡ 0 → ⊥ = λ z. r.1 (n.tag ∙ z) in
     let member : inside u.plan.tag u.functions ≡ true = ap₂ inside n.tag n.functions ∙ n.member some in
     subst (λ (x : Plan). Plays left x) r.0
-    (same-plays u.plan u left (owed-holds u t n some) n.sound member (best u t n some).never (unedited later told u left h.stays quiet))
+    (same_plays u.plan u left (owed-holds u t n some) n.sound member (best u t n some).never (unedited later told u left h.stays quiet))
 
-pub every-search-plays : EverySearchPlays
-unfolding searchAnswer
-every-search-plays p later told left h quiet =
+pub every_search_plays : EverySearchPlays
+unfolding search_answer
+every_search_plays p later told left h quiet =
     let u = h.unit in
     let q = h.tag in
     let f = h.search.found refl in
     let plan = plan_of q f.cycle in
-    let t = (then-both (tagAnswer u q) _ (sym h.search.says)).0 in
-    let a = tag-accepted u q t in
+    let t = (then_both (tag_answer u q) _ (sym h.search.says)).0 in
+    let a = tag_accepted u q t in
     let is : p ≡ plan = h.plan ∙ ap (λ (x : FunctionUnit). x.plan) f.unit in
-    let held : cycleIn plan ≡ f.cycle = take-append_seam f.cycle (replicate (256 - length f.cycle) 0) in
-    let holds = (holds-exactly plan).1 (planned q f.cycle (best-recordable u q f.cycle f.few f.best)) in
-    let never : NeverCollides (marked u) q (cycleIn plan) = subst (λ l. NeverCollides (marked u) q l) (sym held) f.best.never in
+    let held : cycle_in plan ≡ f.cycle = take-append_seam f.cycle (replicate (256 - length f.cycle) 0) in
+    let holds = (holds_exactly plan).1 (planned q f.cycle (best_recordable u q f.cycle f.few f.best)) in
+    let never : NeverCollides (marked u) q (cycle_in plan) = subst (λ l. NeverCollides (marked u) q l) (sym held) f.best.never in
     subst (λ (x : Plan). Plays left x) (sym is)
-    (same-plays plan u left holds a.sound a.tag never (same_then (found-same u q h.found f) (unedited later told h.found left h.stays quiet)))
+    (same_plays plan u left holds a.sound a.tag never (same_then (found_same u q h.found f) (unedited later told h.found left h.stays quiet)))

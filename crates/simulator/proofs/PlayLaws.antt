@@ -14,58 +14,58 @@ use native.Mathlib.Omega.{arith}
 use borrow.Author.Tests.{eqb-true, eqb-false, not-true, not-false}
 use lib.Dec.{eqb}
 use lib.ListN.{length, take}
-use Rattle.words.proofs.Tests.{by-test}
+use Rattle.words.proofs.Tests.{by_test}
 use Rattle.unit.specs.declared.Plan.{Plan}
 use Rattle.unit.specs.declared.FunctionUnit.{FunctionUnit}
 use Rattle.unit.specs.declared.Answer.{Answer}
 use Rattle.unit.specs.declared.Answer.TheVariants.{Done}
-use Rattle.unit.specs.Unit.{inside, marked, soundOf}
-use Rattle.unit.specs.Calls.{tagAnswer}
-use Rattle.collision.specs.Pipeline.{Task, Clash, Cycle, total, start_at, taskAt, NeverCollides}
-use Rattle.collision.proofs.StartLaws.{startAt-take, startAt-turns-add, interval-least}
+use Rattle.unit.specs.Unit.{inside, marked, sound_of}
+use Rattle.unit.specs.Calls.{tag_answer}
+use Rattle.collision.specs.Pipeline.{Task, Clash, Cycle, total, start_at, task_at, NeverCollides}
+use Rattle.collision.proofs.StartLaws.{start_at_take, start_at_turns_add, interval_least}
 use Rattle.controller.specs.declared.Bank.{Bank}
 use Rattle.controller.specs.declared.Event.{Event}
 use Rattle.controller.specs.declared.Event.TheVariants.{Tick, Start}
-use Rattle.controller.specs.Bank.{empty, eventAnswer, moved, bankThen, step_of}
-use Rattle.controller.specs.History.{History, Course, taskNow, accepted, historyThen, outset, next, played}
-use Rattle.controller.proofs.Demand2.{granted-exactly}
+use Rattle.controller.specs.Bank.{empty, event_answer, moved, bank_then, step_of}
+use Rattle.controller.specs.History.{History, Course, task_now, accepted, history_then, outset, next, played}
+use Rattle.controller.proofs.Demand2.{granted_exactly}
 use Rattle.plan_record.specs.Record.{Recordable, starts}
-use Rattle.plan_record.specs.Write.{cycleIn, holdsCycle}
-use Rattle.plan_record.proofs.CycleLaws.{sum-all, sum-rises, total-least}
+use Rattle.plan_record.specs.Write.{cycle_in, holds_cycle}
+use Rattle.plan_record.proofs.CycleLaws.{sum_all, sum_rises, total_least}
 use Rattle.plan_record.proofs.RingLaws.{start_has, start_of}
 use Rattle.plan_record.proofs.PlanLaws.{held}
 use Rattle.simulator.specs.declared.UnitPlayed.{UnitPlayed}
-use Rattle.simulator.specs.Step.{tag_of, bit_of, eventOf, positionAfter, playing, playOf}
-use Rattle.simulator.specs.Play.{Place, onward, placeAfter, unitAfter}
+use Rattle.simulator.specs.Step.{tag_of, bit_of, event_of, position_after, playing, play_of}
+use Rattle.simulator.specs.Play.{Place, onward, place_after, unit_after}
 use Rattle.simulator.specs.Claims.{PlaysAt, FallsOn, task_of, Plays}
 use Rattle.simulator.specs.Inner.{OnRing, Playable}
-use Rattle.simulator.proofs.StepLaws.{bit-starts, ring-answer}
+use Rattle.simulator.proofs.StepLaws.{bit_starts, ring_answer_lem}
 
 -- one more event
-played-more : (u : FunctionUnit) (events : List Event) (c : Course) (e : Event) → played u c (events ++ (e ∷ [])) ≡ next u (played u c events) e
+played_more : (u : FunctionUnit) (events : List Event) (c : Course) (e : Event) → played u c (events ++ (e ∷ [])) ≡ next u (played u c events) e
 unfolding played
-played-more u [] c e = refl
-played-more u (x ∷ events) c e = played-more u events (next u c x) e
+played_more u [] c e = refl
+played_more u (x ∷ events) c e = played_more u events (next u c x) e
 
 -- the events of the first n units
-unfoldable eventsBelow : Plan → ℕ → List Event
-eventsBelow p zero = []
-eventsBelow p (suc n) = eventsBelow p n ++ (eventOf p (n % p.sum) ∷ [])
+unfoldable events_below : Plan → ℕ → List Event
+events_below p zero = []
+events_below p (suc n) = events_below p n ++ (event_of p (n % p.sum) ∷ [])
 
 -- a task of the cycle that started before n
 record Earlier (p : Plan) (n : ℕ) (y : Task) : Type 0 where
   pub index : ℕ
-  pub task : y ≡ taskAt p.tag (cycleIn p) index
-  pub before : start_at (cycleIn p) index < n
+  pub task : y ≡ task_at p.tag (cycle_in p) index
+  pub before : start_at (cycle_in p) index < n
 
 -- the history of n units: n of time, and tasks of the cycle alone
 record Told (p : Plan) (n : ℕ) (h : History) : Type 0 where
   pub time : h.time ≡ n
   pub tasks : (y : Task) → Memᴰ y h.tasks → Earlier p n y
 
-module _ (p : Plan) (holds : holdsCycle p ≡ true) where
+module _ (p : Plan) (holds : holds_cycle p ≡ true) where
   abbrev cycle : List ℕ
-  cycle = cycleIn p
+  cycle = cycle_in p
 
   can : Recordable cycle
   can = (held p holds).cycle
@@ -74,7 +74,7 @@ module _ (p : Plan) (holds : holdsCycle p ≡ true) where
   sum_is = (held p holds).holds.sum
 
   some : 0 < p.sum
-  some = omega (arith, sum_is, total-least cycle can)
+  some = omega (arith, sum_is, total_least cycle can)
 
   on-ring : (n : ℕ) → OnRing p (n % p.sum)
   on-ring n = record { holds = holds; before = mod-lt n some }
@@ -85,33 +85,33 @@ module _ (p : Plan) (holds : holdsCycle p ≡ true) where
   -- a unit with bit 0 is a start of the cycle
   start_is : (n : ℕ) → bit_of p (n % p.sum) ≡ false → FallsOn cycle n
   start_is n e =
-      let s = start_has cycle (n % p.sum) can (not-false _ (sym (bit-starts p (n % p.sum) (on-ring n)) ∙ e)) in
+      let s = start_has cycle (n % p.sum) can (not-false _ (sym (bit_starts p (n % p.sum) (on-ring n)) ∙ e)) in
       let k = s.index in
-      let turns = startAt-turns-add cycle (n / p.sum) k in
-      let first = startAt-take cycle k (le_of_lt s.inside) in
+      let turns = start_at_turns_add cycle (n / p.sum) k in
+      let first = start_at_take cycle k (le_of_lt s.inside) in
       let whole : n / p.sum * p.sum + n % p.sum ≡ n = div-add-mod' n p.sum in
       let same : n / p.sum * total cycle ≡ n / p.sum * p.sum = ap (λ t. n / p.sum * t) (sym sum_is) in
       record { index = n / p.sum * length cycle + k; start = omega (arith, turns, first, whole, same, s.sum) }
 
   -- and every start of the cycle is one
-  start-bit : (j : ℕ) → bit_of p (start_at cycle j % p.sum) ≡ false
-  start-bit j =
+  start_bit : (j : ℕ) → bit_of p (start_at cycle j % p.sum) ≡ false
+  start_bit j =
       let K = length cycle in
       let r = j / K in
       let k = j % K in
       let below : k < K = mod-lt j can.some in
       let whole : r * K + k ≡ j = div-add-mod' j K in
-      let first = startAt-take cycle k (le_of_lt below) in
+      let first = start_at_take cycle k (le_of_lt below) in
       let same : r * total cycle ≡ r * p.sum = ap (λ t. r * t) (sym sum_is) in
       let at : start_at cycle j ≡ r * p.sum + total (take k cycle) =
-      ap (start_at cycle) (sym whole) ∙ omega (arith, startAt-turns-add cycle r k, first, same) in
-      let less : total (take k cycle) < p.sum = omega (arith, sum-rises cycle can k K below (le_refl K), sum-all cycle, sum_is) in
+      ap (start_at cycle) (sym whole) ∙ omega (arith, start_at_turns_add cycle r k, first, same) in
+      let less : total (take k cycle) < p.sum = omega (arith, sum_rises cycle can k K below (le_refl K), sum_all cycle, sum_is) in
       let place : start_at cycle j % p.sum ≡ total (take k cycle) =
       ap (λ m. m % p.sum) at ∙ mul-add-mod_self_right r p.sum (total (take k cycle)) ∙ mod-eq_of_lt less in
-      bit-starts p (start_at cycle j % p.sum) (on-ring (start_at cycle j)) ∙ ap (λ m. not (starts cycle m)) place ∙ ap not (start_of cycle k can below)
+      bit_starts p (start_at cycle j % p.sum) (on-ring (start_at cycle j)) ∙ ap (λ m. not (starts cycle m)) place ∙ ap not (start_of cycle k can below)
 
   falls-bit : (n : ℕ) → FallsOn cycle n → bit_of p (n % p.sum) ≡ false
-  falls-bit n f = sym (ap (λ m. bit_of p (m % p.sum)) f.start) ∙ start-bit f.index
+  falls-bit n f = sym (ap (λ m. bit_of p (m % p.sum)) f.start) ∙ start_bit f.index
 
   -- an earlier start has a smaller index
   start-order : (j m : ℕ) → start_at cycle j < start_at cycle m → j < m
@@ -121,12 +121,12 @@ module _ (p : Plan) (holds : holdsCycle p ≡ true) where
       go (yes o) = o
       go (no n) =
           let d : (k : ℕ) × (m + k ≡ j) = le_dest (omega arith) in
-          absurd (omega (arith, interval-least cycle rising m d.0, ap (start_at cycle) d.1))
+          absurd (omega (arith, interval_least cycle rising m d.0, ap (start_at cycle) d.1))
 
   -- the position after n modulo S
-  following-is : (n : ℕ) → positionAfter p (n % p.sum) ≡ suc n % p.sum
+  following-is : (n : ℕ) → position_after p (n % p.sum) ≡ suc n % p.sum
   following-is n =
-      by-test (eqb (n % p.sum + 1) p.sum)
+      by_test (eqb (n % p.sum + 1) p.sum)
       (λ e.
       let s : suc (n % p.sum) ≡ p.sum = omega (arith, eqb-true (n % p.sum + 1) p.sum e) in
       ap (λ b. cond b 0 (n % p.sum + 1)) e ∙ sym (suc-mod n p.sum ∙ ap (λ k. k % p.sum) s ∙ mod_self p.sum))
@@ -135,53 +135,53 @@ module _ (p : Plan) (holds : holdsCycle p ≡ true) where
       let below : suc (n % p.sum) < p.sum = omega (arith, mod-lt n some) in
       ap (λ b. cond b 0 (n % p.sum + 1)) e ∙ sym (suc-mod n p.sum ∙ mod-eq_of_lt below ∙ sym (add-one (n % p.sum))))
 
-  module _ (u : FunctionUnit) (sound : soundOf u ≡ true) (member : inside p.tag u.functions ≡ true) (never : NeverCollides (marked u) p.tag cycle) where
+  module _ (u : FunctionUnit) (sound : sound_of u ≡ true) (member : inside p.tag u.functions ≡ true) (never : NeverCollides (marked u) p.tag cycle) where
     playable : (n : ℕ) → Playable u p (n % p.sum)
-    unfolding tagAnswer
+    unfolding tag_answer
     playable n = record { tag = rw (sound, member); ring = on-ring n }
 
     abbrev course : ℕ → Course
-    course n = played u outset (eventsBelow p n)
+    course n = played u outset (events_below p n)
 
     -- the bank grants every start
-    granted-start : (n : ℕ) → Told p n (course n).history → bit_of p (n % p.sum) ≡ false → eventAnswer u (course n).bank (Start (tag_of p)) ≡ Done
-    granted-start n t e = (granted-exactly u sound (eventsBelow p n) (tag_of p) member).1 free
+    granted-start : (n : ℕ) → Told p n (course n).history → bit_of p (n % p.sum) ≡ false → event_answer u (course n).bank (Start (tag_of p)) ≡ Done
+    granted-start n t e = (granted_exactly u sound (events_below p n) (tag_of p) member).1 free
       where
-        free : (y : Task) → Memᴰ y (course n).history.tasks → Clash (marked u) y (taskNow (course n).history p.tag) → ⊥
+        free : (y : Task) → Memᴰ y (course n).history.tasks → Clash (marked u) y (task_now (course n).history p.tag) → ⊥
         free y m clash =
             let x = t.tasks y m in
             let s = start_is n e in
-            let now : taskNow (course n).history p.tag ≡ taskAt p.tag cycle s.index =
+            let now : task_now (course n).history p.tag ≡ task_at p.tag cycle s.index =
             ap (λ (k : ℕ). record { tag = p.tag; start = k }) (t.time ∙ sym s.start) in
             never x.index s.index (start-order x.index s.index (omega (arith, x.before, s.start)))
             (subst₂ (λ (a b : Task). Clash (marked u) a b) x.task now clash)
 
-    tick-done : (b : Bank) → eventAnswer u b Tick ≡ Done
-    unfolding eventAnswer
+    tick-done : (b : Bank) → event_answer u b Tick ≡ Done
+    unfolding event_answer
     tick-done b = rw sound
 
-    granted-event : (n : ℕ) → Told p n (course n).history → eventAnswer u (course n).bank (eventOf p (n % p.sum)) ≡ Done
+    granted-event : (n : ℕ) → Told p n (course n).history → event_answer u (course n).bank (event_of p (n % p.sum)) ≡ Done
     granted-event n t =
-        by-test (bit_of p (n % p.sum))
-        (λ e. ap (λ b. eventAnswer u (course n).bank (cond b Tick (Start (tag_of p)))) e ∙ tick-done (course n).bank)
-        (λ e. ap (λ b. eventAnswer u (course n).bank (cond b Tick (Start (tag_of p)))) e ∙ granted-start n t e)
+        by_test (bit_of p (n % p.sum))
+        (λ e. ap (λ b. event_answer u (course n).bank (cond b Tick (Start (tag_of p)))) e ∙ tick-done (course n).bank)
+        (λ e. ap (λ b. event_answer u (course n).bank (cond b Tick (Start (tag_of p)))) e ∙ granted-start n t e)
 
     -- one unit more
-    course-next : (n : ℕ) → course (suc n) ≡ next u (course n) (eventOf p (n % p.sum))
-    unfolding eventsBelow
-    course-next n = played-more u (eventsBelow p n) outset (eventOf p (n % p.sum))
+    course-next : (n : ℕ) → course (suc n) ≡ next u (course n) (event_of p (n % p.sum))
+    unfolding events_below
+    course-next n = played_more u (events_below p n) outset (event_of p (n % p.sum))
 
-    history-next : (n : ℕ) → Told p n (course n).history → (course (suc n)).history ≡ accepted (course n).history (eventOf p (n % p.sum))
+    history-next : (n : ℕ) → Told p n (course n).history → (course (suc n)).history ≡ accepted (course n).history (event_of p (n % p.sum))
     unfolding step_of
     history-next n t =
         ap (λ (c : Course). c.history) (course-next n)
-        ∙ ap (λ (a : Answer). historyThen a (course n).history (eventOf p (n % p.sum))) (granted-event n t)
+        ∙ ap (λ (a : Answer). history_then a (course n).history (event_of p (n % p.sum))) (granted-event n t)
 
-    bank-next : (n : ℕ) → Told p n (course n).history → (course (suc n)).bank ≡ moved u (course n).bank (eventOf p (n % p.sum))
+    bank-next : (n : ℕ) → Told p n (course n).history → (course (suc n)).bank ≡ moved u (course n).bank (event_of p (n % p.sum))
     unfolding step_of
     bank-next n t =
         ap (λ (c : Course). c.bank) (course-next n)
-        ∙ ap (λ (a : Answer). bankThen a (course n).bank (moved u (course n).bank (eventOf p (n % p.sum)))) (granted-event n t)
+        ∙ ap (λ (a : Answer). bank_then a (course n).bank (moved u (course n).bank (event_of p (n % p.sum)))) (granted-event n t)
 
     later : (n : ℕ) (y : Task) → Earlier p n y → Earlier p (suc n) y
     later n y x = record { index = x.index; task = x.task; before = omega (arith, x.before) }
@@ -193,7 +193,7 @@ module _ (p : Plan) (holds : holdsCycle p ≡ true) where
       tasks = λ y m. ⊎_elim (λ new. fresh y new) (λ old. later n y (t.tasks y old)) (Memᴰ.cases_cons m);
     }
       where
-        fresh : (y : Task) → y ≡ taskNow h p.tag → Earlier p (suc n) y
+        fresh : (y : Task) → y ≡ task_now h p.tag → Earlier p (suc n) y
         fresh y new =
             let s = start_is n e in
             record {
@@ -203,59 +203,59 @@ module _ (p : Plan) (holds : holdsCycle p ≡ true) where
             }
 
     told : (n : ℕ) → Told p n (course n).history
-    unfolding eventsBelow played
+    unfolding events_below played
     told zero = record { time = refl; tasks = λ y m. absurd (Memᴰ.not-nil m) }
     told (suc n) =
         let t = told n in
         subst (λ (h : History). Told p (suc n) h) (sym (history-next n t)) (told-event n (course n).history t (bit_of p (n % p.sum)) refl)
 
     -- the step is played
-    played-is : (n : ℕ) → playOf u p (n % p.sum) (course n).bank ≡ playing Done u p (n % p.sum) (course n).bank
-    unfolding playOf
+    played-is : (n : ℕ) → play_of u p (n % p.sum) (course n).bank ≡ playing Done u p (n % p.sum) (course n).bank
+    unfolding play_of
     played-is n =
         ap (λ (a : Answer). playing a u p (n % p.sum) (course n).bank)
-        (sym (ring-answer u p (n % p.sum) (course n).bank (playable n)) ∙ granted-event n (told n))
+        (sym (ring_answer_lem u p (n % p.sum) (course n).bank (playable n)) ∙ granted-event n (told n))
 
     abbrev placeAt : ℕ → Place
     placeAt n = record { position = n % p.sum; bank = (course n).bank }
 
-    place_is : (n : ℕ) → placeAfter u p n ≡ placeAt n
-    unfolding placeAfter eventsBelow played
+    place_is : (n : ℕ) → place_after u p n ≡ placeAt n
+    unfolding place_after events_below played
     place_is zero = λ i. record { position = sym (mod-eq_of_lt some) i; bank = empty }
     place_is (suc n) =
-        ap (λ (x : Place). onward (playOf u p x.position x.bank)) (place_is n)
+        ap (λ (x : Place). onward (play_of u p x.position x.bank)) (place_is n)
         ∙ (λ i. record {
           position = (ap (λ (x : UnitPlayed). x.position) (played-is n) ∙ following-is n) i;
           bank = (ap (λ (x : UnitPlayed). x.bank) (played-is n) ∙ sym (bank-next n (told n))) i;
         })
 
-    unit-is : (n : ℕ) → unitAfter u p n ≡ playing Done u p (n % p.sum) (course n).bank
-    unit-is n = ap (λ (x : Place). playOf u p x.position x.bank) (place_is n) ∙ played-is n
+    unit-is : (n : ℕ) → unit_after u p n ≡ playing Done u p (n % p.sum) (course n).bank
+    unit-is n = ap (λ (x : Place). play_of u p x.position x.bank) (place_is n) ∙ played-is n
 
-    bank-is : (n : ℕ) → (placeAfter u p n).bank ≡ (course n).bank
-    bank-is n = ap (λ (x : Place). x.bank) (place_is n)
+    bank_is : (n : ℕ) → (place_after u p n).bank ≡ (course n).bank
+    bank_is n = ap (λ (x : Place). x.bank) (place_is n)
 
-    bit_is : (n : ℕ) → bit_of p (placeAfter u p n).position ≡ bit_of p (n % p.sum)
+    bit_is : (n : ℕ) → bit_of p (place_after u p n).position ≡ bit_of p (n % p.sum)
     bit_is n = ap (λ (x : Place). bit_of p x.position) (place_is n)
 
-    started-is : (n : ℕ) → (unitAfter u p n).started ≡ not (bit_of p (n % p.sum))
+    started-is : (n : ℕ) → (unit_after u p n).started ≡ not (bit_of p (n % p.sum))
     started-is n = ap (λ (x : UnitPlayed). x.started) (unit-is n)
 
     -- the event of the unit, granted, and the bank that it leaves
     abbrev Goes : ℕ → Event → Bool → Type 0
     Goes n x started =
-        ((step_of u (placeAfter u p n).bank x).answer ≡ Done) × ((step_of u (placeAfter u p n).bank x).bank ≡ (placeAfter u p (n + 1)).bank)
-        × ((unitAfter u p n).started ≡ started)
+        ((step_of u (place_after u p n).bank x).answer ≡ Done) × ((step_of u (place_after u p n).bank x).bank ≡ (place_after u p (n + 1)).bank)
+        × ((unit_after u p n).started ≡ started)
 
-    goes : (n : ℕ) (x : Event) (bit : Bool) → bit_of p (n % p.sum) ≡ bit → eventOf p (n % p.sum) ≡ x → Goes n x (not bit)
+    goes : (n : ℕ) (x : Event) (bit : Bool) → bit_of p (n % p.sum) ≡ bit → event_of p (n % p.sum) ≡ x → Goes n x (not bit)
     unfolding step_of
     goes n x bit b e =
-        let g : eventAnswer u (placeAfter u p n).bank x ≡ Done =
-        ap₂ (λ (k : Bank) (y : Event). eventAnswer u k y) (bank-is n) (sym e) ∙ granted-event n (told n) in (
+        let g : event_answer u (place_after u p n).bank x ≡ Done =
+        ap₂ (λ (k : Bank) (y : Event). event_answer u k y) (bank_is n) (sym e) ∙ granted-event n (told n) in (
           g,
-          ap (λ (a : Answer). bankThen a (placeAfter u p n).bank (moved u (placeAfter u p n).bank x)) g
-              ∙ ap₂ (λ (k : Bank) (y : Event). moved u k y) (bank-is n) (sym e) ∙ sym (bank-next n (told n)) ∙ sym (bank-is (suc n))
-              ∙ ap (λ k. (placeAfter u p k).bank) (sym (add-one n)),
+          ap (λ (a : Answer). bank_then a (place_after u p n).bank (moved u (place_after u p n).bank x)) g
+              ∙ ap₂ (λ (k : Bank) (y : Event). moved u k y) (bank_is n) (sym e) ∙ sym (bank-next n (told n)) ∙ sym (bank_is (suc n))
+              ∙ ap (λ k. (place_after u p k).bank) (sym (add-one n)),
           started-is n ∙ ap not b,
         )
 
@@ -267,7 +267,7 @@ module _ (p : Plan) (holds : holdsCycle p ≡ true) where
       tick = λ e. let b = sym (bit_is n) ∙ e in goes n Tick true b (ap (λ b. cond b Tick (Start (tag_of p))) b);
     }
 
-    started-falls : (n : ℕ) → (unitAfter u p n).started ≡ true → FallsOn cycle n
+    started-falls : (n : ℕ) → (unit_after u p n).started ≡ true → FallsOn cycle n
     started-falls n e = start_is n (not-true _ (sym (started-is n) ∙ e))
 
     pub never-plays : Plays u p

@@ -10,12 +10,12 @@ use borrow.Author.Count.{below_more}
 use borrow.Author.Tests.{lt-ltb, eq-eqb, eqb-true}
 use lib.Dec.{ltb, eqb}
 use lib.ListN.{length, get_or, take}
-use Rattle.words.proofs.Tests.{and_right, and-true, same_test}
+use Rattle.words.proofs.Tests.{and_right, and_true, same_test}
 use Rattle.collision.specs.Pipeline.{total}
 use Rattle.collision.proofs.StartLaws.{sum_more}
 use Rattle.plan_record.specs.Record.{Recordable, starts}
-use Rattle.plan_record.proofs.CycleLaws.{sum-all}
-use Rattle.plan_record.proofs.RingLaws.{reached-bit}
+use Rattle.plan_record.proofs.CycleLaws.{sum_all}
+use Rattle.plan_record.proofs.RingLaws.{reached_bit}
 
 -- the starts of the first `index` latencies are below the position, and the next is at `next`
 pub record Passed (l : List ℕ) (position index next : ℕ) : Type 0 where
@@ -29,10 +29,10 @@ module _ (l : List ℕ) (position index next : ℕ) (a : Passed l position index
   -- there is a next one up to the position
   pub passed-inside : next ≤ position → index < length l
   passed-inside h =
-      ⊎_elim (λ e. absurd (omega (arith, a.sum, a.before, sum-all l, ap (λ k. total (take k l)) e))) (λ o. o) (eq-or-lt_of_le a.inside)
+      ⊎_elim (λ e. absurd (omega (arith, a.sum, a.before, sum_all l, ap (λ k. total (take k l)) e))) (λ o. o) (eq-or-lt_of_le a.inside)
 
-  pub passed-more : next < position → Passed l position (index + 1) (next + get_or l index 0)
-  passed-more h =
+  pub passed_more : next < position → Passed l position (index + 1) (next + get_or l index 0)
+  passed_more h =
       let i = passed-inside (omega arith) in
       record {
         cycle = a.cycle;
@@ -43,11 +43,11 @@ module _ (l : List ℕ) (position index next : ℕ) (a : Passed l position index
       }
 
   -- the position is reached: it is the next start, or none
-  pub passed-end : position ≤ next → starts l position ≡ eqb next position
-  passed-end h =
-      reached-bit l position index next (record { cycle = a.cycle; inside = a.inside; sum = a.sum; passed = a.passed; ahead = λ o. h })
+  pub passed_end : position ≤ next → starts l position ≡ eqb next position
+  passed_end h =
+      reached_bit l position index next (record { cycle = a.cycle; inside = a.inside; sum = a.sum; passed = a.passed; ahead = λ o. h })
       ∙ same_test (ltb index (length l) && eqb position next) (eqb next position)
       (λ e. eq-eqb next position (sym (eqb-true position next (and_right (ltb index (length l)) _ e))))
       (λ e.
       let s = eqb-true next position e in
-      and-true (lt-ltb index (length l) (passed-inside (omega arith))) (eq-eqb position next (sym s)))
+      and_true (lt-ltb index (length l) (passed-inside (omega arith))) (eq-eqb position next (sym s)))

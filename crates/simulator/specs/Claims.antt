@@ -3,32 +3,32 @@ use Rattle.std.specs.Prelude.{ℕ, ◌+◌, ◌%◌, ◌<◌, ◌≡◌, true, f
 use Rattle.unit.specs.declared.Plan.{Plan}
 use Rattle.unit.specs.declared.FunctionUnit.{FunctionUnit}
 use Rattle.unit.specs.declared.Answer.TheVariants.{Done}
-use Rattle.unit.specs.Unit.{goodCounts, marked}
+use Rattle.unit.specs.Unit.{good_counts, marked}
 use Rattle.unit.specs.Calls.{fresh_of}
 use Rattle.collision.specs.Pipeline.{Task, Clash, start_at}
 use Rattle.controller.specs.declared.Event.TheVariants.{Tick, Start}
 use Rattle.controller.specs.Bank.{step_of}
-use Rattle.plan_record.specs.Write.{cycleIn}
+use Rattle.plan_record.specs.Write.{cycle_in}
 use Rattle.planner.specs.Plans.{SearchPromise, read_of}
 use Rattle.planner.specs.Sheet.{Call, Reply, Leaves}
 use Rattle.planner.specs.Sheet.Call.{Mark, Unmark, Search, Read}
 use Rattle.planner.specs.Sheet.Reply.{accepted}
 use Rattle.simulator.specs.Step.{tag_of, bit_of}
-use Rattle.simulator.specs.Play.{placeAfter, unitAfter}
+use Rattle.simulator.specs.Play.{place_after, unit_after}
 
 -- The unit after n units: no step is refused; with bit 0 it is a start of the plan's tag that the bank grants, with bit 1 a tick; and the ring is at n
 -- modulo S.
 pub record PlaysAt (u : FunctionUnit) (p : Plan) (n : ℕ) : Type 0 where
-  pub position : (placeAfter u p n).position ≡ n % p.sum
-  pub accepted : (unitAfter u p n).answer ≡ Done
-  pub start : bit_of p (placeAfter u p n).position ≡ false
-      → ((step_of u (placeAfter u p n).bank (Start (tag_of p))).answer ≡ Done)
-      × ((step_of u (placeAfter u p n).bank (Start (tag_of p))).bank ≡ (placeAfter u p (n + 1)).bank)
-      × ((unitAfter u p n).started ≡ true)
-  pub tick : bit_of p (placeAfter u p n).position ≡ true
-      → ((step_of u (placeAfter u p n).bank Tick).answer ≡ Done)
-      × ((step_of u (placeAfter u p n).bank Tick).bank ≡ (placeAfter u p (n + 1)).bank)
-      × ((unitAfter u p n).started ≡ false)
+  pub position : (place_after u p n).position ≡ n % p.sum
+  pub accepted : (unit_after u p n).answer ≡ Done
+  pub start : bit_of p (place_after u p n).position ≡ false
+      → ((step_of u (place_after u p n).bank (Start (tag_of p))).answer ≡ Done)
+      × ((step_of u (place_after u p n).bank (Start (tag_of p))).bank ≡ (place_after u p (n + 1)).bank)
+      × ((unit_after u p n).started ≡ true)
+  pub tick : bit_of p (place_after u p n).position ≡ true
+      → ((step_of u (place_after u p n).bank Tick).answer ≡ Done)
+      × ((step_of u (place_after u p n).bank Tick).bank ≡ (place_after u p (n + 1)).bank)
+      × ((unit_after u p n).started ≡ false)
 
 -- one of the cycle's starts, repeated without end, falls on n
 pub record FallsOn (cycle : List ℕ) (n : ℕ) : Type 0 where
@@ -42,8 +42,8 @@ task_of p n = record { tag = p.tag; start = n }
 -- for every number of units the next one plays; the starts are those of the cycle repeated without end, and no two of their tasks ever meet
 pub record Plays (u : FunctionUnit) (p : Plan) : Type 0 where
   pub each : (n : ℕ) → PlaysAt u p n
-  pub starts : (n : ℕ) → ((unitAfter u p n).started ≡ true) ↔ FallsOn (cycleIn p) n
-  pub apart : (m n : ℕ) → m < n → (unitAfter u p m).started ≡ true → (unitAfter u p n).started ≡ true → Clash (marked u) (task_of p m) (task_of p n) → ⊥
+  pub starts : (n : ℕ) → ((unit_after u p n).started ≡ true) ↔ FallsOn (cycle_in p) n
+  pub apart : (m n : ℕ) → m < n → (unit_after u p m).started ≡ true → (unit_after u p n).started ≡ true → Clash (marked u) (task_of p m) (task_of p n) → ⊥
 
 -- no edit among the calls was accepted
 abbrev pub NoEdit : List Call → List Reply → Type 0
@@ -74,7 +74,7 @@ pub record HandedOut (p : Plan) (later : List Call) (told : List Reply) (left : 
   pub functions : ℕ
   pub segments : ℕ
   pub columns : ℕ
-  pub good : goodCounts functions segments columns ≡ true
+  pub good : good_counts functions segments columns ≡ true
   pub calls : List Call
   pub replies : List Reply
   pub unit : FunctionUnit

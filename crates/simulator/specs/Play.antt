@@ -5,7 +5,7 @@ use Rattle.unit.specs.declared.FunctionUnit.{FunctionUnit}
 use Rattle.controller.specs.declared.Bank.{Bank}
 use Rattle.controller.specs.Bank.{empty}
 use Rattle.simulator.specs.declared.UnitPlayed.{UnitPlayed}
-use Rattle.simulator.specs.Step.{playOf}
+use Rattle.simulator.specs.Step.{play_of}
 
 -- position and bank
 pub record Place : Type 0 where
@@ -16,10 +16,10 @@ abbrev pub onward : UnitPlayed → Place
 onward x = record { position = x.position; bank = x.bank }
 
 -- the place after n units, which begin at position 0 with an empty bank
-unfoldable pub placeAfter : FunctionUnit → Plan → ℕ → Place
-placeAfter u p zero = record { position = 0; bank = empty }
-placeAfter u p (suc n) = onward (playOf u p (placeAfter u p n).position (placeAfter u p n).bank)
+unfoldable pub place_after : FunctionUnit → Plan → ℕ → Place
+place_after u p zero = record { position = 0; bank = empty }
+place_after u p (suc n) = onward (play_of u p (place_after u p n).position (place_after u p n).bank)
 
 -- the step of the unit after n units
-abbrev pub unitAfter : FunctionUnit → Plan → ℕ → UnitPlayed
-unitAfter u p n = playOf u p (placeAfter u p n).position (placeAfter u p n).bank
+abbrev pub unit_after : FunctionUnit → Plan → ℕ → UnitPlayed
+unit_after u p n = play_of u p (place_after u p n).position (place_after u p n).bank

@@ -7,14 +7,14 @@ use Rattle.unit.specs.declared.Refusal.{Refusal}
 use Rattle.unit.specs.declared.Refusal.TheVariants.{NotSound, NoSuchTag, BadRecord, NotGranted}
 use Rattle.unit.specs.declared.Answer.{Answer}
 use Rattle.unit.specs.declared.Answer.TheVariants.{Done, Refused}
-use Rattle.unit.specs.Unit.{inside, soundOf}
+use Rattle.unit.specs.Unit.{inside, sound_of}
 use Rattle.unit.specs.Calls.{check}
 use Rattle.controller.specs.declared.Bank.{Bank}
 use Rattle.controller.specs.declared.Event.{Event}
 use Rattle.controller.specs.declared.Event.TheVariants.{Tick, Start}
 use Rattle.controller.specs.Bank.{granted, moved}
-use Rattle.plan_record.specs.Record.{ringOf, ringBit}
-use Rattle.plan_record.specs.Write.{cycleIn, holdsCycle}
+use Rattle.plan_record.specs.Record.{ring_of, ring_bit}
+use Rattle.plan_record.specs.Write.{cycle_in, holds_cycle}
 use Rattle.simulator.specs.declared.UnitPlayed.{UnitPlayed}
 
 -- the tag of a plan
@@ -23,23 +23,23 @@ tag_of p = record { 0 = p.tag }
 
 -- bit i of the plan's ring
 abbrev pub bit_of : Plan → ℕ → Bool
-bit_of p i = ringBit (ringOf (cycleIn p)) i
+bit_of p i = ring_bit (ring_of (cycle_in p)) i
 
 -- a unit with bit 0 is a start of the plan's tag, a unit with bit 1 is a tick
-abbrev pub eventOf : Plan → ℕ → Event
-eventOf p i = cond (bit_of p i) Tick (Start (tag_of p))
+abbrev pub event_of : Plan → ℕ → Event
+event_of p i = cond (bit_of p i) Tick (Start (tag_of p))
 
 -- 1 for the unit, 2 for the plan's tag, 15 for the plan or a position from S on, 10 for a start that is not granted
-unfoldable pub stepAnswer : FunctionUnit → Plan → ℕ → Bank → Answer
-stepAnswer u p i b =
-    check (soundOf u) NotSound
+unfoldable pub step_answer : FunctionUnit → Plan → ℕ → Bank → Answer
+step_answer u p i b =
+    check (sound_of u) NotSound
     (check (inside p.tag u.functions) NoSuchTag
-    (check (holdsCycle p && ltb i p.sum) BadRecord
+    (check (holds_cycle p && ltb i p.sum) BadRecord
     (check (bit_of p i || granted b p.tag) NotGranted Done)))
 
 -- the position after i: 0 after S - 1
-abbrev pub positionAfter : Plan → ℕ → ℕ
-positionAfter p i = cond (eqb (i + 1) p.sum) 0 (i + 1)
+abbrev pub position_after : Plan → ℕ → ℕ
+position_after p i = cond (eqb (i + 1) p.sum) 0 (i + 1)
 
 -- a refused step starts nothing and leaves position and bank
 abbrev pub stopped : Refusal → ℕ → Bank → UnitPlayed
@@ -47,8 +47,8 @@ stopped why i b = record { answer = Refused why; started = false; position = i; 
 
 -- whether a task has started, the next position, and the bank after the event
 abbrev pub playing : Answer → FunctionUnit → Plan → ℕ → Bank → UnitPlayed
-playing Done u p i b = record { answer = Done; started = not (bit_of p i); position = positionAfter p i; bank = moved u b (eventOf p i) }
+playing Done u p i b = record { answer = Done; started = not (bit_of p i); position = position_after p i; bank = moved u b (event_of p i) }
 playing (Refused why) u p i b = stopped why i b
 
-unfoldable pub playOf : FunctionUnit → Plan → ℕ → Bank → UnitPlayed
-playOf u p i b = playing (stepAnswer u p i b) u p i b
+unfoldable pub play_of : FunctionUnit → Plan → ℕ → Bank → UnitPlayed
+play_of u p i b = playing (step_answer u p i b) u p i b

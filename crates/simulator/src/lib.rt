@@ -3,9 +3,9 @@
 ghost use Rattle.std.specs.Prelude.{◌≡◌, ◌<◌};
 ghost use Rattle.collision.specs.Pipeline.{total};
 ghost use Rattle.plan_record.specs.Record.{Recordable, starts};
-ghost use Rattle.simulator.specs.Step.{eventOf, positionAfter, stopped, playOf};
-ghost use Rattle.simulator.specs.Inner.{isStart, OnRing, Playable, ringAnswer};
-ghost use Rattle.unit.specs.Calls.{andThen};
+ghost use Rattle.simulator.specs.Step.{event_of, position_after, stopped, play_of};
+ghost use Rattle.simulator.specs.Inner.{is_start, OnRing, Playable, ring_answer};
+ghost use Rattle.unit.specs.Calls.{and_then};
 
 use controller::{Bank, Event};
 use unit::{Answer, FunctionUnit, Plan, Refusal, Tag};
@@ -36,7 +36,7 @@ fn starts_at(list: &[u8], position: usize) -> bool
 // The event of a position: a start of the plan's tag where the ring's bit is 0, else a tick.
 fn event_at(plan: Plan, position: u16) -> Event
     requires { OnRing plan position }
-    ensures { result ≡ eventOf plan position }
+    ensures { result ≡ event_of plan position }
 {
     let count = plan.count as usize;
     let latencies = plan.latencies;
@@ -47,7 +47,7 @@ fn event_at(plan: Plan, position: u16) -> Event
 }
 
 fn is_start(event: Event) -> bool
-    ensures { result ≡ isStart event }
+    ensures { result ≡ is_start event }
 {
     match event {
         Event::Tick => false,
@@ -58,7 +58,7 @@ fn is_start(event: Event) -> bool
 // The position after one of the ring.
 fn position_after(plan: Plan, position: u16) -> u16
     requires { OnRing plan position }
-    ensures { result ≡ positionAfter plan position }
+    ensures { result ≡ position_after plan position }
 {
     if position + 1 == plan.sum {
         return 0;
@@ -81,7 +81,7 @@ fn refused(why: Refusal, position: u16, bank: Bank) -> UnitPlayed
 // A step on the ring.
 fn play(u: FunctionUnit, plan: Plan, position: u16, bank: Bank) -> UnitPlayed
     requires { Playable u plan position }
-    ensures { result ≡ playOf u plan position bank }
+    ensures { result ≡ play_of u plan position bank }
 {
     let event = event_at(plan, position);
     let after = controller::step(u, bank, event);
@@ -104,7 +104,7 @@ fn play(u: FunctionUnit, plan: Plan, position: u16, bank: Bank) -> UnitPlayed
 
 // Whether the plan has a ring, and the position is one of it.
 fn check_ring(plan: Plan, position: u16) -> Answer
-    ensures { result ≡ ringAnswer plan position }
+    ensures { result ≡ ring_answer plan position }
 {
     if !plan_record::holds_cycle(plan) {
         return Answer::Refused(Refusal::BadRecord);
@@ -117,7 +117,7 @@ fn check_ring(plan: Plan, position: u16) -> Answer
 
 // The first of two answers, or the second where the first refuses nothing.
 fn and_then(first: Answer, second: Answer) -> Answer
-    ensures { result ≡ andThen first second }
+    ensures { result ≡ and_then first second }
 {
     match first {
         Answer::Refused(why) => Answer::Refused(why),
@@ -127,7 +127,7 @@ fn and_then(first: Answer, second: Answer) -> Answer
 
 // One time unit of a plan: a start of its tag where its ring has a 0, else a tick. A refused step leaves position and bank.
 pub fn step(u: FunctionUnit, plan: Plan, position: u16, bank: Bank) -> UnitPlayed
-    ensures { result ≡ playOf u plan position bank }
+    ensures { result ≡ play_of u plan position bank }
 {
     let known = unit::check_tag(u, Tag(plan.tag));
     let ring = check_ring(plan, position);

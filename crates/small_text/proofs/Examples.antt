@@ -14,21 +14,21 @@ use Rattle.session.specs.declared.Session.{Session}
 use Rattle.session.specs.declared.Reply.{Reply}
 use Rattle.session.specs.Sessions.{opening, taken, Line}
 use Rattle.session.proofs.LineLaws.{line_as}
-use Rattle.table_numbers.specs.Tables.{smallTable, smallTableAnswer, smallTableOf}
-use Rattle.table_totals.specs.Totals.{totalsAnswer}
+use Rattle.table_numbers.specs.Tables.{small_table, small_table_answer, small_table_of}
+use Rattle.table_totals.specs.Totals.{totals_answer}
 use Rattle.total_claims.specs.Examples.{totalling}
-use Rattle.total_claims.proofs.SizeLaws.{one-column}
-use Rattle.small_text.specs.Told.{totalsLine, totalledLine, SmallOn}
+use Rattle.total_claims.proofs.SizeLaws.{one_column}
+use Rattle.small_text.specs.Told.{totals_line, totalled_line, SmallOn}
 
 -- Lines
 
-pub two-columns-line : totalsLine (totalling 4 4 2 1 3) ≡ ascii "tables 4 at bound 4 largest 2/1 first 3\n"
+pub two_columns_line : totals_line (totalling 4 4 2 1 3) ≡ ascii "tables 4 at bound 4 largest 2/1 first 3\n"
 unfolding decimal digits
-two-columns-line = refl
+two_columns_line = refl
 
-pub one-column-line : totalsLine (totalling 2 2 1 1 0) ≡ ascii "tables 2 at bound 2 largest 1/1 first 0\n"
+pub one_column_line : totals_line (totalling 2 2 1 1 0) ≡ ascii "tables 2 at bound 2 largest 1/1 first 0\n"
 unfolding decimal digits
-one-column-line = refl
+one_column_line = refl
 
 -- Commands
 
@@ -42,32 +42,32 @@ number n = record { verb = Verb.Small; count = 3; first = 1; second = 1; third =
 module _ {s : Session} {before after : List ℕ} {t : Reply} where
   -- `small 1 1` is told the totals of that size in every session
   pub told-one-column : SmallOn s size before after t → Line (ascii "tables 2 at bound 2 largest 1/1 first 0\n") before after t.end
-  unfolding totalsAnswer
+  unfolding totals_answer
   told-one-column x =
       let told = x.totals (omega arith) in
       let f = told.answers.found refl in
-      line_as (ap totalledLine f.told ∙ ap totalsLine (one-column.only f.totals f.of_size) ∙ one-column-line) told.line
+      line_as (ap totalled_line f.told ∙ ap totals_line (one_column.only f.totals f.of_size) ∙ one_column_line) told.line
 
   -- and leaves it as it was
   pub kept-by-totals : SmallOn s size before after t → t.session ≡ s
   kept-by-totals x = (x.totals (omega arith)).next
 
   -- `small 1 1 1` leaves the table with a mark
-  pub taken-1 : SmallOn s (number 1) before after t → t.session ≡ taken s Done (unit_of 1 1 1 (smallTable 1 1 1))
-  unfolding smallTableOf smallTableAnswer
+  pub taken-1 : SmallOn s (number 1) before after t → t.session ≡ taken s Done (unit_of 1 1 1 (small_table 1 1 1))
+  unfolding small_table_of small_table_answer
   taken-1 x = (x.table (omega arith)).next
 
   -- there is no number 2, and the session stays
   pub kept-at-2 : SmallOn s (number 2) before after t → t.session ≡ s
-  unfolding smallTableOf smallTableAnswer
+  unfolding small_table_of small_table_answer
   kept-at-2 x = (x.table (omega arith)).next
 
 -- What is not so
 
 -- the totals do not make a unit
-pub not-by-totals : {before after : List ℕ} {t : Reply} → SmallOn opening size before after t → t.session.present ≡ true → ⊥
-not-by-totals x e = nowhere (sym (ap (λ (s : Session). s.present) (kept-by-totals x)) ∙ e)
+pub not_by_totals : {before after : List ℕ} {t : Reply} → SmallOn opening size before after t → t.session.present ≡ true → ⊥
+not_by_totals x e = nowhere (sym (ap (λ (s : Session). s.present) (kept-by-totals x)) ∙ e)
 
 -- nor does a number that no table has
-pub not-at-2 : {before after : List ℕ} {t : Reply} → SmallOn opening (number 2) before after t → t.session.present ≡ true → ⊥
-not-at-2 x e = nowhere (sym (ap (λ (s : Session). s.present) (kept-at-2 x)) ∙ e)
+pub not_at_2 : {before after : List ℕ} {t : Reply} → SmallOn opening (number 2) before after t → t.session.present ≡ true → ⊥
+not_at_2 x e = nowhere (sym (ap (λ (s : Session). s.present) (kept-at-2 x)) ∙ e)

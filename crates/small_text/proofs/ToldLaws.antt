@@ -10,15 +10,15 @@ use Rattle.session.specs.declared.Session.{Session}
 use Rattle.session.specs.declared.Reply.{Reply}
 use Rattle.session.specs.Sessions.{one, two, Line, Made}
 use Rattle.session.proofs.SessionLaws.{made_as}
-use Rattle.table_numbers.specs.Tables.{smallTableOf}
+use Rattle.table_numbers.specs.Tables.{small_table_of}
 use Rattle.table_totals.specs.declared.Totalled.{Totalled}
 use Rattle.table_totals.specs.Totals.{AnswersTotals, TotalsPromise}
-use Rattle.small_text.specs.Told.{totalledLine, TotalsTold, SmallOn}
+use Rattle.small_text.specs.Told.{totalled_line, TotalsTold, SmallOn}
 
-pub told-as : (s : Session) (r : Request) {a b : ℕ} {zeros words : List ℕ} {answer : Totalled} {before after : List ℕ} {end : ℕ} → a ≡ one r → b ≡ two r
-    → length zeros ≡ 16000 → TotalsPromise a b zeros words answer → Line (totalledLine answer) before after end
+pub told_as : (s : Session) (r : Request) {a b : ℕ} {zeros words : List ℕ} {answer : Totalled} {before after : List ℕ} {end : ℕ} → a ≡ one r → b ≡ two r
+    → length zeros ≡ 16000 → TotalsPromise a b zeros words answer → Line (totalled_line answer) before after end
     → TotalsTold s r before after record { session = s; end = end }
-told-as s r {a} {b} {zeros} {answer = answer} e f n p l = record { answer = answer; answers = asked; line = l; next = refl }
+told_as s r {a} {b} {zeros} {answer = answer} e f n p l = record { answer = answer; answers = asked; line = l; next = refl }
   where
     asked : AnswersTotals (one r) (two r) 16000 answer
     asked =
@@ -29,9 +29,9 @@ module _ {s : Session} {r : Request} {before after : List ℕ} {t : Reply} where
   pub on-totals : r.count < 3 → TotalsTold s r before after t → SmallOn s r before after t
   on-totals few told = record { totals = λ h. told; table = λ h. absurd (omega arith) }
 
-  pub on-table : {a b : ℕ} {made : Outcome} → 3 ≤ r.count → a ≡ one r → b ≡ two r → made ≡ smallTableOf a b r.third → Made s made before after t
+  pub on-table : {a b : ℕ} {made : Outcome} → 3 ≤ r.count → a ≡ one r → b ≡ two r → made ≡ small_table_of a b r.third → Made s made before after t
       → SmallOn s r before after t
   on-table {a} {b} many e f m taken = record {
     totals = λ h. absurd (omega arith);
-    table = λ h. made_as (m ∙ ap₂ (λ (x y : ℕ). smallTableOf x y r.third) e f) taken;
+    table = λ h. made_as (m ∙ ap₂ (λ (x y : ℕ). small_table_of x y r.third) e f) taken;
   }

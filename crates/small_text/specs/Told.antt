@@ -3,12 +3,12 @@ use Rattle.std.specs.Prelude.{ℕ, ◌≤◌, ◌<◌, ◌≡◌, List, ◌++◌
 use Prim.Native.String.{String}
 use Rattle.text.specs.Text.{ascii, decimal}
 use Rattle.unit.specs.declared.Outcome.{Outcome}
-use Rattle.listing.specs.Lines.{newline, refusedLine}
+use Rattle.listing.specs.Lines.{newline, refused_line}
 use Rattle.command.specs.declared.Request.{Request}
 use Rattle.session.specs.declared.Session.{Session}
 use Rattle.session.specs.declared.Reply.{Reply}
 use Rattle.session.specs.Sessions.{one, two, Line, Made}
-use Rattle.table_numbers.specs.Tables.{smallTableOf}
+use Rattle.table_numbers.specs.Tables.{small_table_of}
 use Rattle.table_totals.specs.declared.SizeTotals.{SizeTotals}
 use Rattle.table_totals.specs.declared.Totalled.{Totalled}
 use Rattle.table_totals.specs.declared.Totalled.TheVariants as Totalled
@@ -21,15 +21,15 @@ abbrev pub labelled : String → ℕ → List ℕ
 labelled word n = ascii word ++ decimal n
 
 -- how many tables, how many of them at the bound, the largest average, and the first number that has it
-abbrev pub totalsLine : SizeTotals → List ℕ
-totalsLine t =
+abbrev pub totals_line : SizeTotals → List ℕ
+totals_line t =
     labelled "tables " t.tables ++ labelled " at bound " t.reaching ++ labelled " largest " t.numerator ++ labelled "/" t.denominator
     ++ labelled " first " t.first ++ newline
 
 -- or `refused` and the number
-abbrev pub totalledLine : Totalled → List ℕ
-totalledLine (Totalled.Value t) = totalsLine t
-totalledLine (Totalled.Refused why) = refusedLine why
+abbrev pub totalled_line : Totalled → List ℕ
+totalled_line (Totalled.Value t) = totals_line t
+totalled_line (Totalled.Refused why) = refused_line why
 
 -- The command
 
@@ -37,14 +37,14 @@ totalledLine (Totalled.Refused why) = refusedLine why
 pub record TotalsTold (s : Session) (r : Request) (before after : List ℕ) (t : Reply) : Type 0 where
   pub answer : Totalled
   pub answers : AnswersTotals (one r) (two r) 16000 answer
-  pub line : Line (totalledLine answer) before after t.end
+  pub line : Line (totalled_line answer) before after t.end
   pub next : t.session ≡ s
 
 -- a third is the number of a table
-abbrev pub tableAsked : Request → Outcome
-tableAsked r = smallTableOf (one r) (two r) r.third
+abbrev pub table_asked : Request → Outcome
+table_asked r = small_table_of (one r) (two r) r.third
 
 -- which is taken as the unit, as a fresh one is
 pub record SmallOn (s : Session) (r : Request) (before after : List ℕ) (t : Reply) : Type 0 where
   pub totals : r.count < 3 → TotalsTold s r before after t
-  pub table : 3 ≤ r.count → Made s (tableAsked r) before after t
+  pub table : 3 ≤ r.count → Made s (table_asked r) before after t

@@ -4,7 +4,7 @@ ghost use Rattle.std.specs.Prelude.{◌++◌, ◌+◌, ◌≤◌, length};
 ghost use Rattle.text.specs.Text.{decimal};
 ghost use Rattle.text.specs.Wrote.{Wrote, Put};
 ghost use Rattle.session.specs.Sessions.{Line};
-ghost use Rattle.small_text.specs.Told.{totalsLine, totalledLine, TotalsTold, SmallOn};
+ghost use Rattle.small_text.specs.Told.{totals_line, totalled_line, TotalsTold, SmallOn};
 
 use command::Request;
 use session::{Reply, Session};
@@ -24,7 +24,7 @@ fn put_labelled(line: &mut [u8], at: usize, word: &[u8], number: u32) -> usize
 // The totals in one line.
 fn write_totals(line: &mut [u8], totals: SizeTotals) -> usize
     requires { 128 ≤ length line.old }
-    ensures { Wrote line.old 0 (totalsLine totals) line.new result }
+    ensures { Wrote line.old 0 (totals_line totals) line.new result }
 {
     let after_tables = put_labelled(line, 0, b"tables ", totals.tables);
     let after_reaching = put_labelled(line, after_tables, b" at bound ", totals.reaching);
@@ -35,7 +35,7 @@ fn write_totals(line: &mut [u8], totals: SizeTotals) -> usize
 }
 
 fn put_line(out: &mut [u8], totals: SizeTotals) -> usize
-    ensures { Line (totalsLine totals) out.old out.new result }
+    ensures { Line (totals_line totals) out.old out.new result }
 {
     let mut line = [0u8; 128];
     let end = write_totals(&mut line, totals);
@@ -44,7 +44,7 @@ fn put_line(out: &mut [u8], totals: SizeTotals) -> usize
 
 // The totals, or `refused` and the number.
 pub fn put_totals(out: &mut [u8], totalled: Totalled) -> usize
-    ensures { Line (totalledLine totalled) out.old out.new result }
+    ensures { Line (totalled_line totalled) out.old out.new result }
 {
     match totalled {
         Totalled::Value(totals) => put_line(out, totals),

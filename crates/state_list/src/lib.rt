@@ -1,7 +1,7 @@
 // The states of a function's diagram, listed in the order in which they are first found. Every function here is proved; the public one is total and
 // without a `requires`.
 ghost use Rattle.std.specs.Prelude.{◌≡◌, ◌++◌, ◌≤◌, length, take, drop};
-ghost use Rattle.diagram.specs.Answers.{statesAnswer, statesOut};
+ghost use Rattle.diagram.specs.Answers.{states_answer, states_out};
 
 use collision::Number;
 use unit::{FunctionUnit, Refusal, Tag};
@@ -21,7 +21,7 @@ fn copy_front(from: &[u32], count: usize, out: &mut [u32])
 // Lists the states of a function's diagram in lent words, and answers their number. The states are found in words of its own,
 // so that a call that is refused, also for too many states, changes none of the lent ones: it then copies none.
 pub fn states(u: FunctionUnit, tag: Tag, out: &mut [u32]) -> Number
-    ensures { (result ≡ statesAnswer u tag.0 (length out.old)) × (out.new ≡ statesOut u tag.0 out.old) }
+    ensures { (result ≡ states_answer u tag.0 (length out.old)) × (out.new ≡ states_out u tag.0 out.old) }
 {
     let vector = collision::vector(u, tag);
     match vector {

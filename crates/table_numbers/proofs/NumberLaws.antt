@@ -7,13 +7,13 @@ use native.Mathlib.Omega.{arith}
 use lib.Dec.{eqb}
 use borrow.Author.Tests.{eq-eqb, eqb-true}
 use Rattle.words.specs.Bits.{is_set}
-use Rattle.words.proofs.Tests.{and_left, and_right, and-true, same_test}
+use Rattle.words.proofs.Tests.{and_left, and_right, and_true, same_test}
 use Rattle.words.proofs.BitLaws.{same_bits}
 use Rattle.words.proofs.BelowLaws.{word_lt, word_set}
 use Rattle.unit.specs.Table.{Table}
 use Rattle.unit.specs.Unit.{inside}
 use Rattle.unit.proofs.Laws.{within, inside_of}
-use Rattle.table_numbers.specs.Tables.{tableCount, smallTable, numberOfTable}
+use Rattle.table_numbers.specs.Tables.{table_count, small_table, number_of_table}
 use Rattle.table_numbers.specs.Claims.{OfSize, HasSize}
 
 -- The place of a mark
@@ -59,9 +59,9 @@ spot s c i pos l =
 
 -- The marks of the table of a number
 
-pub small-mark : (s c n q r k : ℕ) → smallTable s c n q r k ≡ true → OfSize s c q r k × (is_set n ((r - 1) * c + (k - 1)) ≡ true)
-unfolding smallTable
-small-mark s c n q r k e =
+pub small_mark : (s c n q r k : ℕ) → small_table s c n q r k ≡ true → OfSize s c q r k × (is_set n ((r - 1) * c + (k - 1)) ≡ true)
+unfolding small_table
+small_mark s c n q r k e =
     let e2 = and_right (eqb q 1) _ e in
     let e3 = and_right (inside r s) _ e2 in (
       record {
@@ -72,49 +72,49 @@ small-mark s c n q r k e =
       and_right (inside k c) _ e3,
     )
 
-pub mark-small : (s c n q r k : ℕ) → OfSize s c q r k → is_set n ((r - 1) * c + (k - 1)) ≡ true → smallTable s c n q r k ≡ true
-unfolding smallTable
-mark-small s c n q r k o e = and-true (eq-eqb q 1 o.tag) (and-true o.segment (and-true o.column e))
+pub mark_small : (s c n q r k : ℕ) → OfSize s c q r k → is_set n ((r - 1) * c + (k - 1)) ≡ true → small_table s c n q r k ≡ true
+unfolding small_table
+mark_small s c n q r k o e = and_true (eq-eqb q 1 o.tag) (and_true o.segment (and_true o.column e))
 
 -- Both ways
 
 module _ (s c : ℕ) (pos : 1 ≤ c) where
   -- bit i of the number is the mark at place i
-  pub small-bit : (n i : ℕ) → i < s * c → smallTable s c n 1 (i / c + 1) (i % c + 1) ≡ is_set n i
+  pub small-bit : (n i : ℕ) → i < s * c → small_table s c n 1 (i / c + 1) (i % c + 1) ≡ is_set n i
   small-bit n i l =
       let p = spot s c i pos l in
-      same_test (smallTable s c n 1 (i / c + 1) (i % c + 1)) (is_set n i)
-      (λ e. sym (ap (is_set n) p.place) ∙ (small-mark s c n 1 (i / c + 1) (i % c + 1) e).1)
-      (λ e. mark-small s c n 1 (i / c + 1) (i % c + 1) (record { tag = refl; segment = p.segment; column = p.column }) (ap (is_set n) p.place ∙ e))
+      same_test (small_table s c n 1 (i / c + 1) (i % c + 1)) (is_set n i)
+      (λ e. sym (ap (is_set n) p.place) ∙ (small_mark s c n 1 (i / c + 1) (i % c + 1) e).1)
+      (λ e. mark_small s c n 1 (i / c + 1) (i % c + 1) (record { tag = refl; segment = p.segment; column = p.column }) (ap (is_set n) p.place ∙ e))
 
-  pub number-of-small : (n : ℕ) → n < tableCount s c → numberOfTable s c (smallTable s c n) ≡ n
-  unfolding numberOfTable
+  pub number-of-small : (n : ℕ) → n < table_count s c → number_of_table s c (small_table s c n) ≡ n
+  unfolding number_of_table
   number-of-small n l =
-      same_bits (s * c) (numberOfTable s c (smallTable s c n)) n (word_lt (s * c) marks) l
+      same_bits (s * c) (number_of_table s c (small_table s c n)) n (word_lt (s * c) marks) l
       (λ i h. word_set (s * c) marks i h ∙ small-bit n i h)
     where
       marks : ℕ → Bool
-      marks i = smallTable s c n 1 (i / c + 1) (i % c + 1)
+      marks i = small_table s c n 1 (i / c + 1) (i % c + 1)
 
-  pub number-below : (T : Table) → numberOfTable s c T < tableCount s c
-  unfolding numberOfTable
-  number-below T = word_lt (s * c) (λ i. T 1 (i / c + 1) (i % c + 1))
+  pub number_below : (T : Table) → number_of_table s c T < table_count s c
+  unfolding number_of_table
+  number_below T = word_lt (s * c) (λ i. T 1 (i / c + 1) (i % c + 1))
 
-  pub number_bit : (T : Table) (r k : ℕ) → inside r s ≡ true → inside k c ≡ true → is_set (numberOfTable s c T) ((r - 1) * c + (k - 1)) ≡ T 1 r k
-  unfolding numberOfTable
+  pub number_bit : (T : Table) (r k : ℕ) → inside r s ≡ true → inside k c ≡ true → is_set (number_of_table s c T) ((r - 1) * c + (k - 1)) ≡ T 1 r k
+  unfolding number_of_table
   number_bit T r k i j =
       let p = placed s c r k i j in
       word_set (s * c) (λ x. T 1 (x / c + 1) (x % c + 1)) ((r - 1) * c + (k - 1)) p.below
       ∙ ap (λ x. T 1 x (((r - 1) * c + (k - 1)) % c + 1)) p.segment ∙ ap (T 1 r) p.column
 
-  pub small-of-number : (T : Table) → HasSize s c T → smallTable s c (numberOfTable s c T) ≡ T
+  pub small-of-number : (T : Table) → HasSize s c T → small_table s c (number_of_table s c T) ≡ T
   small-of-number T h = λ i q r k. at q r k i
     where
-      at : (q r k : ℕ) → smallTable s c (numberOfTable s c T) q r k ≡ T q r k
+      at : (q r k : ℕ) → small_table s c (number_of_table s c T) q r k ≡ T q r k
       at q r k =
-          same_test (smallTable s c (numberOfTable s c T) q r k) (T q r k)
-          (λ e. let m = small-mark s c (numberOfTable s c T) q r k e in
+          same_test (small_table s c (number_of_table s c T) q r k) (T q r k)
+          (λ e. let m = small_mark s c (number_of_table s c T) q r k e in
           let o = m.0 in
           ap (λ x. T x r k) o.tag ∙ sym (number_bit T r k o.segment o.column) ∙ m.1)
           (λ e. let o = h q r k e in
-          mark-small s c (numberOfTable s c T) q r k o (number_bit T r k o.segment o.column ∙ sym (ap (λ x. T x r k) o.tag) ∙ e))
+          mark_small s c (number_of_table s c T) q r k o (number_bit T r k o.segment o.column ∙ sym (ap (λ x. T x r k) o.tag) ∙ e))

@@ -1,11 +1,11 @@
 -- What the private functions ask and find. No public contract cites this file.
 use Rattle.std.specs.Prelude.{ℕ, ◌+◌, ◌-◌, ◌*◌, ◌≤◌, ◌&&◌, ltb}
 use Rattle.words.specs.Bits.{is_set}
-use Rattle.words.specs.Below.{wordBelow}
+use Rattle.words.specs.Below.{word_below}
 use Rattle.unit.specs.declared.FunctionUnit.{FunctionUnit}
 use Rattle.unit.specs.Table.{Table}
 use Rattle.unit.specs.Calls.{unit_of}
-use Rattle.table_numbers.specs.Tables.{smallTable}
+use Rattle.table_numbers.specs.Tables.{small_table}
 
 -- a size, as facts
 pub record Sized (s c : ℕ) : Type 0 where
@@ -15,12 +15,12 @@ pub record Sized (s c : ℕ) : Type 0 where
   pub columns6 : c ≤ 6
 
 -- the marks of the first i segments in column k, bit r - 1 for segment r
-unfoldable pub columnWord : ℕ → ℕ → ℕ → ℕ → ℕ
-columnWord i c n k = wordBelow i (λ j. is_set n (j * c + (k - 1)))
+unfoldable pub column_word : ℕ → ℕ → ℕ → ℕ → ℕ
+column_word i c n k = word_below i (λ j. is_set n (j * c + (k - 1)))
 
 -- the table of a number up to, and not with, column k
-unfoldable pub tableBefore : ℕ → ℕ → ℕ → ℕ → Table
-tableBefore s c n k x y z = smallTable s c n x y z && ltb z k
+unfoldable pub table_before : ℕ → ℕ → ℕ → ℕ → Table
+table_before s c n k x y z = small_table s c n x y z && ltb z k
 
-abbrev pub unitBefore : ℕ → ℕ → ℕ → ℕ → FunctionUnit
-unitBefore s c n k = unit_of 1 s c (tableBefore s c n k)
+abbrev pub unit_before : ℕ → ℕ → ℕ → ℕ → FunctionUnit
+unit_before s c n k = unit_of 1 s c (table_before s c n k)

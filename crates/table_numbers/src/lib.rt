@@ -3,14 +3,14 @@
 // Every function here is proved, and every public one is total and without a `requires`; the crate assumes nothing of its own.
 ghost use Rattle.std.specs.Prelude.{◌≡◌, ◌≤◌};
 ghost use Rattle.unit.specs.Calls.{unit_of};
-ghost use Rattle.table_numbers.specs.Tables.{smallSize, countAnswer, smallTable, smallTableAnswer, smallTableOf};
-ghost use Rattle.table_numbers.specs.Inner.{Sized, columnWord};
+ghost use Rattle.table_numbers.specs.Tables.{small_size, count_answer, small_table, small_table_answer, small_table_of};
+ghost use Rattle.table_numbers.specs.Inner.{Sized, column_word};
 
 use unit::{Answer, FunctionUnit, Outcome, Refusal, Tag};
 
 // Whether there are small tables of so many segments and columns.
 fn is_size(segments: u8, columns: u8) -> bool
-    ensures { result ≡ smallSize segments columns }
+    ensures { result ≡ small_size segments columns }
 {
     if !words::is_inside(segments, 2) {
         return false;
@@ -20,7 +20,7 @@ fn is_size(segments: u8, columns: u8) -> bool
 
 // How many tables of a size there are: their numbers are those below it. Of a size outside there are none.
 pub fn count(segments: u8, columns: u8) -> u32
-    ensures { result ≡ countAnswer segments columns }
+    ensures { result ≡ count_answer segments columns }
 {
     if !is_size(segments, columns) {
         return 0;
@@ -30,7 +30,7 @@ pub fn count(segments: u8, columns: u8) -> u32
 
 // Whether a number has a table of the size.
 fn check_number(segments: u8, columns: u8, number: u32) -> Answer
-    ensures { result ≡ smallTableAnswer segments columns number }
+    ensures { result ≡ small_table_answer segments columns number }
 {
     if number < count(segments, columns) {
         return Answer::Done;
@@ -41,7 +41,7 @@ fn check_number(segments: u8, columns: u8, number: u32) -> Answer
 // The marks of a column, bit r - 1 for segment r.
 fn column_word(segments: u8, columns: u8, number: u32, column: u8) -> u16
     requires { Sized segments columns × ((1 ≤ column) × (column ≤ columns)) }
-    ensures { result ≡ columnWord segments columns number column }
+    ensures { result ≡ column_word segments columns number column }
 {
     let mut marks: u32 = 0;
     let mut i: u8 = 0;
@@ -58,7 +58,7 @@ fn column_word(segments: u8, columns: u8, number: u32, column: u8) -> u16
 // The unit of a table, column by column.
 fn fill(segments: u8, columns: u8, number: u32) -> FunctionUnit
     requires { Sized segments columns }
-    ensures { result ≡ unit_of 1 segments columns (smallTable segments columns number) }
+    ensures { result ≡ unit_of 1 segments columns (small_table segments columns number) }
 {
     let made = unit::fresh(1, segments, columns);
     let mut unit = made.unit;
@@ -76,7 +76,7 @@ fn fill(segments: u8, columns: u8, number: u32) -> FunctionUnit
 // The table of a number as a unit of one function, without plan. A refused call hands out the unit of no counts, so that every call on it is
 // refused.
 pub fn table(segments: u8, columns: u8, number: u32) -> Outcome
-    ensures { result ≡ smallTableOf segments columns number }
+    ensures { result ≡ small_table_of segments columns number }
 {
     let answer = check_number(segments, columns, number);
     match answer {

@@ -10,8 +10,8 @@ use Rattle.table_totals.specs.Inner.{Fitting, Reduced}
 
 -- Products that fit a word
 
-pub cross-fits : {S K T L : ℕ} → Fitting S K → Fitting T L → S * L ≤ 16777216
-cross-fits f g = mul-le-mul {n₂ = 65536} {m₂ = 256} (omega (arith, f.low)) g.few
+pub cross_fits : {S K T L : ℕ} → Fitting S K → Fitting T L → S * L ≤ 16777216
+cross_fits f g = mul-le-mul {n₂ = 65536} {m₂ = 256} (omega (arith, f.low)) g.few
 
 -- The order
 
@@ -28,8 +28,8 @@ below S K T L p q pos h k =
     (omega (arith, mul_right_comm S q L, mul-le-mul_right q h, mul_right_comm T K q, mul-lt-mul_of_pos_right k pos, mul_right_comm p L K))
 
 -- S / K < T / L ≤ p / q
-pub below-most : (S K T L p q : ℕ) → 1 ≤ q → S * L < T * K → T * q ≤ p * L → S * q < p * K
-below-most S K T L p q pos h k =
+pub below_most : (S K T L p q : ℕ) → 1 ≤ q → S * L < T * K → T * q ≤ p * L → S * q < p * K
+below_most S K T L p q pos h k =
     lt_of_mul-lt-mul_right L {m = S * q} {n = p * K}
     (omega (arith, mul_right_comm S q L, mul-lt-mul_of_pos_right h pos, mul_right_comm T K q, mul-le-mul_right K k, mul_right_comm p L K))
 
@@ -40,15 +40,15 @@ same S K T L p q pos h k =
     (mul_right_comm S q L ∙ ap (λ x. x * q) h ∙ mul_right_comm T K q ∙ ap (λ x. x * K) k ∙ mul_right_comm p L K)
 
 -- two fractions of the same value in lowest terms have one denominator and one numerator
-pub lowest-unique : (p q a b : ℕ) → Lowest p q → Lowest a b → a * q ≡ p * b → (a ≡ p) × (b ≡ q)
-lowest-unique p q a b h k e =
+pub lowest_unique : (p q a b : ℕ) → Lowest p q → Lowest a b → a * q ≡ p * b → (a ≡ p) × (b ≡ q)
+lowest_unique p q a b h k e =
     let d : b ≡ q = le_antisymm (k.least p q h.positive (sym e)) (h.least a b k.positive e) in
     (eq_of_mul-eq-mul_right q h.positive a p (e ∙ ap (λ x. p * x) d), d)
 
 -- The search for the least denominator
 
-not-below : (b q : ℕ) → (b < q → ⊥) → q ≤ b
-not-below b q h = go (dec_lt b q)
+not_below : (b q : ℕ) → (b < q → ⊥) → q ≤ b
+not_below b q h = go (dec_lt b q)
   where
     go : Dec (b < q) → q ≤ b
     go (yes l) = absurd (h l)
@@ -64,8 +64,8 @@ pub passed_start : {S K : ℕ} → Fitting S K → Passed S K 1
 passed_start f = record { least = omega arith; most = f.some; none = λ b h l e. omega arith }
 
 -- q itself does not; K does, so q is not yet K
-pub passed-more : {S K q : ℕ} → Fitting S K → Passed S K q → (S * q % K ≡ 0 → ⊥) → Passed S K (q + 1)
-passed-more {S} {K} {q} f p ne = record { least = omega arith; most = most (eq-or-lt_of_le p.most); none = λ b h l. none b h (eq-or-lt_of_le {n = b} {m = q} (omega arith)) }
+pub passed_more : {S K q : ℕ} → Fitting S K → Passed S K q → (S * q % K ≡ 0 → ⊥) → Passed S K (q + 1)
+passed_more {S} {K} {q} f p ne = record { least = omega arith; most = most (eq-or-lt_of_le p.most); none = λ b h l. none b h (eq-or-lt_of_le {n = b} {m = q} (omega arith)) }
   where
     most : (q ≡ K) ⊎ (q < K) → q + 1 ≤ K
     most (inl e) = absurd (ne (ap (λ x. S * x % K) e ∙ mul-mod_left S K))
@@ -87,9 +87,9 @@ reduced S K q pos posq e none =
         least = λ a b posb h.
             let f : a * K ≡ S * b = same a b p q S K posq h (sym s) in
             let z : S * b % K ≡ 0 = ap (λ x. x % K) (sym f) ∙ mul-mod_left a K in
-            not-below b q (λ l. none b posb l z);
+            not_below b q (λ l. none b posb l z);
       };
     }
 
-pub parts-fit : {S K q : ℕ} → Fitting S K → Passed S K q → S * q ≤ 16777216
-parts-fit f p = mul-le-mul {n₂ = 65536} {m₂ = 256} (omega (arith, f.low)) (omega (arith, p.most, f.few))
+pub parts_fit : {S K q : ℕ} → Fitting S K → Passed S K q → S * q ≤ 16777216
+parts_fit f p = mul-le-mul {n₂ = 65536} {m₂ = 256} (omega (arith, f.low)) (omega (arith, p.most, f.few))

@@ -11,28 +11,28 @@ use lib.Dec.{eqb}
 use lib.ListN.{length}
 use lib.Pow.{pow_mono}
 use borrow.Author.Tests.{eq-eqb, ne_eqb}
-use Rattle.words.specs.Below.{countBelow}
-use Rattle.words.proofs.BelowLaws.{count_same, count-more, count_most}
+use Rattle.words.specs.Below.{count_below}
+use Rattle.words.proofs.BelowLaws.{count_same, count_more, count_most}
 use Rattle.collision.specs.Pipeline.{total}
 use Rattle.unit.specs.Table.{Table}
 use Rattle.planner.specs.Plans.{Best}
-use Rattle.table_numbers.specs.Tables.{nthTable}
-use Rattle.table_numbers.proofs.FillLaws.{sized, few-places}
+use Rattle.table_numbers.specs.Tables.{nth_table}
+use Rattle.table_numbers.proofs.FillLaws.{sized, few_places}
 use Rattle.table_totals.specs.declared.Average.{Average}
 use Rattle.table_totals.specs.declared.Tally.{Tally}
-use Rattle.table_totals.specs.Totals.{atBound, TotalsOver}
+use Rattle.table_totals.specs.Totals.{at_bound, TotalsOver}
 use Rattle.table_totals.specs.Inner.{Prepared, Used, Measured, TalliedBy, Tallied, Added, Reduced}
-use Rattle.table_totals.proofs.FractionLaws.{at_most, below, below-most}
+use Rattle.table_totals.proofs.FractionLaws.{at_most, below, below_most}
 
-abbrev first-tally : Average → Tally
-first-tally a = record { reaching = a.reaching; sum = a.sum; count = a.count; first = 0 }
+abbrev first_tally : Average → Tally
+first_tally a = record { reaching = a.reaching; sum = a.sum; count = a.count; first = 0 }
 
-pub tally-start : {L : List Table} {before words : List ℕ} (a : Average) → Measured L 0 before words a → Tallied L 1 (first-tally a)
-unfolding countBelow
-tally-start {L} a m = record {
+pub tally_start : {L : List Table} {before words : List ℕ} (a : Average) → Measured L 0 before words a → Tallied L 1 (first_tally a)
+unfolding count_below
+tally_start {L} a m = record {
   best = λ n. m.cycle;
   by = record {
-    bests = λ n l. let z : 0 ≡ n = omega arith in subst (λ k. Best 1 (nthTable L k) 1 m.cycle) z m.best;
+    bests = λ n l. let z : 0 ≡ n = omega arith in subst (λ k. Best 1 (nth_table L k) 1 m.cycle) z m.best;
     reaching = omega (arith, m.reaching);
     inside = omega arith;
     sum = m.sum;
@@ -64,16 +64,16 @@ module _ {L : List Table} {n : ℕ} {t : Tally} {before words : List ℕ} {a : A
       go (inl e) = subst (λ k. P m k) (sym (cycles-next m e)) (subst (λ k. P k one.cycle) (sym e) next)
       go (inr h) = subst (λ k. P m k) (sym (cycles-before m h)) (old m h)
 
-  counted : t.reaching + a.reaching ≡ countBelow (n + 1) (λ m. atBound (nthTable L m) (cycles m))
+  counted : t.reaching + a.reaching ≡ count_below (n + 1) (λ m. at_bound (nth_table L m) (cycles m))
   counted =
-      let old = count_same n (λ m. atBound (nthTable L m) (cycles m)) (λ m. atBound (nthTable L m) (all.best m)) (λ m l. ap (atBound (nthTable L m)) (cycles-before m l)) in
-      let new : cond (atBound (nthTable L n) (cycles n)) 1 0 ≡ a.reaching = ap (λ k. cond (atBound (nthTable L n) k) 1 0) (cycles-next n refl) ∙ sym one.reaching in
-      omega (arith, count-more n (λ m. atBound (nthTable L m) (cycles m)), all.by.reaching)
+      let old = count_same n (λ m. at_bound (nth_table L m) (cycles m)) (λ m. at_bound (nth_table L m) (all.best m)) (λ m l. ap (at_bound (nth_table L m)) (cycles-before m l)) in
+      let new : cond (at_bound (nth_table L n) (cycles n)) 1 0 ≡ a.reaching = ap (λ k. cond (at_bound (nth_table L n) k) 1 0) (cycles-next n refl) ∙ sym one.reaching in
+      omega (arith, count_more n (λ m. at_bound (nth_table L m) (cycles m)), all.by.reaching)
 
   tally-larger : t.sum * a.count < a.sum * t.count
       → TalliedBy L (n + 1) cycles (record { reaching = t.reaching + a.reaching; sum = a.sum; count = a.count; first = n })
   tally-larger l = record {
-    bests = every (λ m k. Best 1 (nthTable L m) 1 k) one.best all.by.bests;
+    bests = every (λ m k. Best 1 (nth_table L m) 1 k) one.best all.by.bests;
     reaching = counted;
     inside = omega arith;
     sum = one.sum ∙ ap total (sym (cycles-next n refl));
@@ -91,7 +91,7 @@ module _ {L : List Table} {n : ℕ} {t : Tally} {before words : List ℕ} {a : A
   tally-other : a.sum * t.count ≤ t.sum * a.count
       → TalliedBy L (n + 1) cycles (record { reaching = t.reaching + a.reaching; sum = t.sum; count = t.count; first = t.first })
   tally-other l = record {
-    bests = every (λ m k. Best 1 (nthTable L m) 1 k) one.best all.by.bests;
+    bests = every (λ m k. Best 1 (nth_table L m) 1 k) one.best all.by.bests;
     reaching = counted;
     inside = omega (arith, all.by.inside);
     sum = all.by.sum ∙ ap total (sym (cycles-before t.first all.by.inside));
@@ -112,19 +112,19 @@ module _ {L : List Table} {n : ℕ} {t : Tally} {before words : List ℕ} {a : A
           record { best = cycles; by = subst (λ (x : Tally). TalliedBy L (n + 1) cycles x) (sym (j.other l)) (tally-other l) }
 
 -- the largest average in lowest terms
-pub tally-end : {L : List Table} (n : ℕ) (t : Tally) (p q : ℕ) → n ≡ length L → Tallied L n t → Reduced t.sum t.count p q
+pub tally_end : {L : List Table} (n : ℕ) (t : Tally) (p q : ℕ) → n ≡ length L → Tallied L n t → Reduced t.sum t.count p q
     → TotalsOver L (record { tables = n; reaching = t.reaching; numerator = p; denominator = q; first = t.first })
-tally-end {L} n t p q e x r = record {
+tally_end {L} n t p q e x r = record {
   best = x.best;
   bests = λ m l. y.bests m (omega arith);
   by = record {
     tables = e;
-    reaching = y.reaching ∙ ap (λ k. countBelow k (λ m. atBound (nthTable L m) (x.best m))) e;
+    reaching = y.reaching ∙ ap (λ k. count_below k (λ m. at_bound (nth_table L m) (x.best m))) e;
     largest = λ m l. at_most (total (x.best m)) (length (x.best m)) t.sum t.count p q y.fitting.some (y.largest m (omega arith)) (le_of_eq r.same);
     lowest = r.lowest;
     first = omega (arith, y.inside);
     reached = ap (λ k. k * q) (sym y.sum) ∙ r.same ∙ ap (λ k. p * k) y.count;
-    earlier = λ m l. below-most (total (x.best m)) (length (x.best m)) t.sum t.count p q r.lowest.positive (y.earlier m l) (le_of_eq r.same);
+    earlier = λ m l. below_most (total (x.best m)) (length (x.best m)) t.sum t.count p q r.lowest.positive (y.earlier m l) (le_of_eq r.same);
   };
 }
   where
@@ -133,28 +133,28 @@ tally-end {L} n t p q e x r = record {
 
 -- What the loop asks and keeps
 
-pub used-then : {a b d : List ℕ} → Used a b → Used b d → Used a d
-used-then f g = record { size = g.size ∙ f.size; beyond = λ i h. g.beyond i h ∙ f.beyond i h }
+pub used_then : {a b d : List ℕ} → Used a b → Used b d → Used a d
+used_then f g = record { size = g.size ∙ f.size; beyond = λ i h. g.beyond i h ∙ f.beyond i h }
 
 -- two tables or more, and at most 4,096
-pub some-tables : {s c tables room : ℕ} → Prepared s c tables room → (2 ≤ tables) × (tables ≤ 4096)
-some-tables {s} {c} r =
+pub some_tables : {s c tables room : ℕ} → Prepared s c tables room → (2 ≤ tables) × (tables ≤ 4096)
+some_tables {s} {c} r =
     let m = sized s c r.size in
     let one : 1 * 1 ≤ s * c = mul-le-mul m.segments1 m.columns1 in
-    let p : 2 ^ (s * c) ≤ 2 ^ 12 = pow_mono (few-places m) in
+    let p : 2 ^ (s * c) ≤ 2 ^ 12 = pow_mono (few_places m) in
     let places : 1 ≤ s * c = omega arith in
     let q : 2 ^ 1 ≤ 2 ^ (s * c) = pow_mono places in
     (omega (arith, r.count), omega (arith, r.count))
 
 -- as many working words as before
-pub ready-after : {s c tables : ℕ} (before words : List ℕ) → Prepared s c tables (length before) → Used before words → Prepared s c tables (length words)
-ready-after before words r u = record { size = r.size; count = r.count; words = omega (arith, r.words, u.size) }
+pub ready_after : {s c tables : ℕ} (before words : List ℕ) → Prepared s c tables (length before) → Used before words → Prepared s c tables (length words)
+ready_after before words r u = record { size = r.size; count = r.count; words = omega (arith, r.words, u.size) }
 
-pub few-reach : {L : List Table} {n : ℕ} {t : Tally} → Tallied L n t → t.reaching ≤ n
-few-reach {L} {n} x = omega (arith, x.by.reaching, count_most n (λ m. atBound (nthTable L m) (x.best m)))
+pub few_reach : {L : List Table} {n : ℕ} {t : Tally} → Tallied L n t → t.reaching ≤ n
+few_reach {L} {n} x = omega (arith, x.by.reaching, count_most n (λ m. at_bound (nth_table L m) (x.best m)))
 
-pub one-reaches : {L : List Table} {n : ℕ} {before words : List ℕ} {a : Average} → Measured L n before words a → a.reaching < 2
-one-reaches {L} {n} m = go (atBound (nthTable L n) m.cycle) m.reaching
+pub one_reaches : {L : List Table} {n : ℕ} {before words : List ℕ} {a : Average} → Measured L n before words a → a.reaching < 2
+one_reaches {L} {n} m = go (at_bound (nth_table L n) m.cycle) m.reaching
   where
     go : {x : ℕ} (b : Bool) → x ≡ cond b 1 0 → x < 2
     go true e = omega arith

@@ -1,19 +1,19 @@
 -- What the private functions ask and find. No public contract cites this file.
 use Rattle.std.specs.Prelude.{ℕ, ◌+◌, ◌*◌, ◌^◌, ◌≤◌, ◌<◌, ◌≡◌, true, cond, List, length, get_or}
-use Rattle.words.specs.Below.{countBelow}
+use Rattle.words.specs.Below.{count_below}
 use Rattle.unit.specs.Table.{Table}
 use Rattle.collision.specs.Pipeline.{total}
 use Rattle.planner.specs.Plans.{Best}
-use Rattle.table_numbers.specs.Tables.{smallSize, tableCount, nthTable}
+use Rattle.table_numbers.specs.Tables.{small_size, table_count, nth_table}
 use Rattle.table_totals.specs.declared.SizeTotals.{SizeTotals}
 use Rattle.table_totals.specs.declared.Average.{Average}
 use Rattle.table_totals.specs.declared.Tally.{Tally}
-use Rattle.table_totals.specs.Totals.{Lowest, atBound, TotalsOf}
+use Rattle.table_totals.specs.Totals.{Lowest, at_bound, TotalsOf}
 
 -- a size with its count of tables, and enough working words
 pub record Prepared (s c tables room : ℕ) : Type 0 where
-  pub size : smallSize s c ≡ true
-  pub count : tables ≡ tableCount s c
+  pub size : small_size s c ≡ true
+  pub count : tables ≡ table_count s c
   pub words : 16000 ≤ room
 
 -- the working words after searches
@@ -30,17 +30,17 @@ pub record Fitting (sum count : ℕ) : Type 0 where
 -- S and K of the best cycle of the table at a place of a list, and 1 where it is at the bound
 pub record Measured (tables : List Table) (n : ℕ) (before words : List ℕ) (a : Average) : Type 0 where
   pub cycle : List ℕ
-  pub best : Best 1 (nthTable tables n) 1 cycle
+  pub best : Best 1 (nth_table tables n) 1 cycle
   pub sum : a.sum ≡ total cycle
   pub count : a.count ≡ length cycle
   pub fitting : Fitting a.sum a.count
-  pub reaching : a.reaching ≡ cond (atBound (nthTable tables n) cycle) 1 0
+  pub reaching : a.reaching ≡ cond (at_bound (nth_table tables n) cycle) 1 0
   pub used : Used before words
 
 -- the first n tables of a list: how many are at the bound, and the first of the largest average
 pub record TalliedBy (tables : List Table) (n : ℕ) (best : ℕ → List ℕ) (t : Tally) : Type 0 where
-  pub bests : (m : ℕ) → m < n → Best 1 (nthTable tables m) 1 (best m)
-  pub reaching : t.reaching ≡ countBelow n (λ m. atBound (nthTable tables m) (best m))
+  pub bests : (m : ℕ) → m < n → Best 1 (nth_table tables m) 1 (best m)
+  pub reaching : t.reaching ≡ count_below n (λ m. at_bound (nth_table tables m) (best m))
   pub inside : t.first < n
   pub sum : t.sum ≡ total (best t.first)
   pub count : t.count ≡ length (best t.first)

@@ -3,9 +3,9 @@
 // Every function here is proved, and the public one is total and without a `requires`; the crate assumes nothing of its own.
 ghost use Rattle.std.specs.Prelude.{◌≡◌, cond, ◌*◌, ◌<◌, eqb, length};
 ghost use Rattle.unit.specs.Unit.{marked};
-ghost use Rattle.unit.specs.Calls.{tagAnswer};
-ghost use Rattle.collision.specs.Vector.{boundOf};
-ghost use Rattle.table_numbers.specs.Tables.{allTables};
+ghost use Rattle.unit.specs.Calls.{tag_answer};
+ghost use Rattle.collision.specs.Vector.{bound_of};
+ghost use Rattle.table_numbers.specs.Tables.{all_tables};
 ghost use Rattle.table_totals.specs.Totals.{TotalsPromise};
 ghost use Rattle.table_totals.specs.Inner.{Prepared, Used, Fitting, Measured, Tallied, Addable, Added, Reduced, TotalsFound};
 
@@ -55,8 +55,8 @@ struct Fraction {
 
 // The bound of a unit's function 1.
 fn bound_of(u: FunctionUnit) -> u32
-    requires { tagAnswer u 1 ≡ Answer.Done }
-    ensures { result ≡ boundOf (marked u) 1 }
+    requires { tag_answer u 1 ≡ Answer.Done }
+    ensures { result ≡ bound_of (marked u) 1 }
 {
     let found = measures::bound(u, Tag(1));
     match found {
@@ -78,7 +78,7 @@ fn reaches(bound: u32, count: u16, sum: u16) -> u32
 // Searches the table of a number.
 fn measure(segments: u8, columns: u8, number: u32, tables: u32, work: &mut [u32]) -> Average
     requires { Prepared segments columns tables (length work.old) × (number < tables) }
-    ensures { Measured (allTables segments columns) number work.old work.new result }
+    ensures { Measured (all_tables segments columns) number work.old work.new result }
 {
     let made = table_numbers::table(segments, columns, number);
     let table = made.unit;
@@ -118,7 +118,7 @@ fn add_table(t: Tally, a: Average, number: u32) -> Tally
 // Searches every table of a size, from number 0 to the last.
 fn tally_all(segments: u8, columns: u8, tables: u32, work: &mut [u32]) -> Tally
     requires { Prepared segments columns tables (length work.old) }
-    ensures tallied { Tallied (allTables segments columns) tables result }
+    ensures tallied { Tallied (all_tables segments columns) tables result }
     ensures used { Used work.old work.new }
 {
     let zero = measure(segments, columns, 0, tables, work);

@@ -4,7 +4,7 @@ use mathlib.Core.List.{List, [] as none, ◌∷◌ as ◌then◌, ◌++◌, fold
 use Prim.Native.Char.{code}
 use Prim.Native.String.{String, [], ◌∷◌}
 use Rattle.words.specs.Bits.{bit}
-use Rattle.words.specs.Below.{listBelow, joinBelow}
+use Rattle.words.specs.Below.{list_below, join_below}
 
 -- Text
 
@@ -13,7 +13,7 @@ abbrev pub ascii : String → List ℕ
 ascii [] = none
 ascii (c ∷ s) = code c then ascii s
 
--- two texts are the same, byte by byte (`same-eq`, `same_of`, proofs/SameLaws.antt)
+-- two texts are the same, byte by byte (`same_eq`, `same_of`, proofs/SameLaws.antt)
 unfoldable pub same : List ℕ → List ℕ → Bool
 same none none = true
 same none (b then y) = false
@@ -30,7 +30,7 @@ digits zero n = none
 digits (suc f) n = cond (ltb n 10) (digit n then none) (digits f (n / 10) ++ digit (n % 10) then none)
 
 -- a number of 32 bits has at most ten digits
--- (`decimal-value`, `decimal-digits`, `decimal-leads`, proofs/DecimalLaws.antt: it is the number again, its bytes are digits, and the first is no zero
+-- (`decimal_value`, `decimal_digits`, `decimal_leads`, proofs/DecimalLaws.antt: it is the number again, its bytes are digits, and the first is no zero
 -- unless it is the only one)
 unfoldable pub decimal : ℕ → List ℕ
 decimal n = digits 10 n
@@ -38,16 +38,16 @@ decimal n = digits 10 n
 -- Rows
 
 -- the columns c_n to c_1 of a word
-unfoldable pub columnText : ℕ → ℕ → List ℕ
-columnText n w = listBelow n (λ i. digit (bit w (n - 1 - i)))
+unfoldable pub column_text : ℕ → ℕ → List ℕ
+column_text n w = list_below n (λ i. digit (bit w (n - 1 - i)))
 
 -- c_n to c_1, or `-` if n is 0
-abbrev pub vectorText : ℕ → ℕ → List ℕ
-vectorText n w = cond (eqb n 0) (ascii "-") (columnText n w)
+abbrev pub vector_text : ℕ → ℕ → List ℕ
+vector_text n w = cond (eqb n 0) (ascii "-") (column_text n w)
 
 -- numbers in decimal, each after a space
 unfoldable pub spaced : List ℕ → List ℕ
-spaced numbers = joinBelow (length numbers) (λ i. ascii " " ++ decimal (get_or numbers i 0))
+spaced numbers = join_below (length numbers) (λ i. ascii " " ++ decimal (get_or numbers i 0))
 
 -- Digits read
 
@@ -66,5 +66,5 @@ unfoldable pub put_in : List ℕ → ℕ → List ℕ → List ℕ
 put_in bytes at text = cond (leb (at + length text) (length bytes)) (placed bytes at text) bytes
 
 -- the index after the text, or the index itself where the text does not fit
-unfoldable pub putEnd : List ℕ → ℕ → List ℕ → ℕ
-putEnd bytes at text = cond (leb (at + length text) (length bytes)) (at + length text) at
+unfoldable pub put_end : List ℕ → ℕ → List ℕ → ℕ
+put_end bytes at text = cond (leb (at + length text) (length bytes)) (at + length text) at

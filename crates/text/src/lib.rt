@@ -1,6 +1,6 @@
 // Text in lent bytes: words and numbers, one after the other. Every function here is proved and ends, and no public one has a `requires`.
 ghost use Rattle.std.specs.Prelude.{◌≡◌, ◌++◌, ◌+◌, ◌≤◌, ◌<◌, leb, length};
-ghost use Rattle.text.specs.Text.{ascii, decimal, spaced, placed, put_in, putEnd};
+ghost use Rattle.text.specs.Text.{ascii, decimal, spaced, placed, put_in, put_end};
 ghost use Rattle.text.specs.Wrote.{Wrote};
 
 // Copies words over the bytes from an index on.
@@ -17,7 +17,7 @@ fn copy_words(out: &mut [u8], at: usize, words: &[u8])
 
 // Puts the words from an index on, and answers the index after them. Words that do not fit are left out, and the index stays.
 pub fn put(out: &mut [u8], at: usize, words: &[u8]) -> usize
-    ensures value { result ≡ putEnd out.old at words.now }
+    ensures value { result ≡ put_end out.old at words.now }
     ensures out_after { out.new ≡ put_in out.old at words.now }
 {
     if out.len() < words.len() {
@@ -56,7 +56,7 @@ fn put_digits(out: &mut [u8], at: usize, number: u32) -> usize
 
 // Puts a number in decimal, without leading zeros.
 pub fn put_number(out: &mut [u8], at: usize, number: u32) -> usize
-    ensures value { result ≡ putEnd out.old at (decimal number) }
+    ensures value { result ≡ put_end out.old at (decimal number) }
     ensures out_after { out.new ≡ put_in out.old at (decimal number) }
 {
     let count = digits_of(number);
@@ -111,7 +111,7 @@ fn write_bytes(out: &mut [u8], at: usize, numbers: &[u8]) -> usize
 
 // Puts numbers in decimal, each after a space.
 pub fn put_bytes(out: &mut [u8], at: usize, numbers: &[u8]) -> usize
-    ensures value { result ≡ putEnd out.old at (spaced numbers.now) }
+    ensures value { result ≡ put_end out.old at (spaced numbers.now) }
     ensures out_after { out.new ≡ put_in out.old at (spaced numbers.now) }
 {
     if out.len() < at {
@@ -156,7 +156,7 @@ fn write_words(out: &mut [u8], at: usize, numbers: &[u32]) -> usize
 
 // Puts numbers of 32 bits in decimal, each after a space.
 pub fn put_words(out: &mut [u8], at: usize, numbers: &[u32]) -> usize
-    ensures value { result ≡ putEnd out.old at (spaced numbers.now) }
+    ensures value { result ≡ put_end out.old at (spaced numbers.now) }
     ensures out_after { out.new ≡ put_in out.old at (spaced numbers.now) }
 {
     if out.len() < at {

@@ -6,29 +6,29 @@ use native.Mathlib.Omega.{arith}
 use Rattle.unit.specs.declared.Outcome.{Outcome}
 use Rattle.unit.specs.declared.Answer.{Answer}
 use Rattle.unit.specs.declared.Answer.TheVariants.{Done, Refused}
-use Rattle.planner.specs.Plans.{searchAnswer}
+use Rattle.planner.specs.Plans.{search_answer}
 use Rattle.table_numbers.proofs.FillLaws.{sized}
-use Rattle.table_numbers.proofs.TableLaws.{table-made}
+use Rattle.table_numbers.proofs.TableLaws.{table_made}
 use Rattle.table_totals.specs.declared.Totalled.{Totalled}
 use Rattle.table_totals.specs.declared.Totalled.TheVariants as Totalled
-use Rattle.table_totals.specs.Totals.{totalsAnswer}
+use Rattle.table_totals.specs.Totals.{totals_answer}
 use Rattle.table_totals.proofs.MeasureLaws.{search-answer}
 use Rattle.total_claims.specs.Claims.{OneAnswer, AsSearch, Coprime}
-use Rattle.total_claims.proofs.UniqueLaws.{one-totals}
+use Rattle.total_claims.proofs.UniqueLaws.{one_totals}
 
 -- free are the working words and not the answer
 pub one_answer : OneAnswer
-one_answer s c room room' x y same p q = go (totalsAnswer s c room) refl
+one_answer s c room room' x y same p q = go (totals_answer s c room) refl
   where
-    go : (r : Answer) → totalsAnswer s c room ≡ r → x ≡ y
+    go : (r : Answer) → totals_answer s c room ≡ r → x ≡ y
     go Done e =
         let d = p.found e in
         let f = q.found (sym same ∙ e) in
-        d.told ∙ ap (λ t. Totalled.Value t) (one-totals _ d.totals f.totals d.of_size f.of_size) ∙ sym f.told
+        d.told ∙ ap (λ t. Totalled.Value t) (one_totals _ d.totals f.totals d.of_size f.of_size) ∙ sym f.told
     go (Refused why) e = p.refused why e ∙ sym (q.refused why (sym same ∙ e))
 
-pub as-search : AsSearch
-as-search s c n room e l = ap (λ (o : Outcome). searchAnswer o.unit 1 room) (table-made s c n e l) ∙ search-answer (sized s c e) n e room
+pub as_search : AsSearch
+as_search s c n room e l = ap (λ (o : Outcome). search_answer o.unit 1 room) (table_made s c n e l) ∙ search-answer (sized s c e) n e room
 
 -- in lowest terms there is no common divisor but 1
 pub coprime : Coprime

@@ -12,26 +12,26 @@ use Rattle.words.proofs.Tests.{same_test}
 use Rattle.words.proofs.BelowLaws.{count_same}
 use Rattle.unit.specs.Table.{Table}
 use Rattle.collision.specs.Pipeline.{total}
-use Rattle.collision.specs.Vector.{boundOf}
-use Rattle.planner.proofs.BestLaws.{same-average}
-use Rattle.table_numbers.specs.Tables.{nthTable}
+use Rattle.collision.specs.Vector.{bound_of}
+use Rattle.planner.proofs.BestLaws.{same_average}
+use Rattle.table_numbers.specs.Tables.{nth_table}
 use Rattle.table_totals.specs.declared.SizeTotals.{SizeTotals}
-use Rattle.table_totals.specs.Totals.{BestCycles, atBound, TotalsBy}
+use Rattle.table_totals.specs.Totals.{BestCycles, at_bound, TotalsBy}
 use Rattle.total_claims.specs.Claims.{OneTotals, ByAny}
-use Rattle.table_totals.proofs.FractionLaws.{at_most, below, same, lowest-unique}
+use Rattle.table_totals.proofs.FractionLaws.{at_most, below, same, lowest_unique}
 
 -- Other best cycles
 
-bound-kept : (T : Table) (a b : List ℕ) → 1 ≤ length a → total b * length a ≡ total a * length b → atBound T a ≡ true → atBound T b ≡ true
-bound-kept T a b pos e h =
-    let bound : ℕ = boundOf T 1 in
+bound_kept : (T : Table) (a b : List ℕ) → 1 ≤ length a → total b * length a ≡ total a * length b → at_bound T a ≡ true → at_bound T b ≡ true
+bound_kept T a b pos e h =
+    let bound : ℕ = bound_of T 1 in
     let at : total a * 1 ≡ bound * length a = omega (arith, eqb-true (total a) (bound * length a) h) in
     let there : total b * 1 ≡ bound * length b = same (total b) (length b) (total a) (length a) bound 1 pos e at in
     eq-eqb (total b) (bound * length b) (omega arith)
 
 module _ (L : List Table) (a b : ℕ → List ℕ) (fa : BestCycles L a) (fb : BestCycles L b) where
   equal : (n : ℕ) → n < length L → total (b n) * length (a n) ≡ total (a n) * length (b n)
-  equal n l = same-average 1 (nthTable L n) 1 (b n) (a n) (fb n l) (fa n l)
+  equal n l = same_average 1 (nth_table L n) 1 (b n) (a n) (fb n l) (fa n l)
 
   some-a : (n : ℕ) → n < length L → 1 ≤ length (a n)
   some-a n l = (fa n l).latencies.nonempty
@@ -43,10 +43,10 @@ module _ (L : List Table) (a b : ℕ → List ℕ) (fa : BestCycles L a) (fb : B
   pub totals-moved : (t : SizeTotals) → TotalsBy L a t → TotalsBy L b t
   totals-moved t o = record {
     tables = o.tables;
-    reaching = o.reaching ∙ count_same (length L) (λ n. atBound (nthTable L n) (a n)) (λ n. atBound (nthTable L n) (b n))
-        (λ n l. same_test (atBound (nthTable L n) (a n)) (atBound (nthTable L n) (b n))
-        (bound-kept (nthTable L n) (a n) (b n) (some-a n l) (equal n l))
-        (bound-kept (nthTable L n) (b n) (a n) (some-b n l) (sym (equal n l))));
+    reaching = o.reaching ∙ count_same (length L) (λ n. at_bound (nth_table L n) (a n)) (λ n. at_bound (nth_table L n) (b n))
+        (λ n l. same_test (at_bound (nth_table L n) (a n)) (at_bound (nth_table L n) (b n))
+        (bound_kept (nth_table L n) (a n) (b n) (some-a n l) (equal n l))
+        (bound_kept (nth_table L n) (b n) (a n) (some-b n l) (sym (equal n l))));
     largest = λ n l. at_most (total (b n)) (length (b n)) (total (a n)) (length (a n)) t.numerator t.denominator (some-a n l) (le_of_eq (equal n l)) (o.largest n l);
     lowest = o.lowest;
     first = o.first;
@@ -59,9 +59,9 @@ module _ (L : List Table) (a b : ℕ → List ℕ) (fa : BestCycles L a) (fb : B
 
 -- One choice
 
-same-totals : (t u : SizeTotals) → t.tables ≡ u.tables → t.reaching ≡ u.reaching → t.numerator ≡ u.numerator → t.denominator ≡ u.denominator
+same_totals : (t u : SizeTotals) → t.tables ≡ u.tables → t.reaching ≡ u.reaching → t.numerator ≡ u.numerator → t.denominator ≡ u.denominator
     → t.first ≡ u.first → t ≡ u
-same-totals t u e1 e2 e3 e4 e5 = λ i. record { tables = e1 i; reaching = e2 i; numerator = e3 i; denominator = e4 i; first = e5 i }
+same_totals t u e1 e2 e3 e4 e5 = λ i. record { tables = e1 i; reaching = e2 i; numerator = e3 i; denominator = e4 i; first = e5 i }
 
 module _ (L : List Table) (a : ℕ → List ℕ) (f : BestCycles L a) where
   -- the largest average of one is no more than that of the other
@@ -81,8 +81,8 @@ module _ (L : List Table) (a : ℕ → List ℕ) (f : BestCycles L a) where
   over-unique : (t u : SizeTotals) → TotalsBy L a t → TotalsBy L a u → t ≡ u
   over-unique t u ot ou =
       let e : u.numerator * t.denominator ≡ t.numerator * u.denominator = le_antisymm (no_more t u ot ou) (no_more u t ou ot) in
-      let w = lowest-unique t.numerator t.denominator u.numerator u.denominator ot.lowest ou.lowest e in
-      same-totals t u (ot.tables ∙ sym ou.tables) (ot.reaching ∙ sym ou.reaching) (sym w.0) (sym w.1)
+      let w = lowest_unique t.numerator t.denominator u.numerator u.denominator ot.lowest ou.lowest e in
+      same_totals t u (ot.tables ∙ sym ou.tables) (ot.reaching ∙ sym ou.reaching) (sym w.0) (sym w.1)
       (go w.0 w.1 (dec_lt t.first u.first) (dec_lt u.first t.first))
     where
       go : u.numerator ≡ t.numerator → u.denominator ≡ t.denominator → Dec (t.first < u.first) → Dec (u.first < t.first) → t.first ≡ u.first
@@ -92,8 +92,8 @@ module _ (L : List Table) (a : ℕ → List ℕ) (f : BestCycles L a) where
 
 -- What is claimed
 
-pub by-any : ByAny
-by-any L t x best f = totals-moved L x.best best x.bests f t x.by
+pub by_any : ByAny
+by_any L t x best f = totals-moved L x.best best x.bests f t x.by
 
-pub one-totals : OneTotals
-one-totals L t u x y = over-unique L y.best y.bests t u (by-any L t x y.best y.bests) y.by
+pub one_totals : OneTotals
+one_totals L t u x y = over-unique L y.best y.bests t u (by_any L t x y.best y.bests) y.by

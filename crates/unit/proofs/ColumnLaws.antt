@@ -9,8 +9,8 @@ use lib.ListN.{length, get_or, set, take, drop, replicate, length-take, length-d
 use lib.Seq.{get_or-set_same, get_or-set_other, ext_get_or, get_or-take, get_or-drop}
 use Rattle.words.specs.Bits.{is_set}
 use Rattle.unit.specs.declared.FunctionUnit.{FunctionUnit}
-use Rattle.unit.specs.Unit.{inside, somewhere, place, word_at, marked, columnsOf}
-use Rattle.unit.proofs.Laws.{inside_of, somewhere-of}
+use Rattle.unit.specs.Unit.{inside, somewhere, place, word_at, marked, columns_of}
+use Rattle.unit.proofs.Laws.{inside_of, somewhere_of}
 use Rattle.unit.proofs.SoundLaws.{Words}
 
 -- the first i words of `columns` are those of `marks` from `first` on
@@ -35,20 +35,20 @@ copied_all columns marks first n h f =
     (λ k l. f k (omega (arith, n)) ∙ sym (get_or-drop first marks k 0) ∙ sym (get_or-take 32 (drop first marks) k 0 (omega (arith, n))))
 
 -- word c - 1 of a function's columns is the unit's word of column c
-pub columns-word : (u : FunctionUnit) (q c : ℕ) → 1 ≤ q → q ≤ 4 → 1 ≤ c → c ≤ 32 → get_or (columnsOf u q) (c - 1) 0 ≡ word_at u q c
-unfolding columnsOf
-columns-word u q c q1 q4 c1 c32 = ap (λ l. get_or l (c - 1) 0) chosen ∙ here
+pub columns_word_lem : (u : FunctionUnit) (q c : ℕ) → 1 ≤ q → q ≤ 4 → 1 ≤ c → c ≤ 32 → get_or (columns_of u q) (c - 1) 0 ≡ word_at u q c
+unfolding columns_of
+columns_word_lem u q c q1 q4 c1 c32 = ap (λ l. get_or l (c - 1) 0) chosen ∙ here
   where
     here : get_or (take 32 (drop ((q - 1) * 32) u.marks)) (c - 1) 0 ≡ word_at u q c
     here = get_or-take 32 (drop ((q - 1) * 32) u.marks) (c - 1) 0 (omega arith) ∙ get_or-drop ((q - 1) * 32) u.marks (c - 1) 0
 
-    chosen : columnsOf u q ≡ take 32 (drop ((q - 1) * 32) u.marks)
+    chosen : columns_of u q ≡ take 32 (drop ((q - 1) * 32) u.marks)
     chosen = ap (λ b. cond b (take 32 (drop ((q - 1) * 32) u.marks)) (replicate 32 0)) (inside_of q 4 q1 q4)
 
 -- column c of a function has the unit's marks
-pub columns-marked : (u : FunctionUnit) (q s c : ℕ) → 1 ≤ q → q ≤ 4 → 1 ≤ s → s ≤ 16 → 1 ≤ c → c ≤ 32
-    → marked u q s c ≡ is_set (get_or (columnsOf u q) (c - 1) 0) (s - 1)
+pub columns_marked : (u : FunctionUnit) (q s c : ℕ) → 1 ≤ q → q ≤ 4 → 1 ≤ s → s ≤ 16 → 1 ≤ c → c ≤ 32
+    → marked u q s c ≡ is_set (get_or (columns_of u q) (c - 1) 0) (s - 1)
 unfolding marked
-columns-marked u q s c q1 q4 s1 s16 c1 c32 =
-    ap (λ b. b && is_set (word_at u q c) (s - 1)) (somewhere-of q s c q1 q4 s1 s16 c1 c32)
-    ∙ ap (λ w. is_set w (s - 1)) (sym (columns-word u q c q1 q4 c1 c32))
+columns_marked u q s c q1 q4 s1 s16 c1 c32 =
+    ap (λ b. b && is_set (word_at u q c) (s - 1)) (somewhere_of q s c q1 q4 s1 s16 c1 c32)
+    ∙ ap (λ w. is_set w (s - 1)) (sym (columns_word_lem u q c q1 q4 c1 c32))

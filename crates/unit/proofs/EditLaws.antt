@@ -10,24 +10,24 @@ use lib.Dec.{eqb}
 use lib.ListN.{length, get_or, set, take, drop, replicate, length-set, get_or-replicate, length-replicate}
 use lib.Seq.{get_or-set_same, get_or-set_other, ext_get_or, get_or-take, get_or-drop}
 use borrow.Author.Tests.{eq-eqb, eqb-true}
-use Rattle.words.specs.Bits.{is_set, setBit, clearBit}
-use Rattle.words.proofs.Tests.{nowhere, and_left, and_right, and-true, and-cong, by-test}
-use Rattle.words.proofs.BitLaws.{Changed, set-changed, clear-changed, set-lt, clear-lt, same_bits, bit-of-zero, zero-unset}
+use Rattle.words.specs.Bits.{is_set, set_bit, clear_bit}
+use Rattle.words.proofs.Tests.{nowhere, and_left, and_right, and_true, and_cong, by_test}
+use Rattle.words.proofs.BitLaws.{Changed, set_changed, clear_changed, set_lt, clear_lt, same_bits, bit_of_zero, zero_unset}
 use Rattle.unit.specs.declared.FunctionUnit.{FunctionUnit}
 use Rattle.unit.specs.declared.Refusal.{Refusal}
 use Rattle.unit.specs.declared.Answer.{Answer}
 use Rattle.unit.specs.declared.Answer.TheVariants.{Done, Refused}
 use Rattle.unit.specs.Table.{Table, empty, changed}
-use Rattle.unit.specs.Unit.{inside, somewhere, place, word_at, marked, columnsOf, soundPlan, soundOf, goodCounts}
-use Rattle.unit.specs.Calls.{check, spotAnswer, noPlan, blank, withWord, outcome, fresh_of, mark_of, unmarkOf}
-use Rattle.unit.proofs.Laws.{somewhere-of, Place, placed, Within, within, inside_of, Sound, sound-has, sound-of, Ranges, accepted, edit-ranges, check-ok}
-use Rattle.unit.proofs.SoundLaws.{Words, Inside, inside-means, inside-test, word-mark, marked-place}
+use Rattle.unit.specs.Unit.{inside, somewhere, place, word_at, marked, columns_of, sound_plan, sound_of, good_counts}
+use Rattle.unit.specs.Calls.{check, spot_answer, no_plan, blank, with_word, outcome, fresh_of, mark_of, unmark_of}
+use Rattle.unit.proofs.Laws.{somewhere_of, Place, placed, Within, within, inside_of, Sound, sound_has, sound_of_lem, Ranges, accepted, edit_ranges, check_ok}
+use Rattle.unit.proofs.SoundLaws.{Words, Inside, inside_means, inside_test, word_mark, marked_place}
 
 -- The table
 
-word-other : (m : List ℕ) (i w k j x : ℕ) {b : Bool} → i < length m → Changed (get_or m i 0) w k b → (x ≡ i → j ≡ k → ⊥)
+word_other : (m : List ℕ) (i w k j x : ℕ) {b : Bool} → i < length m → Changed (get_or m i 0) w k b → (x ≡ i → j ≡ k → ⊥)
     → is_set (get_or (set m i w) x 0) j ≡ is_set (get_or m x 0) j
-word-other m i w k j x h d ne = go (ℕ_discrete x i)
+word_other m i w k j x h d ne = go (ℕ_discrete x i)
   where
     go : Dec (x ≡ i) → is_set (get_or (set m i w) x 0) j ≡ is_set (get_or m x 0) j
     go (yes e) =
@@ -44,7 +44,7 @@ module _ (u : FunctionUnit) (q s c w : ℕ) (b : Bool) (r : Ranges u q s c) (n :
   below : place q c < length u.marks
   below = omega arith
 
-  edit-at : (x y z : ℕ) → marked (withWord u q c w) x y z ≡ changed (marked u) q s c b x y z
+  edit-at : (x y z : ℕ) → marked (with_word u q c w) x y z ≡ changed (marked u) q s c b x y z
   unfolding marked
   edit-at x y z = go (eqb x q && (eqb y s && eqb z c)) refl
     where
@@ -57,21 +57,21 @@ module _ (u : FunctionUnit) (q s c w : ℕ) (b : Bool) (r : Ranges u q s c) (n :
           let p3 = eqb-true z c (and_right (eqb y s) _ g) in
           rw (p, p2, p3)
           (ap (λ k. k && is_set (get_or (set u.marks (place q c) w) (place q c) 0) (s - 1))
-          (somewhere-of q s c r.tag1 r.tag4 r.segment1 r.segment16 r.column1 r.column32)
+          (somewhere_of q s c r.tag1 r.tag4 r.segment1 r.segment16 r.column1 r.column32)
           ∙ ap (λ k. is_set k (s - 1)) (get_or-set_same u.marks (place q c) w 0 below) ∙ d.at)
       go false e =
-          and-cong (somewhere x y z) _ _
-          (λ h. word-other u.marks (place q c) w (s - 1) (y - 1) (place x z) below d
+          and_cong (somewhere x y z) _ _
+          (λ h. word_other u.marks (place q c) w (s - 1) (y - 1) (place x z) below d
           (apart q s c x y z r.tag1 r.segment1 r.column1 r.column32 h
           (λ p p2 p3. nowhere (sym e ∙ simp (eq-eqb x q p, eq-eqb y s p2, eq-eqb z c p3)))))
 
-  edit-table : marked (withWord u q c w) ≡ changed (marked u) q s c b
+  edit-table : marked (with_word u q c w) ≡ changed (marked u) q s c b
   edit-table = λ i x y z. edit-at x y z i
 
   -- a mark of the edited unit is an old one, or lies at the accepted place
-  edit-inside : Inside u → Inside (withWord u q c w)
+  edit-inside : Inside u → Inside (with_word u q c w)
   edit-inside h x y z e =
-      by-test (eqb x q && (eqb y s && eqb z c))
+      by_test (eqb x q && (eqb y s && eqb z c))
       (λ t.
       let p = eqb-true x q (and_left (eqb x q) _ t) in
       let g = and_right (eqb x q) _ t in
@@ -80,19 +80,19 @@ module _ (u : FunctionUnit) (q s c w : ℕ) (b : Bool) (r : Ranges u q s c) (n :
       (omega (arith, r.functions), omega (arith, r.segments), omega (arith, r.columns)))
       (λ t. h x y z (sym (ap (λ k. cond k b (marked u x y z)) t) ∙ sym (edit-at x y z) ∙ e))
 
-  edit-sound : soundOf u ≡ true → soundOf (withWord u q c w) ≡ true
-  unfolding noPlan
+  edit-sound : sound_of u ≡ true → sound_of (with_word u q c w) ≡ true
+  unfolding no_plan
   edit-sound h =
-      let k = sound-has u h in
-      sound-of (withWord u q c w) (record {
+      let k = sound_has u h in
+      sound_of_lem (with_word u q c w) (record {
         functions = k.functions;
         segments = k.segments;
         columns = k.columns;
         plan = refl;
-        marks = inside-test (withWord u q c w) (edit-inside (inside-means u k.marks));
+        marks = inside_test (with_word u q c w) (edit-inside (inside_means u k.marks));
       })
 
-  edit-words : Words u → w < 2 ^ 16 → Words (withWord u q c w)
+  edit-words : Words u → w < 2 ^ 16 → Words (with_word u q c w)
   edit-words m l = record { count = length-set u.marks (place q c) w ∙ n; small = λ k. small k (ℕ_discrete k (place q c)) }
     where
       small : (k : ℕ) → Dec (k ≡ place q c) → get_or (set u.marks (place q c) w) k 0 < 2 ^ 16
@@ -107,14 +107,14 @@ pub record Edited (u after : FunctionUnit) (q s c : ℕ) (b : Bool) : Type 0 whe
   pub functions : after.functions ≡ u.functions
   pub segments : after.segments ≡ u.segments
   pub columns : after.columns ≡ u.columns
-  pub plan : after.plan ≡ noPlan
-  pub sound : soundOf after ≡ true
+  pub plan : after.plan ≡ no_plan
+  pub sound : sound_of after ≡ true
   pub words : Words after
 
-edited : (u : FunctionUnit) (q s c w : ℕ) (b : Bool) → Words u → spotAnswer u q s c ≡ Done
-    → Changed (word_at u q c) w (s - 1) b → w < 2 ^ 16 → Edited u (withWord u q c w) q s c b
+edited : (u : FunctionUnit) (q s c w : ℕ) (b : Bool) → Words u → spot_answer u q s c ≡ Done
+    → Changed (word_at u q c) w (s - 1) b → w < 2 ^ 16 → Edited u (with_word u q c w) q s c b
 edited u q s c w b n e d l =
-    let r = edit-ranges u q s c e in
+    let r = edit_ranges u q s c e in
     record {
       table = edit-table u q s c w b r n.count d;
       functions = refl;
@@ -125,87 +125,87 @@ edited u q s c w b n e d l =
       words = edit-words u q s c w b r n.count d n l;
     }
 
-pub mark-accepted : (u : FunctionUnit) (q s c : ℕ) → Words u → spotAnswer u q s c ≡ Done → Edited u (mark_of u q s c).unit q s c true
+pub mark_accepted : (u : FunctionUnit) (q s c : ℕ) → Words u → spot_answer u q s c ≡ Done → Edited u (mark_of u q s c).unit q s c true
 unfolding mark_of
-mark-accepted u q s c n e =
-    let r = edit-ranges u q s c e in
-    let w = setBit (word_at u q c) (s - 1) in
-    subst (λ (a : Answer). Edited u (outcome a u (withWord u q c w)).unit q s c true) (sym e)
-    (edited u q s c w true n e (set-changed (word_at u q c) (s - 1) (omega arith))
-    (set-lt 16 (word_at u q c) (s - 1) (omega arith) (n.small (place q c))))
+mark_accepted u q s c n e =
+    let r = edit_ranges u q s c e in
+    let w = set_bit (word_at u q c) (s - 1) in
+    subst (λ (a : Answer). Edited u (outcome a u (with_word u q c w)).unit q s c true) (sym e)
+    (edited u q s c w true n e (set_changed (word_at u q c) (s - 1) (omega arith))
+    (set_lt 16 (word_at u q c) (s - 1) (omega arith) (n.small (place q c))))
 
-pub unmark-accepted : (u : FunctionUnit) (q s c : ℕ) → Words u → spotAnswer u q s c ≡ Done → Edited u (unmarkOf u q s c).unit q s c false
-unfolding unmarkOf
-unmark-accepted u q s c n e =
-    let r = edit-ranges u q s c e in
-    let w = clearBit (word_at u q c) (s - 1) in
-    subst (λ (a : Answer). Edited u (outcome a u (withWord u q c w)).unit q s c false) (sym e)
-    (edited u q s c w false n e (clear-changed (word_at u q c) (s - 1) (omega arith))
-    (clear-lt 16 (word_at u q c) (s - 1) (n.small (place q c))))
+pub unmark_accepted : (u : FunctionUnit) (q s c : ℕ) → Words u → spot_answer u q s c ≡ Done → Edited u (unmark_of u q s c).unit q s c false
+unfolding unmark_of
+unmark_accepted u q s c n e =
+    let r = edit_ranges u q s c e in
+    let w = clear_bit (word_at u q c) (s - 1) in
+    subst (λ (a : Answer). Edited u (outcome a u (with_word u q c w)).unit q s c false) (sym e)
+    (edited u q s c w false n e (clear_changed (word_at u q c) (s - 1) (omega arith))
+    (clear_lt 16 (word_at u q c) (s - 1) (n.small (place q c))))
 
 -- Refused edits leave the unit
 
-pub mark-refused : (u : FunctionUnit) (q s c : ℕ) (why : Refusal) → spotAnswer u q s c ≡ Refused why → (mark_of u q s c).unit ≡ u
+pub mark_refused : (u : FunctionUnit) (q s c : ℕ) (why : Refusal) → spot_answer u q s c ≡ Refused why → (mark_of u q s c).unit ≡ u
 unfolding mark_of
-mark-refused u q s c why e = ap (λ a. (outcome a u (withWord u q c (setBit (word_at u q c) (s - 1)))).unit) e
+mark_refused u q s c why e = ap (λ a. (outcome a u (with_word u q c (set_bit (word_at u q c) (s - 1)))).unit) e
 
-pub unmark-refused : (u : FunctionUnit) (q s c : ℕ) (why : Refusal) → spotAnswer u q s c ≡ Refused why → (unmarkOf u q s c).unit ≡ u
-unfolding unmarkOf
-unmark-refused u q s c why e = ap (λ a. (outcome a u (withWord u q c (clearBit (word_at u q c) (s - 1)))).unit) e
+pub unmark_refused : (u : FunctionUnit) (q s c : ℕ) (why : Refusal) → spot_answer u q s c ≡ Refused why → (unmark_of u q s c).unit ≡ u
+unfolding unmark_of
+unmark_refused u q s c why e = ap (λ a. (outcome a u (with_word u q c (clear_bit (word_at u q c) (s - 1)))).unit) e
 
 -- The answers of the edits
 
-pub outcome-answer : (a : Answer) (old new : FunctionUnit) → (outcome a old new).answer ≡ a
-outcome-answer Done old new = refl
-outcome-answer (Refused why) old new = refl
+pub outcome_answer : (a : Answer) (old new : FunctionUnit) → (outcome a old new).answer ≡ a
+outcome_answer Done old new = refl
+outcome_answer (Refused why) old new = refl
 
-pub mark-answer : (u : FunctionUnit) (q s c : ℕ) → (mark_of u q s c).answer ≡ spotAnswer u q s c
+pub mark_answer : (u : FunctionUnit) (q s c : ℕ) → (mark_of u q s c).answer ≡ spot_answer u q s c
 unfolding mark_of
-mark-answer u q s c = outcome-answer (spotAnswer u q s c) u (withWord u q c (setBit (word_at u q c) (s - 1)))
+mark_answer u q s c = outcome_answer (spot_answer u q s c) u (with_word u q c (set_bit (word_at u q c) (s - 1)))
 
-pub unmark-answer : (u : FunctionUnit) (q s c : ℕ) → (unmarkOf u q s c).answer ≡ spotAnswer u q s c
-unfolding unmarkOf
-unmark-answer u q s c = outcome-answer (spotAnswer u q s c) u (withWord u q c (clearBit (word_at u q c) (s - 1)))
+pub unmark_answer : (u : FunctionUnit) (q s c : ℕ) → (unmark_of u q s c).answer ≡ spot_answer u q s c
+unfolding unmark_of
+unmark_answer u q s c = outcome_answer (spot_answer u q s c) u (with_word u q c (clear_bit (word_at u q c) (s - 1)))
 
 -- A fresh unit
 
-zeros-at : (n k : ℕ) → get_or (replicate n zero) k 0 ≡ 0
-zeros-at zero k = refl
-zeros-at (suc n) zero = refl
-zeros-at (suc n) (suc k) = zeros-at n k
+zeros_at : (n k : ℕ) → get_or (replicate n zero) k 0 ≡ 0
+zeros_at zero k = refl
+zeros_at (suc n) zero = refl
+zeros_at (suc n) (suc k) = zeros_at n k
 
-pub blank-words : (f s c : ℕ) → Words (blank f s c)
-blank-words f s c = record { count = length-replicate {A = ℕ} 128 0; small = λ k. rw (zeros-at 128 k) (omega arith) }
+pub blank_words : (f s c : ℕ) → Words (blank f s c)
+blank_words f s c = record { count = length-replicate {A = ℕ} 128 0; small = λ k. rw (zeros_at 128 k) (omega arith) }
 
-pub blank-table : (f s c : ℕ) → marked (blank f s c) ≡ empty
+pub blank_table : (f s c : ℕ) → marked (blank f s c) ≡ empty
 unfolding marked
-blank-table f s c = λ i x y z. none x y z i
+blank_table f s c = λ i x y z. none x y z i
   where
     none : (x y z : ℕ) → somewhere x y z && is_set (get_or (replicate 128 0) (place x z) 0) (y - 1) ≡ false
-    none x y z = rw (zeros-at 128 (place x z), bit-of-zero (y - 1)) (and-false (somewhere x y z))
+    none x y z = rw (zeros_at 128 (place x z), bit_of_zero (y - 1)) (and_false (somewhere x y z))
       where
-        and-false : (b : Bool) → b && false ≡ false
-        and-false true = refl
-        and-false false = refl
+        and_false : (b : Bool) → b && false ≡ false
+        and_false true = refl
+        and_false false = refl
 
-pub fresh-sound : (f s c : ℕ) → goodCounts f s c ≡ true → soundOf (blank f s c) ≡ true
-unfolding noPlan
-fresh-sound f s c e =
+pub fresh_sound : (f s c : ℕ) → good_counts f s c ≡ true → sound_of (blank f s c) ≡ true
+unfolding no_plan
+fresh_sound f s c e =
     let g2 = and_right (inside f 4) _ e in
-    sound-of (blank f s c) (record {
+    sound_of_lem (blank f s c) (record {
       functions = and_left (inside f 4) _ e;
       segments = and_left (inside s 16) _ g2;
       columns = and_right (inside s 16) _ g2;
       plan = refl;
-      marks = inside-test (blank f s c) (λ x y z m. nowhere (sym (ap (λ t. t x y z) (blank-table f s c)) ∙ m));
+      marks = inside_test (blank f s c) (λ x y z m. nowhere (sym (ap (λ t. t x y z) (blank_table f s c)) ∙ m));
     })
 
 -- Units with the same table
 
-pub same-words : (u v : FunctionUnit) → Words u → Words v → marked u ≡ marked v → u.marks ≡ v.marks
-same-words u v m n e =
+pub same_words : (u v : FunctionUnit) → Words u → Words v → marked u ≡ marked v → u.marks ≡ v.marks
+same_words u v m n e =
     ext_get_or 0 u.marks v.marks (m.count ∙ sym n.count)
     (λ k l. same_bits 16 (get_or u.marks k 0) (get_or v.marks k 0) (m.small k) (n.small k) (λ j lj. at k (omega (arith, m.count)) j lj))
   where
     at : (k : ℕ) → k < 128 → (j : ℕ) → j < 16 → is_set (get_or u.marks k 0) j ≡ is_set (get_or v.marks k 0) j
-    at k l j lj = sym (word-mark u k j l lj) ∙ ap (λ f. f (k / 32 + 1) (j + 1) (k % 32 + 1)) e ∙ word-mark v k j l lj
+    at k l j lj = sym (word_mark u k j l lj) ∙ ap (λ f. f (k / 32 + 1) (j + 1) (k % 32 + 1)) e ∙ word_mark v k j l lj

@@ -5,26 +5,26 @@ use Rattle.unit.specs.declared.Refusal.{Refusal}
 use Rattle.unit.specs.declared.Answer.{Answer}
 use Rattle.unit.specs.declared.Answer.TheVariants.{Done, Refused}
 use Rattle.unit.specs.Numbers.{number_of, number_in}
-use Rattle.unit.specs.Calls.{andThen, handed}
+use Rattle.unit.specs.Calls.{and_then, handed}
 use Rattle.unit.proofs.Laws.{never_done}
 
 -- One answer after another
 
-pub then-first : {why : Refusal} (a b : Answer) → a ≡ Refused why → andThen a b ≡ Refused why
-then-first a b e = ap (λ x. andThen x b) e
+pub then_first : {why : Refusal} (a b : Answer) → a ≡ Refused why → and_then a b ≡ Refused why
+then_first a b e = ap (λ x. and_then x b) e
 
-pub then-second : (a b : Answer) → a ≡ Done → andThen a b ≡ b
-then-second a b e = ap (λ x. andThen x b) e
+pub then_second : (a b : Answer) → a ≡ Done → and_then a b ≡ b
+then_second a b e = ap (λ x. and_then x b) e
 
-pub then-both : (a b : Answer) → andThen a b ≡ Done → (a ≡ Done) × (b ≡ Done)
-then-both Done b e = (refl, e)
-then-both (Refused why) b e = never_done e
+pub then_both : (a b : Answer) → and_then a b ≡ Done → (a ≡ Done) × (b ≡ Done)
+then_both Done b e = (refl, e)
+then_both (Refused why) b e = never_done e
 
 -- where every refusal leaves the same, the one that goes first does not matter
-pub then-kept : {A : Type 0} (left : Answer → A) (a b : Answer) (last : Refusal) → ((v w : Refusal) → left (Refused v) ≡ left (Refused w))
-    → ((why : Refusal) → a ≡ Refused why → b ≡ Refused last) → left b ≡ left (andThen a b)
-then-kept left Done b last same e = refl
-then-kept left (Refused why) b last same e = ap left (e why refl) ∙ same last why
+pub then_kept : {A : Type 0} (left : Answer → A) (a b : Answer) (last : Refusal) → ((v w : Refusal) → left (Refused v) ≡ left (Refused w))
+    → ((why : Refusal) → a ≡ Refused why → b ≡ Refused last) → left b ≡ left (and_then a b)
+then_kept left Done b last same e = refl
+then_kept left (Refused why) b last same e = ap left (e why refl) ∙ same last why
 
 -- What an answer hands out
 
@@ -32,16 +32,16 @@ then-kept left (Refused why) b last same e = ap left (e why refl) ∙ same last 
 abbrev pub Ends : {A : Type 0} → Answer → A → A → ℕ → A → Type 0
 Ends a new old number last = (number ≡ number_in a) × (last ≡ handed a new old)
 
-ends-refused : {A : Type 0} {a : Answer} {why : Refusal} (new old : A) → a ≡ Refused why → Ends a new old (number_of why) old
-ends-refused new old e = (ap number_in (sym e), ap (λ b. handed b new old) (sym e))
+ends_refused : {A : Type 0} {a : Answer} {why : Refusal} (new old : A) → a ≡ Refused why → Ends a new old (number_of why) old
+ends_refused new old e = (ap number_in (sym e), ap (λ b. handed b new old) (sym e))
 
-pub ends-done : {A : Type 0} {a : Answer} (new old : A) → a ≡ Done → Ends a new old 0 new
-ends-done new old e = (ap number_in (sym e), ap (λ b. handed b new old) (sym e))
+pub ends_done : {A : Type 0} {a : Answer} (new old : A) → a ≡ Done → Ends a new old 0 new
+ends_done new old e = (ap number_in (sym e), ap (λ b. handed b new old) (sym e))
 
 -- the number of a refusal that is passed on
-pub ends-number : {A : Type 0} {a : Answer} {why : Refusal} {number : ℕ} (from : Answer) (new old : A) → a ≡ Refused why → from ≡ Refused why
+pub ends_number : {A : Type 0} {a : Answer} {why : Refusal} {number : ℕ} (from : Answer) (new old : A) → a ≡ Refused why → from ≡ Refused why
     → number ≡ number_in from → Ends a new old number old
-ends-number from new old e f c = let r = ends-refused new old e in (c ∙ ap number_in f ∙ r.0, r.1)
+ends_number from new old e f c = let r = ends_refused new old e in (c ∙ ap number_in f ∙ r.0, r.1)
 
 -- the same answer, with the same to hand out
 pub ends_same : {A : Type 0} {a b : Answer} {number : ℕ} {last : A} (new left old : A) → a ≡ b → (b ≡ Done → new ≡ left) → Ends b new old number last

@@ -11,8 +11,8 @@ use Rattle.unit.specs.declared.Refusal.{Refusal}
 use Rattle.unit.specs.declared.Refusal.TheVariants.{NotSound, NoSuchTag, NoSuchSegment, NoSuchColumn}
 use Rattle.unit.specs.declared.Answer.{Answer}
 use Rattle.unit.specs.declared.Answer.TheVariants.{Done, Refused}
-use Rattle.unit.specs.Unit.{inside, somewhere, goodCounts, soundPlan, marksInside, soundOf}
-use Rattle.unit.specs.Calls.{check, andThen, tagAnswer, spotAnswer, columnAnswer}
+use Rattle.unit.specs.Unit.{inside, somewhere, good_counts, sound_plan, marks_inside, sound_of}
+use Rattle.unit.specs.Calls.{check, and_then, tag_answer, spot_answer, column_answer}
 use Rattle.unit.specs.Inner.{Somewhere}
 
 -- Answers
@@ -20,13 +20,13 @@ use Rattle.unit.specs.Inner.{Somewhere}
 pub never_done : {A : Type 0} {why : Refusal} → Refused why ≡ Done → A
 never_done e = let z : ◌≡◌ {A = ℕ} 0 1 = cc in absurd (omega arith)
 
-pub check-ok : (ok : Bool) (why : Refusal) (next : Answer) → check ok why next ≡ Done → ok ≡ true
-check-ok true why next e = refl
-check-ok false why next e = never_done e
+pub check_ok : (ok : Bool) (why : Refusal) (next : Answer) → check ok why next ≡ Done → ok ≡ true
+check_ok true why next e = refl
+check_ok false why next e = never_done e
 
-pub check-next : (ok : Bool) (why : Refusal) (next : Answer) → check ok why next ≡ Done → next ≡ Done
-check-next true why next e = e
-check-next false why next e = never_done e
+pub check_next : (ok : Bool) (why : Refusal) (next : Answer) → check ok why next ≡ Done → next ≡ Done
+check_next true why next e = e
+check_next false why next e = never_done e
 
 -- Ranges
 
@@ -43,8 +43,8 @@ within x n e = record {
 pub inside_of : (x n : ℕ) → 1 ≤ x → x ≤ n → inside x n ≡ true
 inside_of x n a b = simp (le-leb _ _ a, le-leb _ _ b)
 
-pub somewhere-of : (q s c : ℕ) → 1 ≤ q → q ≤ 4 → 1 ≤ s → s ≤ 16 → 1 ≤ c → c ≤ 32 → somewhere q s c ≡ true
-somewhere-of q s c a b d e f g = simp (inside_of q 4 a b, inside_of s 16 d e, inside_of c 32 f g)
+pub somewhere_of : (q s c : ℕ) → 1 ≤ q → q ≤ 4 → 1 ≤ s → s ≤ 16 → 1 ≤ c → c ≤ 32 → somewhere q s c ≡ true
+somewhere_of q s c a b d e f g = simp (inside_of q 4 a b, inside_of s 16 d e, inside_of c 32 f g)
 
 -- a place that some unit has
 pub record Place (q s c : ℕ) : Type 0 where
@@ -70,65 +70,65 @@ pub record Sound (u : FunctionUnit) : Type 0 where
   pub functions : inside u.functions 4 ≡ true
   pub segments : inside u.segments 16 ≡ true
   pub columns : inside u.columns 32 ≡ true
-  pub plan : soundPlan u.plan.tag u.plan.count ≡ true
-  pub marks : marksInside u ≡ true
+  pub plan : sound_plan u.plan.tag u.plan.count ≡ true
+  pub marks : marks_inside u ≡ true
 
-pub sound-has : (u : FunctionUnit) → soundOf u ≡ true → Sound u
-unfolding soundOf
-sound-has u e =
-    let g = and_left (goodCounts u.functions u.segments u.columns) _ e in
-    let r = and_right (goodCounts u.functions u.segments u.columns) _ e in
+pub sound_has : (u : FunctionUnit) → sound_of u ≡ true → Sound u
+unfolding sound_of
+sound_has u e =
+    let g = and_left (good_counts u.functions u.segments u.columns) _ e in
+    let r = and_right (good_counts u.functions u.segments u.columns) _ e in
     let g2 = and_right (inside u.functions 4) _ g in
     record {
       functions = and_left (inside u.functions 4) _ g;
       segments = and_left (inside u.segments 16) _ g2;
       columns = and_right (inside u.segments 16) _ g2;
-      plan = and_left (soundPlan u.plan.tag u.plan.count) _ r;
-      marks = and_right (soundPlan u.plan.tag u.plan.count) _ r;
+      plan = and_left (sound_plan u.plan.tag u.plan.count) _ r;
+      marks = and_right (sound_plan u.plan.tag u.plan.count) _ r;
     }
 
-pub sound-of : (u : FunctionUnit) → Sound u → soundOf u ≡ true
-unfolding soundOf
-sound-of u s = simp (s.functions, s.segments, s.columns, s.plan, s.marks)
+pub sound_of_lem : (u : FunctionUnit) → Sound u → sound_of u ≡ true
+unfolding sound_of
+sound_of_lem u s = simp (s.functions, s.segments, s.columns, s.plan, s.marks)
 
 -- Accepted calls
 
 pub record TagAccepted (u : FunctionUnit) (q : ℕ) : Type 0 where
-  pub sound : soundOf u ≡ true
+  pub sound : sound_of u ≡ true
   pub tag : inside q u.functions ≡ true
 
-pub tag-accepted : (u : FunctionUnit) (q : ℕ) → tagAnswer u q ≡ Done → TagAccepted u q
-unfolding tagAnswer
-tag-accepted u q e = record {
-  sound = check-ok (soundOf u) NotSound _ e;
-  tag = check-ok (inside q u.functions) NoSuchTag _ (check-next (soundOf u) NotSound _ e);
+pub tag_accepted : (u : FunctionUnit) (q : ℕ) → tag_answer u q ≡ Done → TagAccepted u q
+unfolding tag_answer
+tag_accepted u q e = record {
+  sound = check_ok (sound_of u) NotSound _ e;
+  tag = check_ok (inside q u.functions) NoSuchTag _ (check_next (sound_of u) NotSound _ e);
 }
 
 -- a tag of a unit is one of 1 to 4
-pub tag-range : (u : FunctionUnit) (q : ℕ) → tagAnswer u q ≡ Done → Within q 4
-tag-range u q e =
-    let a = tag-accepted u q e in
-    let f = within u.functions 4 (sound-has u a.sound).functions in
+pub tag_range : (u : FunctionUnit) (q : ℕ) → tag_answer u q ≡ Done → Within q 4
+tag_range u q e =
+    let a = tag_accepted u q e in
+    let f = within u.functions 4 (sound_has u a.sound).functions in
     let i = within q u.functions a.tag in
     omega arith
 
 pub record Accepted (u : FunctionUnit) (q s c : ℕ) : Type 0 where
-  pub sound : soundOf u ≡ true
+  pub sound : sound_of u ≡ true
   pub tag : inside q u.functions ≡ true
   pub segment : inside s u.segments ≡ true
   pub column : inside c u.columns ≡ true
 
-pub accepted : (u : FunctionUnit) (q s c : ℕ) → spotAnswer u q s c ≡ Done → Accepted u q s c
-unfolding spotAnswer
+pub accepted : (u : FunctionUnit) (q s c : ℕ) → spot_answer u q s c ≡ Done → Accepted u q s c
+unfolding spot_answer
 accepted u q s c e =
-    let e1 = check-next (soundOf u) NotSound _ e in
-    let e2 = check-next (inside q u.functions) NoSuchTag _ e1 in
-    let e3 = check-next (inside s u.segments) NoSuchSegment _ e2 in
+    let e1 = check_next (sound_of u) NotSound _ e in
+    let e2 = check_next (inside q u.functions) NoSuchTag _ e1 in
+    let e3 = check_next (inside s u.segments) NoSuchSegment _ e2 in
     record {
-      sound = check-ok (soundOf u) NotSound _ e;
-      tag = check-ok (inside q u.functions) NoSuchTag _ e1;
-      segment = check-ok (inside s u.segments) NoSuchSegment _ e2;
-      column = check-ok (inside c u.columns) NoSuchColumn _ e3;
+      sound = check_ok (sound_of u) NotSound _ e;
+      tag = check_ok (inside q u.functions) NoSuchTag _ e1;
+      segment = check_ok (inside s u.segments) NoSuchSegment _ e2;
+      column = check_ok (inside c u.columns) NoSuchColumn _ e3;
     }
 
 -- the numbers of an accepted edit
@@ -145,7 +145,7 @@ pub record Ranges (u : FunctionUnit) (q s c : ℕ) : Type 0 where
 
 pub ranges : (u : FunctionUnit) (q s c : ℕ) → Accepted u q s c → Ranges u q s c
 ranges u q s c a =
-    let d = sound-has u a.sound in
+    let d = sound_has u a.sound in
     let f = within u.functions 4 d.functions in
     let g = within u.segments 16 d.segments in
     let h = within u.columns 32 d.columns in
@@ -154,13 +154,13 @@ ranges u q s c a =
     let k = within c u.columns a.column in
     omega arith
 
-pub edit-ranges : (u : FunctionUnit) (q s c : ℕ) → spotAnswer u q s c ≡ Done → Ranges u q s c
-edit-ranges u q s c e = ranges u q s c (accepted u q s c e)
+pub edit_ranges : (u : FunctionUnit) (q s c : ℕ) → spot_answer u q s c ≡ Done → Ranges u q s c
+edit_ranges u q s c e = ranges u q s c (accepted u q s c e)
 
 -- an edit tries the unit and the tag first, as every question does
-pub spot-tag : (u : FunctionUnit) (q s c : ℕ) (why : Refusal) → tagAnswer u q ≡ Refused why → spotAnswer u q s c ≡ Refused why
-unfolding tagAnswer spotAnswer
-spot-tag u q s c why e = go (soundOf u) (inside q u.functions) e
+pub spot_tag : (u : FunctionUnit) (q s c : ℕ) (why : Refusal) → tag_answer u q ≡ Refused why → spot_answer u q s c ≡ Refused why
+unfolding tag_answer spot_answer
+spot_tag u q s c why e = go (sound_of u) (inside q u.functions) e
   where
     go : (a b : Bool) → check a NotSound (check b NoSuchTag Done) ≡ Refused why
         → check a NotSound (check b NoSuchTag (check (inside s u.segments) NoSuchSegment (check (inside c u.columns) NoSuchColumn Done))) ≡ Refused why
@@ -168,41 +168,41 @@ spot-tag u q s c why e = go (soundOf u) (inside q u.functions) e
     go true false e = e
     go false b e = e
 
-pub spot-rest : (u : FunctionUnit) (q s c : ℕ) → tagAnswer u q ≡ Done
-    → spotAnswer u q s c ≡ check (inside s u.segments) NoSuchSegment (check (inside c u.columns) NoSuchColumn Done)
-unfolding spotAnswer
-spot-rest u q s c e = let a = tag-accepted u q e in simp (a.sound, a.tag)
+pub spot_rest : (u : FunctionUnit) (q s c : ℕ) → tag_answer u q ≡ Done
+    → spot_answer u q s c ≡ check (inside s u.segments) NoSuchSegment (check (inside c u.columns) NoSuchColumn Done)
+unfolding spot_answer
+spot_rest u q s c e = let a = tag_accepted u q e in simp (a.sound, a.tag)
 
 -- Columns
 
 -- a column's word that a function is given
 pub record ColumnAccepted (u : FunctionUnit) (q c w : ℕ) : Type 0 where
-  pub sound : soundOf u ≡ true
+  pub sound : sound_of u ≡ true
   pub tag : inside q u.functions ≡ true
   pub word : w < 2 ^ u.segments
   pub column : inside c u.columns ≡ true
 
-pub column-accepted : (u : FunctionUnit) (q c w : ℕ) → columnAnswer u q c w ≡ Done → ColumnAccepted u q c w
-unfolding columnAnswer
-column-accepted u q c w e = go (tagAnswer u q) refl e
+pub column_accepted : (u : FunctionUnit) (q c w : ℕ) → column_answer u q c w ≡ Done → ColumnAccepted u q c w
+unfolding column_answer
+column_accepted u q c w e = go (tag_answer u q) refl e
   where
-    go : (a : Answer) → tagAnswer u q ≡ a
-        → andThen a (check (ltb w (2 ^ u.segments)) NoSuchSegment (check (inside c u.columns) NoSuchColumn Done)) ≡ Done → ColumnAccepted u q c w
+    go : (a : Answer) → tag_answer u q ≡ a
+        → and_then a (check (ltb w (2 ^ u.segments)) NoSuchSegment (check (inside c u.columns) NoSuchColumn Done)) ≡ Done → ColumnAccepted u q c w
     go Done t h =
-        let a = tag-accepted u q t in
+        let a = tag_accepted u q t in
         record {
           sound = a.sound;
           tag = a.tag;
-          word = ltb-true w (2 ^ u.segments) (check-ok (ltb w (2 ^ u.segments)) NoSuchSegment _ h);
-          column = check-ok (inside c u.columns) NoSuchColumn _ (check-next (ltb w (2 ^ u.segments)) NoSuchSegment _ h);
+          word = ltb-true w (2 ^ u.segments) (check_ok (ltb w (2 ^ u.segments)) NoSuchSegment _ h);
+          column = check_ok (inside c u.columns) NoSuchColumn _ (check_next (ltb w (2 ^ u.segments)) NoSuchSegment _ h);
         }
     go (Refused why) t h = never_done h
 
 -- the tag and the column are such as some unit has
-pub column-range : (u : FunctionUnit) (q c w : ℕ) → columnAnswer u q c w ≡ Done → Somewhere q c
-column-range u q c w e =
-    let a = column-accepted u q c w e in
-    let d = sound-has u a.sound in
+pub column_range : (u : FunctionUnit) (q c w : ℕ) → column_answer u q c w ≡ Done → Somewhere q c
+column_range u q c w e =
+    let a = column_accepted u q c w e in
+    let d = sound_has u a.sound in
     let f = within u.functions 4 d.functions in
     let h = within u.columns 32 d.columns in
     let i = within q u.functions a.tag in
@@ -210,5 +210,5 @@ column-range u q c w e =
     omega arith
 
 -- a unit that passed has at most 16 segments
-pub tag-segments : (u : FunctionUnit) (q : ℕ) → tagAnswer u q ≡ Done → Within u.segments 16
-tag-segments u q e = within u.segments 16 (sound-has u (tag-accepted u q e).sound).segments
+pub tag_segments : (u : FunctionUnit) (q : ℕ) → tag_answer u q ≡ Done → Within u.segments 16
+tag_segments u q e = within u.segments 16 (sound_has u (tag_accepted u q e).sound).segments

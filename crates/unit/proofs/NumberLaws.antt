@@ -15,15 +15,15 @@ pub numbers : map number_of refusals ≡ 1 ∷ 2 ∷ 3 ∷ 4 ∷ 5 ∷ 6 ∷ 7 �
 numbers = refl
 
 -- the first of some refusals that is told by a number
-abbrev pub toldBy : ℕ → List Refusal → Refusal
-toldBy n [] = NotSound
-toldBy n (why ∷ more) = cond (eqb (number_of why) n) why (toldBy n more)
+abbrev pub told_by : ℕ → List Refusal → Refusal
+told_by n [] = NotSound
+told_by n (why ∷ more) = cond (eqb (number_of why) n) why (told_by n more)
 
 -- what a number can be, and that it tells the refusal
 pub record Numbered (why : Refusal) : Type 0 where
   pub from : 1 ≤ number_of why
   pub to : number_of why ≤ 22
-  pub tells : toldBy (number_of why) refusals ≡ why
+  pub tells : told_by (number_of why) refusals ≡ why
 
 pub numbered : (why : Refusal) → Numbered why
 numbered NotSound = record { from = omega arith; to = omega arith; tells = refl }
@@ -49,9 +49,9 @@ numbered PlaceBeyond = record { from = omega arith; to = omega arith; tells = re
 numbered NoSmallTable = record { from = omega arith; to = omega arith; tells = refl }
 
 -- no refusal is told by 0
-pub number-some : (why : Refusal) → eqb (number_of why) 0 ≡ false
-number-some why = ne_eqb (number_of why) 0 (λ e. omega (arith, (numbered why).from))
+pub number_some : (why : Refusal) → eqb (number_of why) 0 ≡ false
+number_some why = ne_eqb (number_of why) 0 (λ e. omega (arith, (numbered why).from))
 
 -- no two are told by one number
-pub number-one : (a b : Refusal) → number_of a ≡ number_of b → a ≡ b
-number-one a b e = sym (numbered a).tells ∙ ap (λ n. toldBy n refusals) e ∙ (numbered b).tells
+pub number_one : (a b : Refusal) → number_of a ≡ number_of b → a ≡ b
+number_one a b e = sym (numbered a).tells ∙ ap (λ n. told_by n refusals) e ∙ (numbered b).tells

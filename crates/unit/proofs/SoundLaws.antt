@@ -10,14 +10,14 @@ use lib.ListN.{length, get_or}
 use lib.Pow.{pow_pos}
 use borrow.Author.Tests.{ne_eqb, eqb-false, leb-true, le-leb, not-true}
 use Rattle.words.specs.Bits.{is_set}
-use Rattle.words.specs.Below.{someBelow}
-use Rattle.words.proofs.Tests.{nowhere, and_left, and_right, and-true, same_test, not-passed, by-test}
-use Rattle.words.proofs.BitLaws.{bit-of-zero, zero-unset, set_below, high_bit, some-bit}
-use Rattle.words.proofs.BelowLaws.{some-intro, some-elim}
+use Rattle.words.specs.Below.{some_below}
+use Rattle.words.proofs.Tests.{nowhere, and_left, and_right, and_true, same_test, not_passed, by_test}
+use Rattle.words.proofs.BitLaws.{bit_of_zero, zero_unset, set_below, high_bit, some_bit}
+use Rattle.words.proofs.BelowLaws.{some_intro, some_elim}
 use Rattle.unit.specs.declared.FunctionUnit.{FunctionUnit}
 use Rattle.unit.specs.Inner.{Clean, Tested}
-use Rattle.unit.specs.Unit.{inside, somewhere, place, word_at, marked, strays, marksInside, soundPlan, soundOf, SoundUnit}
-use Rattle.unit.proofs.Laws.{Within, within, inside_of, somewhere-of, Place, placed, sound-has, sound-of}
+use Rattle.unit.specs.Unit.{inside, somewhere, place, word_at, marked, strays, marks_inside, sound_plan, sound_of, SoundUnit}
+use Rattle.unit.proofs.Laws.{Within, within, inside_of, somewhere_of, Place, placed, sound_has, sound_of_lem}
 
 -- what the machine has of a unit: 128 words of 16 bits
 pub record Words (u : FunctionUnit) : Type 0 where
@@ -29,15 +29,15 @@ pub record Words (u : FunctionUnit) : Type 0 where
 abbrev pub Inside : FunctionUnit → Type 0
 Inside u = (q s c : ℕ) → marked u q s c ≡ true → (q ≤ u.functions) × (s ≤ u.segments) × (c ≤ u.columns)
 
-pub marked-place : (u : FunctionUnit) (q s c : ℕ) → marked u q s c ≡ true → Place q s c
+pub marked_place : (u : FunctionUnit) (q s c : ℕ) → marked u q s c ≡ true → Place q s c
 unfolding marked
-marked-place u q s c e = placed q s c (and_left (somewhere q s c) _ e)
+marked_place u q s c e = placed q s c (and_left (somewhere q s c) _ e)
 
-pub inside-means : (u : FunctionUnit) → marksInside u ≡ true → Inside u
-unfolding marksInside
-inside-means u h q s c e =
-    let r = marked-place u q s c e in
-    by-test (leb q u.functions && (leb s u.segments && leb c u.columns))
+pub inside_means : (u : FunctionUnit) → marks_inside u ≡ true → Inside u
+unfolding marks_inside
+inside_means u h q s c e =
+    let r = marked_place u q s c e in
+    by_test (leb q u.functions && (leb s u.segments && leb c u.columns))
     (λ t.
     let t2 = and_right (leb q u.functions) _ t in (
       leb-true q u.functions (and_left (leb q u.functions) _ t),
@@ -45,20 +45,20 @@ inside-means u h q s c e =
       leb-true c u.columns (and_right (leb s u.segments) _ t2),
     ))
     (λ t.
-    nowhere (sym (not-true (someBelow 5 (λ q. someBelow 17 (λ s. someBelow 33 (λ c. strays u q s c)))) h)
-    ∙ some-intro 5 (λ q. someBelow 17 (λ s. someBelow 33 (λ c. strays u q s c))) q (omega arith)
-    (some-intro 17 (λ s. someBelow 33 (λ c. strays u q s c)) s (omega arith)
-    (some-intro 33 (λ c. strays u q s c) c (omega arith) (and-true e (ap not t))))))
+    nowhere (sym (not-true (some_below 5 (λ q. some_below 17 (λ s. some_below 33 (λ c. strays u q s c)))) h)
+    ∙ some_intro 5 (λ q. some_below 17 (λ s. some_below 33 (λ c. strays u q s c))) q (omega arith)
+    (some_intro 17 (λ s. some_below 33 (λ c. strays u q s c)) s (omega arith)
+    (some_intro 33 (λ c. strays u q s c) c (omega arith) (and_true e (ap not t))))))
 
-pub inside-test : (u : FunctionUnit) → Inside u → marksInside u ≡ true
-unfolding marksInside
-inside-test u h = ap not (not-passed (someBelow 5 (λ q. someBelow 17 (λ s. someBelow 33 (λ c. strays u q s c)))) refuted)
+pub inside_test : (u : FunctionUnit) → Inside u → marks_inside u ≡ true
+unfolding marks_inside
+inside_test u h = ap not (not_passed (some_below 5 (λ q. some_below 17 (λ s. some_below 33 (λ c. strays u q s c)))) refuted)
   where
-    refuted : someBelow 5 (λ q. someBelow 17 (λ s. someBelow 33 (λ c. strays u q s c))) ≡ true → ⊥
+    refuted : some_below 5 (λ q. some_below 17 (λ s. some_below 33 (λ c. strays u q s c))) ≡ true → ⊥
     refuted e =
-        let a = some-elim 5 (λ q. someBelow 17 (λ s. someBelow 33 (λ c. strays u q s c))) e in
-        let b = some-elim 17 (λ s. someBelow 33 (λ c. strays u a.at s c)) a.passed in
-        let d = some-elim 33 (λ c. strays u a.at b.at c) b.passed in
+        let a = some_elim 5 (λ q. some_below 17 (λ s. some_below 33 (λ c. strays u q s c))) e in
+        let b = some_elim 17 (λ s. some_below 33 (λ c. strays u a.at s c)) a.passed in
+        let d = some_elim 33 (λ c. strays u a.at b.at c) b.passed in
         let m = and_left (marked u a.at b.at d.at) _ d.passed in
         let n = and_right (marked u a.at b.at d.at) _ d.passed in
         let r = h a.at b.at d.at m in
@@ -67,35 +67,35 @@ inside-test u h = ap not (not-passed (someBelow 5 (λ q. someBelow 17 (λ s. som
 
 -- The same test of the words
 
-clean-inside : (u : FunctionUnit) → Clean u.functions u.segments u.columns u.marks → Inside u
+clean_inside : (u : FunctionUnit) → Clean u.functions u.segments u.columns u.marks → Inside u
 unfolding marked
-clean-inside u h q s c e =
+clean_inside u h q s c e =
     let x = placed q s c (and_left (somewhere q s c) _ e) in
     let b = and_right (somewhere q s c) _ e in
-    let d = h (place q c) (omega arith) (λ z. nowhere (sym (zero-unset 0 (s - 1) (bit-of-zero (s - 1))) ∙ subst (λ (n : ℕ). is_set n (s - 1) ≡ true) z b)) in
+    let d = h (place q c) (omega arith) (λ z. nowhere (sym (zero_unset 0 (s - 1) (bit_of_zero (s - 1))) ∙ subst (λ (n : ℕ). is_set n (s - 1) ≡ true) z b)) in
     let l = set_below (word_at u q c) u.segments (s - 1) d.small b in
     omega arith
 
 -- the mark behind bit j of word k
-pub word-mark : (u : FunctionUnit) (k j : ℕ) → k < 128 → j < 16 → marked u (k / 32 + 1) (j + 1) (k % 32 + 1) ≡ is_set (get_or u.marks k 0) j
+pub word_mark : (u : FunctionUnit) (k j : ℕ) → k < 128 → j < 16 → marked u (k / 32 + 1) (j + 1) (k % 32 + 1) ≡ is_set (get_or u.marks k 0) j
 unfolding marked
-word-mark u k j l lj =
+word_mark u k j l lj =
     let p : place (k / 32 + 1) (k % 32 + 1) ≡ k = omega arith in
     let q : j + 1 - 1 ≡ j = omega arith in
-    let sw = somewhere-of (k / 32 + 1) (j + 1) (k % 32 + 1) (omega arith) (omega arith) (omega arith) (omega arith) (omega arith) (omega arith) in
+    let sw = somewhere_of (k / 32 + 1) (j + 1) (k % 32 + 1) (omega arith) (omega arith) (omega arith) (omega arith) (omega arith) (omega arith) in
     ap (λ t. t && is_set (get_or u.marks (place (k / 32 + 1) (k % 32 + 1)) 0) (j + 1 - 1)) sw
     ∙ ap (λ i. is_set (get_or u.marks i 0) (j + 1 - 1)) p ∙ ap (λ i. is_set (get_or u.marks k 0) i) q
 
-inside-clean : (u : FunctionUnit) → Within u.segments 16 → ((k : ℕ) → k < 128 → get_or u.marks k 0 < 2 ^ 16) → Inside u
+inside_clean : (u : FunctionUnit) → Within u.segments 16 → ((k : ℕ) → k < 128 → get_or u.marks k 0 < 2 ^ 16) → Inside u
     → Clean u.functions u.segments u.columns u.marks
-inside-clean u s16 small d k l ne =
-    let r = some-bit 16 (get_or u.marks k 0) (small k l) ne in
+inside_clean u s16 small d k l ne =
+    let r = some_bit 16 (get_or u.marks k 0) (small k l) ne in
     let x = here r.at r.most r.set in
     record { tag = omega arith; column = omega arith; small = below (dec_lt (get_or u.marks k 0) (2 ^ u.segments)) }
   where
     here : (j : ℕ) → j < 16 → is_set (get_or u.marks k 0) j ≡ true
         → (k / 32 + 1 ≤ u.functions) × (j + 1 ≤ u.segments) × (k % 32 + 1 ≤ u.columns)
-    here j lj b = d (k / 32 + 1) (j + 1) (k % 32 + 1) (word-mark u k j l lj ∙ b)
+    here j lj b = d (k / 32 + 1) (j + 1) (k % 32 + 1) (word_mark u k j l lj ∙ b)
 
     below : Dec (get_or u.marks k 0 < 2 ^ u.segments) → get_or u.marks k 0 < 2 ^ u.segments
     below (yes h) = h
@@ -107,30 +107,30 @@ inside-clean u s16 small d k l ne =
         absurd (omega arith)
 
 -- the test of the words is that of the marks
-pub tested-means : (u : FunctionUnit) (r : Bool) → inside u.segments 16 ≡ true
-    → Tested u.functions u.segments u.columns u.marks r → r ≡ marksInside u
-tested-means u r s16 t =
-    same_test r (marksInside u) (λ e. inside-test u (clean-inside u (t.passed e)))
-    (λ h. by-test r (λ e. e) (λ e. absurd (t.failed e (inside-clean u (within u.segments 16 s16) t.small (inside-means u h)))))
+pub tested_means : (u : FunctionUnit) (r : Bool) → inside u.segments 16 ≡ true
+    → Tested u.functions u.segments u.columns u.marks r → r ≡ marks_inside u
+tested_means u r s16 t =
+    same_test r (marks_inside u) (λ e. inside_test u (clean_inside u (t.passed e)))
+    (λ h. by_test r (λ e. e) (λ e. absurd (t.failed e (inside_clean u (within u.segments 16 s16) t.small (inside_means u h)))))
 
 -- Soundness as facts
 
-plan-means : (t n : ℕ) → soundPlan t n ≡ true → (t ≡ 0 → ⊥) → (1 ≤ n) × (n ≤ 256)
-plan-means t n e ne =
+plan_means : (t n : ℕ) → sound_plan t n ≡ true → (t ≡ 0 → ⊥) → (1 ≤ n) × (n ≤ 256)
+plan_means t n e ne =
     let w = within n 256 (ap (λ k. cond k true (inside n 256)) (sym (ne_eqb t 0 ne)) ∙ e) in
     (w.least, w.most)
 
-plan-of : (t n : ℕ) → ((t ≡ 0 → ⊥) → (1 ≤ n) × (n ≤ 256)) → soundPlan t n ≡ true
-plan-of t n h = go (eqb t 0) refl
+plan_of_lem : (t n : ℕ) → ((t ≡ 0 → ⊥) → (1 ≤ n) × (n ≤ 256)) → sound_plan t n ≡ true
+plan_of_lem t n h = go (eqb t 0) refl
   where
     go : (b : Bool) → eqb t 0 ≡ b → cond b true (inside n 256) ≡ true
     go true e = refl
     go false e = let w = h (eqb-false t 0 e) in inside_of n 256 w.0 w.1
 
-pub sound-means : (u : FunctionUnit) → (soundOf u ≡ true) ↔ SoundUnit u
-sound-means u = (
+pub sound_means : (u : FunctionUnit) → (sound_of u ≡ true) ↔ SoundUnit u
+sound_means u = (
   (λ h.
-      let d = sound-has u h in
+      let d = sound_has u h in
       let f = within u.functions 4 d.functions in
       let g = within u.segments 16 d.segments in
       let k = within u.columns 32 d.columns in
@@ -138,25 +138,25 @@ sound-means u = (
         functions = (f.least, f.most);
         segments = (g.least, g.most);
         columns = (k.least, k.most);
-        plan = plan-means u.plan.tag u.plan.count d.plan;
-        marks = inside-means u d.marks;
+        plan = plan_means u.plan.tag u.plan.count d.plan;
+        marks = inside_means u d.marks;
       }),
   (λ d.
-      sound-of u (record {
+      sound_of_lem u (record {
         functions = inside_of u.functions 4 d.functions.0 d.functions.1;
         segments = inside_of u.segments 16 d.segments.0 d.segments.1;
         columns = inside_of u.columns 32 d.columns.0 d.columns.1;
-        plan = plan-of u.plan.tag u.plan.count d.plan;
-        marks = inside-test u d.marks;
+        plan = plan_of_lem u.plan.tag u.plan.count d.plan;
+        marks = inside_test u d.marks;
       })),
 )
 
 -- the words of a sound unit have marks in its segments only
-pub sound-word : (u : FunctionUnit) (k : ℕ) → Words u → soundOf u ≡ true → k < 128 → get_or u.marks k 0 < 2 ^ u.segments
-sound-word u k n h l = go (ℕ_discrete (get_or u.marks k 0) 0)
+pub sound_word : (u : FunctionUnit) (k : ℕ) → Words u → sound_of u ≡ true → k < 128 → get_or u.marks k 0 < 2 ^ u.segments
+sound_word u k n h l = go (ℕ_discrete (get_or u.marks k 0) 0)
   where
     go : Dec (get_or u.marks k 0 ≡ 0) → get_or u.marks k 0 < 2 ^ u.segments
     go (yes e) = omega (arith, pow_pos u.segments)
     go (no ne) =
-        let d = sound-has u h in
-        (inside-clean u (within u.segments 16 d.segments) (λ j i. n.small j) (inside-means u d.marks) k l ne).small
+        let d = sound_has u h in
+        (inside_clean u (within u.segments 16 d.segments) (λ j i. n.small j) (inside_means u d.marks) k l ne).small

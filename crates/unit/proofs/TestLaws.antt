@@ -3,33 +3,33 @@ use mathlib.Core.Path.{◌≡◌, refl}
 use mathlib.Core.Bool.{Bool, true, false}
 use Rattle.unit.specs.declared.Refusal.{Refusal}
 use Rattle.unit.specs.declared.Answer.TheVariants.{Done}
-use Rattle.unit.specs.Calls.{check, testedBy}
+use Rattle.unit.specs.Calls.{check, tested_by}
 
-pub two-tests : (a b : Bool) (x y : Refusal) → testedBy (testedBy Done a x) b y ≡ check a x (check b y Done)
-two-tests true b x y = refl
-two-tests false b x y = refl
+pub two_tests : (a b : Bool) (x y : Refusal) → tested_by (tested_by Done a x) b y ≡ check a x (check b y Done)
+two_tests true b x y = refl
+two_tests false b x y = refl
 
 -- and two or three more
-pub four-tests : (a b c d : Bool) (x y z w : Refusal) → testedBy (testedBy (check a x (check b y Done)) c z) d w ≡ check a x (check b y (check c z (check d w Done)))
-four-tests true true true d x y z w = refl
-four-tests true true false d x y z w = refl
-four-tests true false c d x y z w = refl
-four-tests false b c d x y z w = refl
+pub four_tests : (a b c d : Bool) (x y z w : Refusal) → tested_by (tested_by (check a x (check b y Done)) c z) d w ≡ check a x (check b y (check c z (check d w Done)))
+four_tests true true true d x y z w = refl
+four_tests true true false d x y z w = refl
+four_tests true false c d x y z w = refl
+four_tests false b c d x y z w = refl
 
-pub five-tests : (a b c d e : Bool) (x y z w v : Refusal)
-    → testedBy (testedBy (testedBy (check a x (check b y Done)) c z) d w) e v ≡ check a x (check b y (check c z (check d w (check e v Done))))
-five-tests true true true true e x y z w v = refl
-five-tests true true true false e x y z w v = refl
-five-tests true true false d e x y z w v = refl
-five-tests true false c d e x y z w v = refl
-five-tests false b c d e x y z w v = refl
+pub five_tests : (a b c d e : Bool) (x y z w v : Refusal)
+    → tested_by (tested_by (tested_by (check a x (check b y Done)) c z) d w) e v ≡ check a x (check b y (check c z (check d w (check e v Done))))
+five_tests true true true true e x y z w v = refl
+five_tests true true true false e x y z w v = refl
+five_tests true true false d e x y z w v = refl
+five_tests true false c d e x y z w v = refl
+five_tests false b c d e x y z w v = refl
 
-pub six-tests : (a b c d e f : Bool) (x y z w v t : Refusal)
-    → testedBy (testedBy (testedBy (testedBy (check a x (check b y Done)) c z) d w) e v) f t
+pub six_tests : (a b c d e f : Bool) (x y z w v t : Refusal)
+    → tested_by (tested_by (tested_by (tested_by (check a x (check b y Done)) c z) d w) e v) f t
     ≡ check a x (check b y (check c z (check d w (check e v (check f t Done)))))
-six-tests true true true true true f x y z w v t = refl
-six-tests true true true true false f x y z w v t = refl
-six-tests true true true false e f x y z w v t = refl
-six-tests true true false d e f x y z w v t = refl
-six-tests true false c d e f x y z w v t = refl
-six-tests false b c d e f x y z w v t = refl
+six_tests true true true true true f x y z w v t = refl
+six_tests true true true true false f x y z w v t = refl
+six_tests true true true false e f x y z w v t = refl
+six_tests true true false d e f x y z w v t = refl
+six_tests true false c d e f x y z w v t = refl
+six_tests false b c d e f x y z w v t = refl

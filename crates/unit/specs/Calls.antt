@@ -1,7 +1,7 @@
 -- What each call answers, and the unit that it leaves.
 use Rattle.std.specs.Prelude.{ℕ, ◌+◌, ◌-◌, ◌/◌, ◌%◌, ◌^◌, Bool, cond, ltb, set, replicate}
-use Rattle.words.specs.Bits.{setBit, clearBit}
-use Rattle.words.specs.Below.{wordBelow, listBelow}
+use Rattle.words.specs.Bits.{set_bit, clear_bit}
+use Rattle.words.specs.Below.{word_below, list_below}
 use Rattle.unit.specs.declared.Plan.{Plan}
 use Rattle.unit.specs.declared.FunctionUnit.{FunctionUnit}
 use Rattle.unit.specs.declared.Outcome.{Outcome}
@@ -10,7 +10,7 @@ use Rattle.unit.specs.declared.Refusal.TheVariants.{NotSound, NoSuchTag, NoSuchS
 use Rattle.unit.specs.declared.Answer.{Answer}
 use Rattle.unit.specs.declared.Answer.TheVariants.{Done, Refused}
 use Rattle.unit.specs.Table.{Table}
-use Rattle.unit.specs.Unit.{inside, place, word_at, goodCounts, soundOf}
+use Rattle.unit.specs.Unit.{inside, place, word_at, good_counts, sound_of}
 
 -- Refusals: each test in turn, so that the lowest number that applies is given
 
@@ -18,43 +18,43 @@ abbrev pub check : Bool → Refusal → Answer → Answer
 check ok why next = cond ok next (Refused why)
 
 -- further tests, where those before passed
-abbrev pub andThen : Answer → Answer → Answer
-andThen Done next = next
-andThen (Refused why) next = Refused why
+abbrev pub and_then : Answer → Answer → Answer
+and_then Done next = next
+and_then (Refused why) next = Refused why
 
 -- one more test
-abbrev pub testedBy : Answer → Bool → Refusal → Answer
-testedBy answer holds why = andThen answer (check holds why Done)
+abbrev pub tested_by : Answer → Bool → Refusal → Answer
+tested_by answer holds why = and_then answer (check holds why Done)
 
 -- what every question about one function tries first
-unfoldable pub tagAnswer : FunctionUnit → ℕ → Answer
-tagAnswer u q =
-    check (soundOf u) NotSound
+unfoldable pub tag_answer : FunctionUnit → ℕ → Answer
+tag_answer u q =
+    check (sound_of u) NotSound
     (check (inside q u.functions) NoSuchTag Done)
 
-unfoldable pub spotAnswer : FunctionUnit → ℕ → ℕ → ℕ → Answer
-spotAnswer u q s c =
-    check (soundOf u) NotSound
+unfoldable pub spot_answer : FunctionUnit → ℕ → ℕ → ℕ → Answer
+spot_answer u q s c =
+    check (sound_of u) NotSound
     (check (inside q u.functions) NoSuchTag
     (check (inside s u.segments) NoSuchSegment
     (check (inside c u.columns) NoSuchColumn Done)))
 
 -- a column's word for a function: each of its bits is one of the unit's segments
-unfoldable pub columnAnswer : FunctionUnit → ℕ → ℕ → ℕ → Answer
-columnAnswer u q c w =
-    andThen (tagAnswer u q)
+unfoldable pub column_answer : FunctionUnit → ℕ → ℕ → ℕ → Answer
+column_answer u q c w =
+    and_then (tag_answer u q)
     (check (ltb w (2 ^ u.segments)) NoSuchSegment
     (check (inside c u.columns) NoSuchColumn Done))
 
 -- Units
 
 -- no plan: tag, K, S and all 256 bytes are 0
-unfoldable pub noPlan : Plan
-noPlan = record { tag = 0; count = 0; sum = 0; latencies = replicate 256 0 }
+unfoldable pub no_plan : Plan
+no_plan = record { tag = 0; count = 0; sum = 0; latencies = replicate 256 0 }
 
 -- the unit without marks or plan
 abbrev pub blank : ℕ → ℕ → ℕ → FunctionUnit
-blank f s c = record { functions = f; segments = s; columns = c; marks = replicate 128 0; plan = noPlan }
+blank f s c = record { functions = f; segments = s; columns = c; marks = replicate 128 0; plan = no_plan }
 
 -- the unit of the three counts with the marks of a table, without plan (`unit-of-table`, proofs/TableLaws.antt)
 unfoldable pub unit_of : ℕ → ℕ → ℕ → Table → FunctionUnit
@@ -62,18 +62,18 @@ unit_of f s c T = record {
   functions = f;
   segments = s;
   columns = c;
-  marks = listBelow 128 (λ i. wordBelow 16 (λ r. T (i / 32 + 1) (r + 1) (i % 32 + 1)));
-  plan = noPlan;
+  marks = list_below 128 (λ i. word_below 16 (λ r. T (i / 32 + 1) (r + 1) (i % 32 + 1)));
+  plan = no_plan;
 }
 
 -- the unit with another word for a tag in a column, and without plan
-abbrev pub withWord : FunctionUnit → ℕ → ℕ → ℕ → FunctionUnit
-withWord u q c w = record {
+abbrev pub with_word : FunctionUnit → ℕ → ℕ → ℕ → FunctionUnit
+with_word u q c w = record {
   functions = u.functions;
   segments = u.segments;
   columns = u.columns;
   marks = set u.marks (place q c) w;
-  plan = noPlan;
+  plan = no_plan;
 }
 
 -- an accepted call leaves the new unit, a refused one the old
@@ -89,14 +89,14 @@ handed (Refused why) new old = old
 -- The calls
 
 unfoldable pub fresh_of : ℕ → ℕ → ℕ → Outcome
-fresh_of f s c = record { answer = check (goodCounts f s c) NotSound Done; unit = blank f s c }
+fresh_of f s c = record { answer = check (good_counts f s c) NotSound Done; unit = blank f s c }
 
 unfoldable pub mark_of : FunctionUnit → ℕ → ℕ → ℕ → Outcome
-mark_of u q s c = outcome (spotAnswer u q s c) u (withWord u q c (setBit (word_at u q c) (s - 1)))
+mark_of u q s c = outcome (spot_answer u q s c) u (with_word u q c (set_bit (word_at u q c) (s - 1)))
 
-unfoldable pub unmarkOf : FunctionUnit → ℕ → ℕ → ℕ → Outcome
-unmarkOf u q s c = outcome (spotAnswer u q s c) u (withWord u q c (clearBit (word_at u q c) (s - 1)))
+unfoldable pub unmark_of : FunctionUnit → ℕ → ℕ → ℕ → Outcome
+unmark_of u q s c = outcome (spot_answer u q s c) u (with_word u q c (clear_bit (word_at u q c) (s - 1)))
 
 -- all the marks of a function in one column, bit s - 1 for segment s
-unfoldable pub columnOf : FunctionUnit → ℕ → ℕ → ℕ → Outcome
-columnOf u q c w = outcome (columnAnswer u q c w) u (withWord u q c w)
+unfoldable pub column_of : FunctionUnit → ℕ → ℕ → ℕ → Outcome
+column_of u q c w = outcome (column_answer u q c w) u (with_word u q c w)

@@ -1,7 +1,7 @@
 -- A function unit: its marks, and when it is sound.
 use Rattle.std.specs.Prelude.{ℕ, ◌+◌, ◌-◌, ◌*◌, ◌≤◌, ◌≡◌, List, Bool, true, cond, not, ◌&&◌, get_or, take, drop, replicate, leb, eqb}
 use Rattle.words.specs.Bits.{is_set}
-use Rattle.words.specs.Below.{someBelow}
+use Rattle.words.specs.Below.{some_below}
 pub use Rattle.words.specs.Below.{inside}
 use Rattle.unit.specs.declared.FunctionUnit.{FunctionUnit}
 use Rattle.unit.specs.Table.{Table}
@@ -24,32 +24,32 @@ unfoldable pub marked : FunctionUnit → Table
 marked u q s c = somewhere q s c && is_set (word_at u q c) (s - 1)
 
 -- the marks of a function by column, bit r - 1 for segment r
-unfoldable pub columnsOf : FunctionUnit → ℕ → List ℕ
-columnsOf u q = cond (inside q 4) (take 32 (drop ((q - 1) * 32) u.marks)) (replicate 32 0)
+unfoldable pub columns_of : FunctionUnit → ℕ → List ℕ
+columns_of u q = cond (inside q 4) (take 32 (drop ((q - 1) * 32) u.marks)) (replicate 32 0)
 
 -- Soundness
 
 -- 1 to 4 functions, 1 to 16 segments, 1 to 32 columns
-abbrev pub goodCounts : ℕ → ℕ → ℕ → Bool
-goodCounts f s c = inside f 4 && (inside s 16 && inside c 32)
+abbrev pub good_counts : ℕ → ℕ → ℕ → Bool
+good_counts f s c = inside f 4 && (inside s 16 && inside c 32)
 
 -- no plan, or one of 1 to 256 latencies
-abbrev pub soundPlan : ℕ → ℕ → Bool
-soundPlan tag count = cond (eqb tag 0) true (inside count 256)
+abbrev pub sound_plan : ℕ → ℕ → Bool
+sound_plan tag count = cond (eqb tag 0) true (inside count 256)
 
 -- a mark outside the counts
 abbrev pub strays : FunctionUnit → ℕ → ℕ → ℕ → Bool
 strays u q s c = marked u q s c && not (leb q u.functions && (leb s u.segments && leb c u.columns))
 
-unfoldable pub marksInside : FunctionUnit → Bool
-marksInside u = not (someBelow 5 (λ q. someBelow 17 (λ s. someBelow 33 (λ c. strays u q s c))))
+unfoldable pub marks_inside : FunctionUnit → Bool
+marks_inside u = not (some_below 5 (λ q. some_below 17 (λ s. some_below 33 (λ c. strays u q s c))))
 
-unfoldable pub soundOf : FunctionUnit → Bool
-soundOf u =
-    goodCounts u.functions u.segments u.columns
-    && (soundPlan u.plan.tag u.plan.count && marksInside u)
+unfoldable pub sound_of : FunctionUnit → Bool
+sound_of u =
+    good_counts u.functions u.segments u.columns
+    && (sound_plan u.plan.tag u.plan.count && marks_inside u)
 
--- the same as facts (`sound-means`, proofs/SoundLaws.antt)
+-- the same as facts (`sound_means`, proofs/SoundLaws.antt)
 pub record SoundUnit (u : FunctionUnit) : Type 0 where
   pub functions : (1 ≤ u.functions) × (u.functions ≤ 4)
   pub segments : (1 ≤ u.segments) × (u.segments ≤ 16)

@@ -4,8 +4,8 @@
 ghost use Rattle.std.specs.Prelude.{◌≡◌, ◌≤◌};
 ghost use Rattle.unit.specs.Inner.{Between, Beyond, Joins, Tested, Somewhere};
 ghost use Rattle.unit.specs.Numbers.{number_of, number_in};
-ghost use Rattle.unit.specs.Unit.{inside, goodCounts, soundPlan, soundOf, place, columnsOf};
-ghost use Rattle.unit.specs.Calls.{testedBy, noPlan, withWord, tagAnswer, spotAnswer, fresh_of, columnAnswer, columnOf};
+ghost use Rattle.unit.specs.Unit.{inside, good_counts, sound_plan, sound_of, place, columns_of};
+ghost use Rattle.unit.specs.Calls.{tested_by, no_plan, with_word, tag_answer, spot_answer, fresh_of, column_answer, column_of};
 
 // The number of a function, 1 to 4.
 #[derive(Drop)]
@@ -115,7 +115,7 @@ pub fn number_in(answer: Answer) -> u8
 
 // The answer so far, and, where that is done, one more test.
 pub fn tested(answer: Answer, holds: bool, why: Refusal) -> Answer
-    ensures { result ≡ testedBy answer holds why }
+    ensures { result ≡ tested_by answer holds why }
 {
     match answer {
         Answer::Refused(first) => Answer::Refused(first),
@@ -130,7 +130,7 @@ pub fn tested(answer: Answer, holds: bool, why: Refusal) -> Answer
 
 // No plan: tag, count, sum and all 256 bytes are 0.
 pub fn no_plan() -> Plan
-    ensures { result ≡ noPlan }
+    ensures { result ≡ no_plan }
 {
     Plan {
         tag: 0,
@@ -141,7 +141,7 @@ pub fn no_plan() -> Plan
 }
 
 fn plan_is_sound(tag: u8, count: u16) -> bool
-    ensures { result ≡ soundPlan tag count }
+    ensures { result ≡ sound_plan tag count }
 {
     if tag == 0 {
         return true;
@@ -203,7 +203,7 @@ fn clean_marks(functions: u8, segments: u8, columns: u8, marks: [u16; 128]) -> b
 }
 
 fn counts(functions: u8, segments: u8, columns: u8) -> bool
-    ensures { result ≡ goodCounts functions segments columns }
+    ensures { result ≡ good_counts functions segments columns }
 {
     if !words::is_inside(functions, 4) {
         return false;
@@ -216,7 +216,7 @@ fn counts(functions: u8, segments: u8, columns: u8) -> bool
 
 // Whether the counts are in their ranges, every mark lies within them, and the plan, if there is one, has 1 to 256 latencies.
 pub fn sound(u: FunctionUnit) -> bool
-    ensures { result ≡ soundOf u }
+    ensures { result ≡ sound_of u }
 {
     if !counts(u.functions, u.segments, u.columns) {
         return false;
@@ -230,7 +230,7 @@ pub fn sound(u: FunctionUnit) -> bool
 
 // What every question about one function tries first: the unit, then the tag.
 pub fn check_tag(u: FunctionUnit, tag: Tag) -> Answer
-    ensures { result ≡ tagAnswer u tag.0 }
+    ensures { result ≡ tag_answer u tag.0 }
 {
     if !sound(u) {
         return Answer::Refused(Refusal::NotSound);

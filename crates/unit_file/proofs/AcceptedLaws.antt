@@ -5,58 +5,58 @@ use mathlib.Core.List.{List}
 use Prim.Native.Nat.{ℕ, ◌≤◌}
 use native.Mathlib.Omega.{arith}
 use lib.ListN.{length}
-use Rattle.words.proofs.Tests.{and-true}
+use Rattle.words.proofs.Tests.{and_true}
 use Rattle.unit.specs.declared.Answer.TheVariants.{Done}
-use Rattle.unit.specs.Unit.{somewhere, goodCounts, marked, soundOf}
+use Rattle.unit.specs.Unit.{somewhere, good_counts, marked, sound_of}
 use Rattle.unit.specs.Calls.{blank, unit_of}
-use Rattle.unit.proofs.Laws.{inside_of, somewhere-of}
+use Rattle.unit.proofs.Laws.{inside_of, somewhere_of}
 use Rattle.unit.proofs.SoundLaws.{Words}
-use Rattle.unit.proofs.EditLaws.{outcome-answer}
+use Rattle.unit.proofs.EditLaws.{outcome_answer}
 use Rattle.unit.proofs.TableLaws.{unit-of-words, unit-of-table, unit-of-sound}
-use Rattle.unit_file.specs.File.{fileLength}
-use Rattle.unit_file.specs.Read.{functionsIn, segmentsIn, columnsIn, fileTable, readAnswer, read_of}
+use Rattle.unit_file.specs.File.{file_length}
+use Rattle.unit_file.specs.Read.{functions_in, segments_in, columns_in, file_table, read_answer, read_of}
 use Rattle.unit_file.specs.InnerRead.{Clean}
-use Rattle.unit_file.proofs.ReadLaws.{FileMark, file-mark, clean-columns, accepted-clean}
+use Rattle.unit_file.proofs.ReadLaws.{FileMark, file_mark, clean_columns, accepted_clean}
 
 pub record Accepted (file : List ℕ) : Type 0 where
-  pub unit : read_of file ≡ record { answer = Done; unit = unit_of (functionsIn file) (segmentsIn file) (columnsIn file) (fileTable file) }
-  pub table : marked (unit_of (functionsIn file) (segmentsIn file) (columnsIn file) (fileTable file)) ≡ fileTable file
-  pub sound : soundOf (unit_of (functionsIn file) (segmentsIn file) (columnsIn file) (fileTable file)) ≡ true
-  pub words : Words (unit_of (functionsIn file) (segmentsIn file) (columnsIn file) (fileTable file))
-  pub size : length file ≡ fileLength (functionsIn file) (segmentsIn file)
+  pub unit : read_of file ≡ record { answer = Done; unit = unit_of (functions_in file) (segments_in file) (columns_in file) (file_table file) }
+  pub table : marked (unit_of (functions_in file) (segments_in file) (columns_in file) (file_table file)) ≡ file_table file
+  pub sound : sound_of (unit_of (functions_in file) (segments_in file) (columns_in file) (file_table file)) ≡ true
+  pub words : Words (unit_of (functions_in file) (segments_in file) (columns_in file) (file_table file))
+  pub size : length file ≡ file_length (functions_in file) (segments_in file)
 
 -- a mark of the file lies within its counts
-mark-inside : (file : List ℕ) → Clean file → (q r k : ℕ) → fileTable file q r k ≡ true
-    → (somewhere q r k ≡ true) × (q ≤ functionsIn file) × (r ≤ segmentsIn file) × (k ≤ columnsIn file)
-mark-inside file d q r k e =
-    let m = file-mark file q r k e in
+mark_inside : (file : List ℕ) → Clean file → (q r k : ℕ) → file_table file q r k ≡ true
+    → (somewhere q r k ≡ true) × (q ≤ functions_in file) × (r ≤ segments_in file) × (k ≤ columns_in file)
+mark_inside file d q r k e =
+    let m = file_mark file q r k e in
     let a = m.tag in
     let b = m.segment in
     let g = m.column in
     let n = d.whole.counts in
-    (somewhere-of q r k a.least (omega arith) b.least (omega arith) g.least g.most, a.most, b.most, clean-columns file d q r k m)
+    (somewhere_of q r k a.least (omega arith) b.least (omega arith) g.least g.most, a.most, b.most, clean_columns file d q r k m)
 
-counts-good : (file : List ℕ) → Clean file → goodCounts (functionsIn file) (segmentsIn file) (columnsIn file) ≡ true
-counts-good file d =
+counts_good : (file : List ℕ) → Clean file → good_counts (functions_in file) (segments_in file) (columns_in file) ≡ true
+counts_good file d =
     let n = d.whole.counts in
-    and-true (inside_of (functionsIn file) 4 n.functions1 n.functions4)
-    (and-true (inside_of (segmentsIn file) 16 n.segments1 n.segments16) (inside_of (columnsIn file) 32 n.columns1 n.columns32))
+    and_true (inside_of (functions_in file) 4 n.functions1 n.functions4)
+    (and_true (inside_of (segments_in file) 16 n.segments1 n.segments16) (inside_of (columns_in file) 32 n.columns1 n.columns32))
 
-pub accepted : (file : List ℕ) → readAnswer file ≡ Done → Accepted file
+pub accepted : (file : List ℕ) → read_answer file ≡ Done → Accepted file
 unfolding read_of
 accepted file e =
-    let d = accepted-clean file e in
-    let f = functionsIn file in
-    let s = segmentsIn file in
-    let c = columnsIn file in
+    let d = accepted_clean file e in
+    let f = functions_in file in
+    let s = segments_in file in
+    let c = columns_in file in
     record {
       unit = rw e;
-      table = unit-of-table f s c (fileTable file) (λ q r k m. (mark-inside file d q r k m).0);
-      sound = unit-of-sound f s c (fileTable file) (counts-good file d) (mark-inside file d);
-      words = unit-of-words f s c (fileTable file);
+      table = unit-of-table f s c (file_table file) (λ q r k m. (mark_inside file d q r k m).0);
+      sound = unit-of-sound f s c (file_table file) (counts_good file d) (mark_inside file d);
+      words = unit-of-words f s c (file_table file);
       size = d.whole.size;
     }
 
-pub read_answer : (file : List ℕ) → (read_of file).answer ≡ readAnswer file
+pub read_answer_lem : (file : List ℕ) → (read_of file).answer ≡ read_answer file
 unfolding read_of
-read_answer file = outcome-answer (readAnswer file) (blank 0 0 0) (unit_of (functionsIn file) (segmentsIn file) (columnsIn file) (fileTable file))
+read_answer_lem file = outcome_answer (read_answer file) (blank 0 0 0) (unit_of (functions_in file) (segments_in file) (columns_in file) (file_table file))

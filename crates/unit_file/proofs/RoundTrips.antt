@@ -8,22 +8,22 @@ use lib.Dec.{leb, eqb}
 use lib.ListN.{length}
 use borrow.Author.Tests.{le-leb, eq-eqb, eqb-true, not-true}
 use Rattle.words.specs.Bits.{is_set}
-use Rattle.words.specs.Below.{someBelow}
-use Rattle.words.proofs.Tests.{nowhere, and_left, and_right, and-true, same_test, by-test, not-passed}
+use Rattle.words.specs.Below.{some_below}
+use Rattle.words.proofs.Tests.{nowhere, and_left, and_right, and_true, same_test, by_test, not_passed}
 use Rattle.words.proofs.BitLaws.{same_bits}
-use Rattle.words.proofs.BelowLaws.{some-intro, some-none, word_lt, word_set}
+use Rattle.words.proofs.BelowLaws.{some_intro, some_none, word_lt, word_set}
 use Rattle.unit.specs.declared.FunctionUnit.{FunctionUnit}
 use Rattle.unit.specs.declared.Refusal.TheVariants.{NotSound, BadLength, BadHeader}
 use Rattle.unit.specs.declared.Answer.TheVariants.{Done}
 use Rattle.unit.specs.Table.{Table}
-use Rattle.unit.specs.Unit.{inside, goodCounts, marked, soundOf}
+use Rattle.unit.specs.Unit.{inside, good_counts, marked, sound_of}
 use Rattle.unit.specs.Calls.{unit_of}
-use Rattle.unit.proofs.Laws.{check-ok, check-next, within, inside_of, somewhere-of, sound-has}
-use Rattle.unit.proofs.SoundLaws.{marked-place, inside-means}
+use Rattle.unit.proofs.Laws.{check_ok, check_next, within, inside_of, somewhere_of, sound_has}
+use Rattle.unit.proofs.SoundLaws.{marked_place, inside_means}
 use Rattle.unit.proofs.TableLaws.{unit-of-table}
-use Rattle.unit_file.specs.File.{offset_of, fileLength, segmentWord, fileOf}
-use Rattle.unit_file.specs.Read.{byteIn, word16, word32, functionsIn, segmentsIn, columnsIn, fileTable, goodHeader, marksBeyond, readAnswer, read_of}
-use Rattle.unit_file.specs.Write.{unitFile}
+use Rattle.unit_file.specs.File.{offset_of, file_length, segment_word, file_of}
+use Rattle.unit_file.specs.Read.{byte_in, word16, word32, functions_in, segments_in, columns_in, file_table, good_header, marks_beyond, read_answer, read_of}
+use Rattle.unit_file.specs.Write.{unit_file}
 use Rattle.unit_file.specs.RoundTrips.{WrittenRead, ReadWritten}
 use Rattle.unit_file.proofs.AcceptedLaws.{Accepted, accepted}
 use Rattle.unit_file.proofs.ByteLaws.{Bytes}
@@ -37,10 +37,10 @@ pub record Counted (f s c k r x : ℕ) : Type 0 where
 
 -- Written, then read
 
-module _ (f s c : ℕ) (T : Table) (good : goodCounts f s c ≡ true) (counted : (k r x : ℕ) → T k r x ≡ true → Counted f s c k r x) where
+module _ (f s c : ℕ) (T : Table) (good : good_counts f s c ≡ true) (counted : (k r x : ℕ) → T k r x ≡ true → Counted f s c k r x) where
   -- where the file says a mark, the table has it
   says : (k r x : ℕ) → inside k f ≡ true → inside r s ≡ true → inside x 32 ≡ true
-      → is_set (word32 (fileOf f s c T) (offset_of f s k + 4 * (r - 1))) (x - 1) ≡ T k r x
+      → is_set (word32 (file_of f s c T) (offset_of f s k + 4 * (r - 1))) (x - 1) ≡ T k r x
   says k r x hk hr hx =
       let a = within k f hk in
       let b = within r s hr in
@@ -59,12 +59,12 @@ module _ (f s c : ℕ) (T : Table) (good : goodCounts f s c ≡ true) (counted :
       let n = within c 32 (and_right (inside s 16) _ (and_right (inside f 4) _ good)) in
       inside_of x 32 w.least (omega arith)
 
-  table_at : (k r x : ℕ) → fileTable (fileOf f s c T) k r x ≡ T k r x
-  unfolding fileTable fileOf
+  table_at : (k r x : ℕ) → file_table (file_of f s c T) k r x ≡ T k r x
+  unfolding file_table file_of
   table_at k r x = same_test (inside k f && tail) (T k r x) there back
     where
       word : Bool
-      word = is_set (word32 (fileOf f s c T) (offset_of f s k + 4 * (r - 1))) (x - 1)
+      word = is_set (word32 (file_of f s c T) (offset_of f s k + 4 * (r - 1))) (x - 1)
 
       tail : Bool
       tail = inside r s && (inside x 32 && word)
@@ -80,62 +80,62 @@ module _ (f s c : ℕ) (T : Table) (good : goodCounts f s c ≡ true) (counted :
       back h =
           let p = counted k r x h in
           let w = wide x p.column in
-          and-true p.tag (and-true p.segment (and-true w (says k r x p.tag p.segment w ∙ h)))
+          and_true p.tag (and_true p.segment (and_true w (says k r x p.tag p.segment w ∙ h)))
 
-  pub file-table : fileTable (fileOf f s c T) ≡ T
+  pub file-table : file_table (file_of f s c T) ≡ T
   file-table = λ i k r x. table_at k r x i
 
-  header : goodHeader (fileOf f s c T) ≡ true
-  unfolding goodHeader fileOf
+  header : good_header (file_of f s c T) ≡ true
+  unfolding good_header file_of
   header =
       let f4 = within f 4 (and_left (inside f 4) _ good) in
       let s16 = within s 16 (and_left (inside s 16) _ (and_right (inside f 4) _ good)) in
-      ap not (some-none f (λ i. not (eqb (word16 (fileOf f s c T) (4 + 2 * i)) (offset_of f s (i + 1))))
-      (λ k l. ap not (eq-eqb (word16 (fileOf f s c T) (4 + 2 * k)) (offset_of f s (k + 1)) (file-offset f s c T f4.most s16.most k l))))
+      ap not (some_none f (λ i. not (eqb (word16 (file_of f s c T) (4 + 2 * i)) (offset_of f s (i + 1))))
+      (λ k l. ap not (eq-eqb (word16 (file_of f s c T) (4 + 2 * k)) (offset_of f s (k + 1)) (file-offset f s c T f4.most s16.most k l))))
 
-  none-beyond : marksBeyond (fileOf f s c T) ≡ false
-  unfolding marksBeyond
+  none-beyond : marks_beyond (file_of f s c T) ≡ false
+  unfolding marks_beyond
   none-beyond =
-      some-none 5 (λ k. someBelow 17 (λ r. someBelow 33 (λ x. beyond k r x)))
-      (λ k _. some-none 17 (λ r. someBelow 33 (λ x. beyond k r x))
-      (λ r _. some-none 33 (λ x. beyond k r x) (λ x _. not-passed (beyond k r x) (refuted k r x))))
+      some_none 5 (λ k. some_below 17 (λ r. some_below 33 (λ x. beyond k r x)))
+      (λ k _. some_none 17 (λ r. some_below 33 (λ x. beyond k r x))
+      (λ r _. some_none 33 (λ x. beyond k r x) (λ x _. not_passed (beyond k r x) (refuted k r x))))
     where
       beyond : ℕ → ℕ → ℕ → Bool
-      beyond k r x = fileTable (fileOf f s c T) k r x && not (leb x (columnsIn (fileOf f s c T)))
+      beyond k r x = file_table (file_of f s c T) k r x && not (leb x (columns_in (file_of f s c T)))
 
       refuted : (k r x : ℕ) → beyond k r x ≡ true → ⊥
       refuted k r x h =
-          let mark = and_left (fileTable (fileOf f s c T) k r x) (not (leb x (columnsIn (fileOf f s c T)))) h in
-          let out = and_right (fileTable (fileOf f s c T) k r x) (not (leb x (columnsIn (fileOf f s c T)))) h in
+          let mark = and_left (file_table (file_of f s c T) k r x) (not (leb x (columns_in (file_of f s c T)))) h in
+          let out = and_right (file_table (file_of f s c T) k r x) (not (leb x (columns_in (file_of f s c T)))) h in
           let w = within x c (counted k r x (sym (table_at k r x) ∙ mark)).column in
-          let e : leb x (columnsIn (fileOf f s c T)) ≡ true = ap (leb x) (file-head f s c T).columns ∙ le-leb x c w.most in
-          nowhere (sym (not-true (leb x (columnsIn (fileOf f s c T))) out) ∙ e)
+          let e : leb x (columns_in (file_of f s c T)) ≡ true = ap (leb x) (file-head f s c T).columns ∙ le-leb x c w.most in
+          nowhere (sym (not-true (leb x (columns_in (file_of f s c T))) out) ∙ e)
 
-  pub file-answer : readAnswer (fileOf f s c T) ≡ Done
-  unfolding readAnswer
+  pub file-answer : read_answer (file_of f s c T) ≡ Done
+  unfolding read_answer
   file-answer =
       let h = file-head f s c T in
       let n = file-length f s c T in
-      let long : leb 4 (length (fileOf f s c T)) ≡ true = le-leb 4 (length (fileOf f s c T)) (omega arith) in
-      let exact : eqb (length (fileOf f s c T)) (fileLength f s) ≡ true = eq-eqb (length (fileOf f s c T)) (fileLength f s) n in
+      let long : leb 4 (length (file_of f s c T)) ≡ true = le-leb 4 (length (file_of f s c T)) (omega arith) in
+      let exact : eqb (length (file_of f s c T)) (file_length f s) ≡ true = eq-eqb (length (file_of f s c T)) (file_length f s) n in
       rw (h.functions, h.segments, h.columns) (simp (long, good, exact, header, none-beyond))
 
-  pub file-read : read_of (fileOf f s c T) ≡ record { answer = Done; unit = unit_of f s c T }
+  pub file-read : read_of (file_of f s c T) ≡ record { answer = Done; unit = unit_of f s c T }
   unfolding read_of
   file-read =
       let h = file-head f s c T in
       rw (file-answer, h.functions, h.segments, h.columns, file-table)
 
 -- the file of a sound unit is read as the unit of its counts and marks
-pub unit-read : (u : FunctionUnit) → soundOf u ≡ true
-    → read_of (unitFile u) ≡ record { answer = Done; unit = unit_of u.functions u.segments u.columns (marked u) }
-unit-read u sound =
-    let d = sound-has u sound in
+pub unit_read : (u : FunctionUnit) → sound_of u ≡ true
+    → read_of (unit_file u) ≡ record { answer = Done; unit = unit_of u.functions u.segments u.columns (marked u) }
+unit_read u sound =
+    let d = sound_has u sound in
     file-read u.functions u.segments u.columns (marked u)
-    (and-true d.functions (and-true d.segments d.columns))
+    (and_true d.functions (and_true d.segments d.columns))
     (λ k r x m.
-    let p = marked-place u k r x m in
-    let i = inside-means u d.marks k r x m in
+    let p = marked_place u k r x m in
+    let i = inside_means u d.marks k r x m in
     record {
       tag = inside_of k u.functions p.tag1 i.0;
       segment = inside_of r u.segments p.segment1 i.1;
@@ -145,7 +145,7 @@ unit-read u sound =
 pub written_read : (u : FunctionUnit) → WrittenRead u
 unfolding unit_of
 written_read u sound =
-    let e = unit-read u sound in
+    let e = unit_read u sound in
     record {
       accepted = ap (λ o. o.answer) e;
       functions = ap (λ o. o.unit.functions) e;
@@ -154,8 +154,8 @@ written_read u sound =
       marks =
           ap (λ o. marked o.unit) e
           ∙ unit-of-table u.functions u.segments u.columns (marked u) (λ q r k m.
-          let p = marked-place u q r k m in
-          somewhere-of q r k p.tag1 p.tag4 p.segment1 p.segment16 p.column1 p.column32);
+          let p = marked_place u q r k m in
+          somewhere_of q r k p.tag1 p.tag4 p.segment1 p.segment16 p.column1 p.column32);
       plan = ap (λ o. o.unit.plan) e;
     }
 
@@ -163,49 +163,49 @@ written_read u sound =
 
 -- accepted bytes are as long as a file, and their header is good
 record Parts (b : List ℕ) : Type 0 where
-  pub size : length b ≡ fileLength (functionsIn b) (segmentsIn b)
-  pub header : goodHeader b ≡ true
+  pub size : length b ≡ file_length (functions_in b) (segments_in b)
+  pub header : good_header b ≡ true
 
-accepted-parts : (b : List ℕ) → readAnswer b ≡ Done → Parts b
-unfolding readAnswer
-accepted-parts b e =
-    let e1 = check-next (leb 4 (length b)) BadLength _ e in
-    let e2 = check-next (goodCounts (functionsIn b) (segmentsIn b) (columnsIn b)) NotSound _ e1 in
-    let e3 = check-next (eqb (length b) (fileLength (functionsIn b) (segmentsIn b))) BadLength _ e2 in
+accepted_parts : (b : List ℕ) → read_answer b ≡ Done → Parts b
+unfolding read_answer
+accepted_parts b e =
+    let e1 = check_next (leb 4 (length b)) BadLength _ e in
+    let e2 = check_next (good_counts (functions_in b) (segments_in b) (columns_in b)) NotSound _ e1 in
+    let e3 = check_next (eqb (length b) (file_length (functions_in b) (segments_in b))) BadLength _ e2 in
     record {
-      size = eqb-true (length b) (fileLength (functionsIn b) (segmentsIn b)) (check-ok (eqb (length b) (fileLength (functionsIn b) (segmentsIn b))) BadLength _ e2);
-      header = check-ok (goodHeader b) BadHeader _ e3;
+      size = eqb-true (length b) (file_length (functions_in b) (segments_in b)) (check_ok (eqb (length b) (file_length (functions_in b) (segments_in b))) BadLength _ e2);
+      header = check_ok (good_header b) BadHeader _ e3;
     }
 
 -- byte 3 and the offsets of a good header
-header-last : (b : List ℕ) → goodHeader b ≡ true → byteIn b 3 ≡ 0
-unfolding goodHeader
-header-last b h = eqb-true (byteIn b 3) 0 (and_left (eqb (byteIn b 3) 0) _ h)
+header_last : (b : List ℕ) → good_header b ≡ true → byte_in b 3 ≡ 0
+unfolding good_header
+header_last b h = eqb-true (byte_in b 3) 0 (and_left (eqb (byte_in b 3) 0) _ h)
 
-header-offset : (b : List ℕ) → goodHeader b ≡ true → (k : ℕ) → k < functionsIn b
-    → word16 b (4 + 2 * k) ≡ offset_of (functionsIn b) (segmentsIn b) (k + 1)
-unfolding goodHeader
-header-offset b h k l =
-    eqb-true (word16 b (4 + 2 * k)) (offset_of (functionsIn b) (segmentsIn b) (k + 1))
-    (by-test (eqb (word16 b (4 + 2 * k)) (offset_of (functionsIn b) (segmentsIn b) (k + 1))) (λ e. e)
-    (λ e. nowhere (sym (not-true (someBelow (functionsIn b) wrong) (and_right (eqb (byteIn b 3) 0) _ h)) ∙ some-intro (functionsIn b) wrong k l (ap not e))))
+header_offset : (b : List ℕ) → good_header b ≡ true → (k : ℕ) → k < functions_in b
+    → word16 b (4 + 2 * k) ≡ offset_of (functions_in b) (segments_in b) (k + 1)
+unfolding good_header
+header_offset b h k l =
+    eqb-true (word16 b (4 + 2 * k)) (offset_of (functions_in b) (segments_in b) (k + 1))
+    (by_test (eqb (word16 b (4 + 2 * k)) (offset_of (functions_in b) (segments_in b) (k + 1))) (λ e. e)
+    (λ e. nowhere (sym (not-true (some_below (functions_in b) wrong) (and_right (eqb (byte_in b 3) 0) _ h)) ∙ some_intro (functions_in b) wrong k l (ap not e))))
   where
     wrong : ℕ → Bool
-    wrong i = not (eqb (word16 b (4 + 2 * i)) (offset_of (functionsIn b) (segmentsIn b) (i + 1)))
+    wrong i = not (eqb (word16 b (4 + 2 * i)) (offset_of (functions_in b) (segments_in b) (i + 1)))
 
 -- the word of a segment is made of the marks that it says
-word-said : (b : List ℕ) → Bytes b → (k r : ℕ) → k < functionsIn b → r < segmentsIn b
-    → word32 b (4 + 2 * functionsIn b + 4 * segmentsIn b * k + 4 * r) ≡ segmentWord (fileTable b) (k + 1) (r + 1)
-unfolding fileTable
-word-said b small k r h l =
-    same_bits 32 (word32 b at) (segmentWord (fileTable b) (k + 1) (r + 1)) below (word_lt 32 marks)
+word_said : (b : List ℕ) → Bytes b → (k r : ℕ) → k < functions_in b → r < segments_in b
+    → word32 b (4 + 2 * functions_in b + 4 * segments_in b * k + 4 * r) ≡ segment_word (file_table b) (k + 1) (r + 1)
+unfolding file_table
+word_said b small k r h l =
+    same_bits 32 (word32 b at) (segment_word (file_table b) (k + 1) (r + 1)) below (word_lt 32 marks)
     (λ j m. sym (word_set 32 marks j m ∙ mark j m))
   where
     at : ℕ
-    at = 4 + 2 * functionsIn b + 4 * segmentsIn b * k + 4 * r
+    at = 4 + 2 * functions_in b + 4 * segments_in b * k + 4 * r
 
     marks : ℕ → Bool
-    marks i = fileTable b (k + 1) (r + 1) (i + 1)
+    marks i = file_table b (k + 1) (r + 1) (i + 1)
 
     below : word32 b at < 2 ^ 32
     below = let s0 = small at in let s1 = small (at + 1) in let s2 = small (at + 2) in let s3 = small (at + 2 + 1) in omega arith
@@ -216,8 +216,8 @@ word-said b small k r h l =
         let er : r + 1 - 1 ≡ r = omega arith in
         let ej : j + 1 - 1 ≡ j = omega arith in
         simp (
-          inside_of (k + 1) (functionsIn b) (omega arith) (omega arith),
-          inside_of (r + 1) (segmentsIn b) (omega arith) (omega arith),
+          inside_of (k + 1) (functions_in b) (omega arith) (omega arith),
+          inside_of (r + 1) (segments_in b) (omega arith) (omega arith),
           inside_of (j + 1) 32 (omega arith) (omega arith),
           ek,
           er,
@@ -225,17 +225,17 @@ word-said b small k r h l =
         )
 
 -- bytes that are read as a unit are the file of what they say
-said-written : (b : List ℕ) → Bytes b → readAnswer b ≡ Done → fileOf (functionsIn b) (segmentsIn b) (columnsIn b) (fileTable b) ≡ b
-said-written b small e =
-    let a = accepted-parts b e in
-    sym (file-of b (functionsIn b) (segmentsIn b) (columnsIn b) (fileTable b) a.size small
-    (record { functions = refl; segments = refl; columns = refl; last = header-last b a.header })
-    (header-offset b a.header) (word-said b small))
+said_written : (b : List ℕ) → Bytes b → read_answer b ≡ Done → file_of (functions_in b) (segments_in b) (columns_in b) (file_table b) ≡ b
+said_written b small e =
+    let a = accepted_parts b e in
+    sym (file-of b (functions_in b) (segments_in b) (columns_in b) (file_table b) a.size small
+    (record { functions = refl; segments = refl; columns = refl; last = header_last b a.header })
+    (header_offset b a.header) (word_said b small))
 
-pub read-written : (file : List ℕ) → ReadWritten file
+pub read_written : (file : List ℕ) → ReadWritten file
 unfolding unit_of
-read-written file small e =
+read_written file small e =
     let a = accepted file e in
-    ap (λ o. unitFile o.unit) a.unit
-    ∙ ap (fileOf (functionsIn file) (segmentsIn file) (columnsIn file)) a.table
-    ∙ said-written file small e
+    ap (λ o. unit_file o.unit) a.unit
+    ∙ ap (file_of (functions_in file) (segments_in file) (columns_in file)) a.table
+    ∙ said_written file small e

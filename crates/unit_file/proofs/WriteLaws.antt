@@ -10,96 +10,96 @@ use borrow.Rule.Slice.PartMut.{mid_of, put_mid}
 use lib.ListN.{length, get_or, length-append}
 use Rattle.words.specs.Bits.{is_set}
 use Rattle.words.proofs.BelowLaws.{word_same}
-use Rattle.words.proofs.JoinLaws.{join-same}
+use Rattle.words.proofs.JoinLaws.{join_same}
 use Rattle.unit.specs.declared.FunctionUnit.{FunctionUnit}
 use Rattle.unit.specs.declared.Refusal.TheVariants.{NotSound, ShortOutput}
 use Rattle.unit.specs.Table.{Table}
-use Rattle.unit.specs.Unit.{marked, columnsOf, soundOf}
-use Rattle.unit.proofs.Laws.{within, sound-has}
-use Rattle.unit.proofs.ColumnLaws.{columns-marked}
+use Rattle.unit.specs.Unit.{marked, columns_of, sound_of}
+use Rattle.unit.proofs.Laws.{within, sound_has}
+use Rattle.unit.proofs.ColumnLaws.{columns_marked}
 use Rattle.unit_file.specs.declared.Written.TheVariants as Written
-use Rattle.unit_file.specs.File.{bytes16, bytes32, offset_of, fileLength, segmentWord, tableBytes, offsetBytes, fileOf}
-use Rattle.unit_file.specs.InnerWrite.{inFront, inFrom, headBytes, Counts, afterTables, columnMark, columnsWord, columnsBytes, tablesBytes}
-use Rattle.unit_file.specs.Write.{unitFile, writeRefusal, writeAnswer, writeOut}
-use Rattle.unit_file.proofs.FrontLaws.{part-back, front-more}
-use Rattle.unit_file.proofs.FileLaws.{offsets-size}
+use Rattle.unit_file.specs.File.{bytes16, bytes32, offset_of, file_length, segment_word, table_bytes, offset_bytes, file_of}
+use Rattle.unit_file.specs.InnerWrite.{in_front, in_from, head_bytes, Counts, after_tables, column_mark, columns_word, columns_bytes, tables_bytes}
+use Rattle.unit_file.specs.Write.{unit_file, write_refusal, write_answer, write_out}
+use Rattle.unit_file.proofs.FrontLaws.{part_back, front_more}
+use Rattle.unit_file.proofs.FileLaws.{offsets_size}
 
 -- the table after the first k has room
-pub table-room : (f s k room : ℕ) → fileLength f s ≤ room → k < f → 4 + 2 * f + 4 * s * k + 4 * s ≤ room
-table-room f s k room h l =
+pub table_room : (f s k room : ℕ) → file_length f s ≤ room → k < f → 4 + 2 * f + 4 * s * k + 4 * s ≤ room
+table_room f s k room h l =
     let m : 4 * s * suc k ≤ 4 * s * f = mul-le-mul_left (4 * s) l in
     omega (arith, mul-suc (4 * s) k)
 
 -- it begins where its offset says
-pub start-offset : (f s k : ℕ) → afterTables f s k ≡ offset_of f s (k + 1)
-start-offset f s k = let e : k ≡ k + 1 - 1 = omega arith in ap (λ i. 4 + 2 * f + 4 * s * i) e
+pub start_offset : (f s k : ℕ) → after_tables f s k ≡ offset_of f s (k + 1)
+start_offset f s k = let e : k ≡ k + 1 - 1 = omega arith in ap (λ i. 4 + 2 * f + 4 * s * i) e
 
 -- The lists that the loops write
 
 -- where the table after the first k begins, as bytes
-abbrev pub offsetAt : ℕ → ℕ → ℕ → List ℕ
-offsetAt f s k = bytes16 (offset_of f s (k + 1))
+abbrev pub offset_at : ℕ → ℕ → ℕ → List ℕ
+offset_at f s k = bytes16 (offset_of f s (k + 1))
 
 -- the bytes of segment r
-abbrev pub segmentBytes : List ℕ → ℕ → List ℕ
-segmentBytes columns r = bytes32 (columnsWord columns r)
+abbrev pub segment_bytes : List ℕ → ℕ → List ℕ
+segment_bytes columns r = bytes32 (columns_word columns r)
 
 -- the table after the first k
 abbrev pub table_at : Table → ℕ → ℕ → List ℕ
-table_at T s k = tableBytes T s (k + 1)
+table_at T s k = table_bytes T s (k + 1)
 
 -- a table from the columns of a unit is the table of its marks
-pub columns-table : (u : FunctionUnit) (q s : ℕ) → 1 ≤ q → q ≤ 4 → s ≤ 16 → columnsBytes (columnsOf u q) s ≡ tableBytes (marked u) s q
-unfolding columnsBytes tableBytes
-columns-table u q s q1 q4 s16 =
-    join-same s (λ r. bytes32 (columnsWord (columnsOf u q) r)) (λ r. bytes32 (segmentWord (marked u) q (r + 1)))
-    (λ r l. ap bytes32 (word_same 32 (columnMark (columnsOf u q) r) (λ i. marked u q (r + 1) (i + 1))
+pub columns_table : (u : FunctionUnit) (q s : ℕ) → 1 ≤ q → q ≤ 4 → s ≤ 16 → columns_bytes (columns_of u q) s ≡ table_bytes (marked u) s q
+unfolding columns_bytes table_bytes
+columns_table u q s q1 q4 s16 =
+    join_same s (λ r. bytes32 (columns_word (columns_of u q) r)) (λ r. bytes32 (segment_word (marked u) q (r + 1)))
+    (λ r l. ap bytes32 (word_same 32 (column_mark (columns_of u q) r) (λ i. marked u q (r + 1) (i + 1))
     (λ i m. one r i (omega arith) m)))
   where
-    one : (r i : ℕ) → r < 16 → i < 32 → is_set (get_or (columnsOf u q) i 0) r ≡ marked u q (r + 1) (i + 1)
+    one : (r i : ℕ) → r < 16 → i < 32 → is_set (get_or (columns_of u q) i 0) r ≡ marked u q (r + 1) (i + 1)
     one r i l m =
         let a : r + 1 - 1 ≡ r = omega arith in
         let b : i + 1 - 1 ≡ i = omega arith in
-        sym (columns-marked u q (r + 1) (i + 1) q1 q4 (omega arith) (omega arith) (omega arith) (omega arith)
-        ∙ ap₂ (λ (j k : ℕ). is_set (get_or (columnsOf u q) j 0) k) b a)
+        sym (columns_marked u q (r + 1) (i + 1) q1 q4 (omega arith) (omega arith) (omega arith) (omega arith)
+        ∙ ap₂ (λ (j k : ℕ). is_set (get_or (columns_of u q) j 0) k) b a)
 
 -- The file's parts, one behind the other
 
 module _ (u : FunctionUnit) (b headed part all : List ℕ) where
-  pub written : 4 ≤ length headed → headed ≡ inFront (headBytes u.functions u.segments u.columns) b
-      → part ≡ inFront (offsetBytes u.functions u.segments) (mid_of 4 (length headed - 4) headed)
-      → all ≡ inFrom (4 + 2 * u.functions) (tablesBytes (marked u) u.segments u.functions) (put_mid 4 (length headed - 4) headed part)
-      → all ≡ inFront (unitFile u) b
-  unfolding fileOf tablesBytes
+  pub written : 4 ≤ length headed → headed ≡ in_front (head_bytes u.functions u.segments u.columns) b
+      → part ≡ in_front (offset_bytes u.functions u.segments) (mid_of 4 (length headed - 4) headed)
+      → all ≡ in_from (4 + 2 * u.functions) (tables_bytes (marked u) u.segments u.functions) (put_mid 4 (length headed - 4) headed part)
+      → all ≡ in_front (unit_file u) b
+  unfolding file_of tables_bytes
   written h one two three =
-      let head = headBytes u.functions u.segments u.columns in
-      let offsets = offsetBytes u.functions u.segments in
-      let tables = tablesBytes (marked u) u.segments u.functions in
+      let head = head_bytes u.functions u.segments u.columns in
+      let offsets = offset_bytes u.functions u.segments in
+      let tables = tables_bytes (marked u) u.segments u.functions in
       three
-      ∙ ap (inFrom (4 + 2 * u.functions) tables)
-      (part-back 4 offsets headed part h two ∙ ap (inFrom 4 offsets) one ∙ front-more 4 head offsets b refl)
-      ∙ front-more (4 + 2 * u.functions) (head ++ offsets) tables b (length-append head offsets ∙ ap (λ k. 4 + k) (offsets-size u.functions u.segments))
+      ∙ ap (in_from (4 + 2 * u.functions) tables)
+      (part_back 4 offsets headed part h two ∙ ap (in_from 4 offsets) one ∙ front_more 4 head offsets b refl)
+      ∙ front_more (4 + 2 * u.functions) (head ++ offsets) tables b (length-append head offsets ∙ ap (λ k. 4 + k) (offsets_size u.functions u.segments))
 
 -- How a call ends
 
-pub sound-counts : (u : FunctionUnit) → soundOf u ≡ true → Counts u.functions u.segments
-sound-counts u e =
-    let d = sound-has u e in
+pub sound_counts : (u : FunctionUnit) → sound_of u ≡ true → Counts u.functions u.segments
+sound_counts u e =
+    let d = sound_has u e in
     record { functions = (within u.functions 4 d.functions).most; segments = (within u.segments 16 d.segments).most }
 
 module _ (u : FunctionUnit) (b : List ℕ) where
-  pub ends-unsound : soundOf u ≡ false → (Written.Refused NotSound ≡ writeAnswer u (length b)) × (b ≡ writeOut u b)
-  unfolding writeAnswer writeOut writeRefusal
+  pub ends-unsound : sound_of u ≡ false → (Written.Refused NotSound ≡ write_answer u (length b)) × (b ≡ write_out u b)
+  unfolding write_answer write_out write_refusal
   ends-unsound e = (simp e, simp e)
 
-  pub ends-short : soundOf u ≡ true → length b < fileLength u.functions u.segments
-      → (Written.Refused ShortOutput ≡ writeAnswer u (length b)) × (b ≡ writeOut u b)
-  unfolding writeAnswer writeOut writeRefusal
-  ends-short e h = let l = lt-leb (fileLength u.functions u.segments) (length b) h in (simp (e, l), simp (e, l))
+  pub ends_short : sound_of u ≡ true → length b < file_length u.functions u.segments
+      → (Written.Refused ShortOutput ≡ write_answer u (length b)) × (b ≡ write_out u b)
+  unfolding write_answer write_out write_refusal
+  ends_short e h = let l = lt-leb (file_length u.functions u.segments) (length b) h in (simp (e, l), simp (e, l))
 
-  pub ends-written : (size : ℕ) (out : List ℕ) → soundOf u ≡ true → size ≡ fileLength u.functions u.segments → size ≤ length b
-      → out ≡ inFront (unitFile u) b → (Written.Length size ≡ writeAnswer u (length b)) × (out ≡ writeOut u b)
-  unfolding writeAnswer writeOut writeRefusal
+  pub ends-written : (size : ℕ) (out : List ℕ) → sound_of u ≡ true → size ≡ file_length u.functions u.segments → size ≤ length b
+      → out ≡ in_front (unit_file u) b → (Written.Length size ≡ write_answer u (length b)) × (out ≡ write_out u b)
+  unfolding write_answer write_out write_refusal
   ends-written size out e n h w =
-      let l = le-leb (fileLength u.functions u.segments) (length b) (omega arith) in
+      let l = le-leb (file_length u.functions u.segments) (length b) (omega arith) in
       (rw (e, l) (ap Written.Length n), rw (e, l) w)

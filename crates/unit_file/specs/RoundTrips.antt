@@ -3,10 +3,10 @@ use Rattle.std.specs.Prelude.{ℕ, ◌<◌, ◌≡◌, true, List}
 use Rattle.unit.specs.declared.FunctionUnit.{FunctionUnit}
 use Rattle.unit.specs.declared.Outcome.{Outcome}
 use Rattle.unit.specs.declared.Answer.TheVariants.{Done}
-use Rattle.unit.specs.Unit.{marked, soundOf}
-use Rattle.unit.specs.Calls.{noPlan}
-use Rattle.unit_file.specs.Read.{byteIn, readAnswer, read_of}
-use Rattle.unit_file.specs.Write.{unitFile}
+use Rattle.unit.specs.Unit.{marked, sound_of}
+use Rattle.unit.specs.Calls.{no_plan}
+use Rattle.unit_file.specs.Read.{byte_in, read_answer, read_of}
+use Rattle.unit_file.specs.Write.{unit_file}
 
 -- the same counts and marks, and no plan
 pub record Same (u : FunctionUnit) (back : Outcome) : Type 0 where
@@ -15,12 +15,12 @@ pub record Same (u : FunctionUnit) (back : Outcome) : Type 0 where
   pub segments : back.unit.segments ≡ u.segments
   pub columns : back.unit.columns ≡ u.columns
   pub marks : marked back.unit ≡ marked u
-  pub plan : back.unit.plan ≡ noPlan
+  pub plan : back.unit.plan ≡ no_plan
 
 -- written and read back
 abbrev pub WrittenRead : FunctionUnit → Type 0
-WrittenRead u = soundOf u ≡ true → Same u (read_of (unitFile u))
+WrittenRead u = sound_of u ≡ true → Same u (read_of (unit_file u))
 
 -- an accepted file, read and written, is the same bytes
 abbrev pub ReadWritten : List ℕ → Type 0
-ReadWritten file = ((i : ℕ) → byteIn file i < 256) → readAnswer file ≡ Done → unitFile (read_of file).unit ≡ file
+ReadWritten file = ((i : ℕ) → byte_in file i < 256) → read_answer file ≡ Done → unit_file (read_of file).unit ≡ file

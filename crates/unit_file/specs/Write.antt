@@ -4,34 +4,34 @@ use Rattle.unit.specs.declared.FunctionUnit.{FunctionUnit}
 use Rattle.unit.specs.declared.Refusal.TheVariants.{NotSound, ShortOutput}
 use Rattle.unit.specs.declared.Answer.{Answer}
 use Rattle.unit.specs.declared.Answer.TheVariants.{Done, Refused}
-use Rattle.unit.specs.Unit.{marked, soundOf}
+use Rattle.unit.specs.Unit.{marked, sound_of}
 use Rattle.unit.specs.Calls.{check}
 use Rattle.unit_file.specs.declared.Written.{Written}
 use Rattle.unit_file.specs.declared.Written.TheVariants as Written
-use Rattle.unit_file.specs.File.{fileLength, fileOf}
+use Rattle.unit_file.specs.File.{file_length, file_of}
 
 -- a unit's file; a plan is not written
-abbrev pub unitFile : FunctionUnit → List ℕ
-unitFile u = fileOf u.functions u.segments u.columns (marked u)
+abbrev pub unit_file : FunctionUnit → List ℕ
+unit_file u = file_of u.functions u.segments u.columns (marked u)
 
 -- 1, then 6 where the lent bytes are fewer than the file's
-unfoldable pub writeRefusal : FunctionUnit → ℕ → Answer
-writeRefusal u room =
-    check (soundOf u) NotSound
-    (check (leb (fileLength u.functions u.segments) room) ShortOutput Done)
+unfoldable pub write_refusal : FunctionUnit → ℕ → Answer
+write_refusal u room =
+    check (sound_of u) NotSound
+    (check (leb (file_length u.functions u.segments) room) ShortOutput Done)
 
 -- the file's length
-abbrev pub lengthAnswer : Answer → ℕ → Written
-lengthAnswer Done n = Written.Length n
-lengthAnswer (Refused why) n = Written.Refused why
+abbrev pub length_answer : Answer → ℕ → Written
+length_answer Done n = Written.Length n
+length_answer (Refused why) n = Written.Refused why
 
-unfoldable pub writeAnswer : FunctionUnit → ℕ → Written
-writeAnswer u room = lengthAnswer (writeRefusal u room) (fileLength u.functions u.segments)
+unfoldable pub write_answer : FunctionUnit → ℕ → Written
+write_answer u room = length_answer (write_refusal u room) (file_length u.functions u.segments)
 
 -- the file fills the front of the lent bytes, the others stay as before; a refused call changes none
-abbrev pub fileInFront : Answer → List ℕ → List ℕ → List ℕ
-fileInFront Done file bytes = file ++ drop (length file) bytes
-fileInFront (Refused why) file bytes = bytes
+abbrev pub file_in_front : Answer → List ℕ → List ℕ → List ℕ
+file_in_front Done file bytes = file ++ drop (length file) bytes
+file_in_front (Refused why) file bytes = bytes
 
-unfoldable pub writeOut : FunctionUnit → List ℕ → List ℕ
-writeOut u bytes = fileInFront (writeRefusal u (length bytes)) (unitFile u) bytes
+unfoldable pub write_out : FunctionUnit → List ℕ → List ℕ
+write_out u bytes = file_in_front (write_refusal u (length bytes)) (unit_file u) bytes

@@ -1,9 +1,9 @@
 // Reads a unit from a file.
 ghost use Rattle.std.specs.Prelude.{◌≡◌, ◌+◌, ◌≤◌, length};
 ghost use Rattle.unit.specs.Calls.{unit_of};
-ghost use Rattle.unit_file.specs.File.{offset_of, fileLength};
-ghost use Rattle.unit_file.specs.Read.{functionsIn, segmentsIn, columnsIn, word16, word32, fileTable, goodHeader, marksBeyond, readAnswer, read_of};
-ghost use Rattle.unit_file.specs.InnerRead.{Counted, Whole, Clean, TagIn, ColumnIn, bodyAnswer, columnWord, unitBefore};
+ghost use Rattle.unit_file.specs.File.{offset_of, file_length};
+ghost use Rattle.unit_file.specs.Read.{functions_in, segments_in, columns_in, word16, word32, file_table, good_header, marks_beyond, read_answer, read_of};
+ghost use Rattle.unit_file.specs.InnerRead.{Counted, Whole, Clean, TagIn, ColumnIn, body_answer, column_word, unit_before};
 
 use unit::{Answer, FunctionUnit, Outcome, Refusal, Tag};
 
@@ -28,7 +28,7 @@ fn word_at(file: &[u8], at: usize) -> u32
 // How long a file of these counts is.
 fn whole_length(file: &[u8]) -> usize
     requires { Counted file.now }
-    ensures { result ≡ fileLength (functionsIn file.now) (segmentsIn file.now) }
+    ensures { result ≡ file_length (functions_in file.now) (segments_in file.now) }
 {
     let functions = file[0] as usize;
     let segments = file[1] as usize;
@@ -38,7 +38,7 @@ fn whole_length(file: &[u8]) -> usize
 // Where the table of a tag begins.
 fn table_at(file: &[u8], tag: u8) -> usize
     requires { Counted file.now × TagIn file.now tag }
-    ensures { result ≡ offset_of (functionsIn file.now) (segmentsIn file.now) tag }
+    ensures { result ≡ offset_of (functions_in file.now) (segments_in file.now) tag }
 {
     let functions = file[0] as usize;
     let segments = file[1] as usize;
@@ -48,7 +48,7 @@ fn table_at(file: &[u8], tag: u8) -> usize
 // Whether byte 3 is zero and each offset says where its table begins.
 fn header_is_good(file: &[u8]) -> bool
     requires { Whole file.now }
-    ensures { result ≡ goodHeader file.now }
+    ensures { result ≡ good_header file.now }
 {
     if file[3] != 0 {
         return false;
@@ -68,7 +68,7 @@ fn header_is_good(file: &[u8]) -> bool
 // Whether some word of the tables, which stand one after the other, has a bit beyond the columns.
 fn has_marks_beyond(file: &[u8]) -> bool
     requires { Whole file.now }
-    ensures { result ≡ marksBeyond file.now }
+    ensures { result ≡ marks_beyond file.now }
 {
     let functions = file[0] as usize;
     let segments = file[1] as usize;
@@ -88,7 +88,7 @@ fn has_marks_beyond(file: &[u8]) -> bool
 // What is tried of a file whose counts are good: its length, its header, its marks.
 fn check_body(file: &[u8]) -> Answer
     requires { Counted file.now }
-    ensures { result ≡ bodyAnswer file.now }
+    ensures { result ≡ body_answer file.now }
 {
     if file.len() != whole_length(file) {
         return Answer::Refused(Refusal::BadLength);
@@ -104,7 +104,7 @@ fn check_body(file: &[u8]) -> Answer
 
 // Whether the file says a unit.
 fn check_file(file: &[u8]) -> Answer
-    ensures { result ≡ readAnswer file.now }
+    ensures { result ≡ read_answer file.now }
 {
     if 4 <= file.len() {
         let made = unit::fresh(file[0], file[1], file[2]);
@@ -121,7 +121,7 @@ fn check_file(file: &[u8]) -> Answer
 // The marks of a function in one column, bit r - 1 for segment r: a bit of each word of its table.
 fn column_word(file: &[u8], tag: u8, column: u8) -> u16
     requires { Whole file.now × TagIn file.now tag × ColumnIn file.now column }
-    ensures { result ≡ columnWord file.now tag column }
+    ensures { result ≡ column_word file.now tag column }
 {
     let segments = file[1];
     let first = table_at(file, tag);
@@ -139,8 +139,8 @@ fn column_word(file: &[u8], tag: u8, column: u8) -> u16
 
 // Gives a function its columns in turn.
 fn fill_function(u: FunctionUnit, file: &[u8], tag: u8) -> FunctionUnit
-    requires { Clean file.now × TagIn file.now tag × (u ≡ unitBefore file.now tag 1) }
-    ensures { result ≡ unitBefore file.now (tag + 1) 1 }
+    requires { Clean file.now × TagIn file.now tag × (u ≡ unit_before file.now tag 1) }
+    ensures { result ≡ unit_before file.now (tag + 1) 1 }
 {
     let columns = file[2];
     let mut unit = u;
@@ -158,7 +158,7 @@ fn fill_function(u: FunctionUnit, file: &[u8], tag: u8) -> FunctionUnit
 // Gives each function its columns.
 fn fill(file: &[u8]) -> FunctionUnit
     requires { Clean file.now }
-    ensures { result ≡ unit_of (functionsIn file.now) (segmentsIn file.now) (columnsIn file.now) (fileTable file.now) }
+    ensures { result ≡ unit_of (functions_in file.now) (segments_in file.now) (columns_in file.now) (file_table file.now) }
 {
     let functions = file[0];
     let made = unit::fresh(functions, file[1], file[2]);

@@ -3,9 +3,9 @@
 ghost use Rattle.std.specs.Prelude.{◌≡◌, ◌+◌, ◌*◌, ◌≤◌, length};
 ghost use Rattle.words.specs.Bits.{is_set};
 ghost use Rattle.unit.specs.Unit.{marked};
-ghost use Rattle.unit_file.specs.File.{bytes16, bytes32, offsetBytes, fileLength};
-ghost use Rattle.unit_file.specs.InnerWrite.{inFront, inFrom, headBytes, Counts, afterTables, columnsWord, columnsBytes, tablesBytes};
-ghost use Rattle.unit_file.specs.Write.{writeAnswer, writeOut};
+ghost use Rattle.unit_file.specs.File.{bytes16, bytes32, offset_bytes, file_length};
+ghost use Rattle.unit_file.specs.InnerWrite.{in_front, in_from, head_bytes, Counts, after_tables, columns_word, columns_bytes, tables_bytes};
+ghost use Rattle.unit_file.specs.Write.{write_answer, write_out};
 
 use unit::{FunctionUnit, Refusal, Tag};
 use unit_file::Written;
@@ -19,7 +19,7 @@ fn has_mark(word: u16, segment: u8) -> bool
 
 // The word of a segment, counted from 0: bit c - 1 for column c, from the words of the columns.
 fn segment_word(columns: [u16; 32], segment: u8) -> u32
-    ensures { result ≡ columnsWord columns segment }
+    ensures { result ≡ columns_word columns segment }
 {
     let mut word: u32 = 0;
     let mut column: usize = 0;
@@ -35,7 +35,7 @@ fn segment_word(columns: [u16; 32], segment: u8) -> u32
 // Writes a word of 16 bits, the lowest byte first.
 fn put_half(out: &mut [u8], half: u16)
     requires { 2 ≤ length out.old }
-    ensures { out.new ≡ inFront (bytes16 half) out.old }
+    ensures { out.new ≡ in_front (bytes16 half) out.old }
 {
     out[0] = (half % 256) as u8;
     out[1] = (half / 256 % 256) as u8;
@@ -44,7 +44,7 @@ fn put_half(out: &mut [u8], half: u16)
 // Writes a word of 32 bits, the lowest byte first.
 fn put_word(out: &mut [u8], word: u32)
     requires { 4 ≤ length out.old }
-    ensures { out.new ≡ inFront (bytes32 word) out.old }
+    ensures { out.new ≡ in_front (bytes32 word) out.old }
 {
     out[0] = (word % 256) as u8;
     out[1] = (word / 256 % 256) as u8;
@@ -56,7 +56,7 @@ fn put_word(out: &mut [u8], word: u32)
 fn table_start(functions: u8, segments: u8, before: u8) -> usize
     requires counts { Counts functions segments }
     requires before_bound { before ≤ 4 }
-    ensures { result ≡ afterTables functions segments before }
+    ensures { result ≡ after_tables functions segments before }
 {
     4 + 2 * (functions as usize) + 4 * (segments as usize) * (before as usize)
 }
@@ -64,7 +64,7 @@ fn table_start(functions: u8, segments: u8, before: u8) -> usize
 // Writes the counts.
 fn write_header(out: &mut [u8], functions: u8, segments: u8, columns: u8)
     requires { 4 ≤ length out.old }
-    ensures { out.new ≡ inFront (headBytes functions segments columns) out.old }
+    ensures { out.new ≡ in_front (head_bytes functions segments columns) out.old }
 {
     out[0] = functions;
     out[1] = segments;
@@ -76,7 +76,7 @@ fn write_header(out: &mut [u8], functions: u8, segments: u8, columns: u8)
 fn write_offsets(out: &mut [u8], functions: u8, segments: u8)
     requires counts { Counts functions segments }
     requires functions_in_bounds { 2 * functions ≤ length out.old }
-    ensures { out.new ≡ inFront (offsetBytes functions segments) out.old }
+    ensures { out.new ≡ in_front (offset_bytes functions segments) out.old }
 {
     let mut before: u8 = 0;
     while before < functions {
@@ -90,7 +90,7 @@ fn write_offsets(out: &mut [u8], functions: u8, segments: u8)
 // Writes a table: the words of a function's segments, from its columns.
 fn write_table(out: &mut [u8], columns: [u16; 32], segments: u8)
     requires { 4 * segments ≤ length out.old }
-    ensures { out.new ≡ inFront (columnsBytes columns segments) out.old }
+    ensures { out.new ≡ in_front (columns_bytes columns segments) out.old }
 {
     let mut segment: u8 = 0;
     while segment < segments {
@@ -104,8 +104,8 @@ fn write_table(out: &mut [u8], columns: [u16; 32], segments: u8)
 // Writes the tables: each function's words go in from that function's offset onward.
 fn write_tables(out: &mut [u8], u: FunctionUnit)
     requires counts { Counts u.functions u.segments }
-    requires segments_in_bounds { fileLength u.functions u.segments ≤ length out.old }
-    ensures { out.new ≡ inFrom (4 + 2 * u.functions) (tablesBytes (marked u) u.segments u.functions) out.old }
+    requires segments_in_bounds { file_length u.functions u.segments ≤ length out.old }
+    ensures { out.new ≡ in_from (4 + 2 * u.functions) (tables_bytes (marked u) u.segments u.functions) out.old }
 {
     let functions = u.functions;
     let segments = u.segments;
@@ -120,8 +120,8 @@ fn write_tables(out: &mut [u8], u: FunctionUnit)
 
 // Writes the file of the unit to the front of the lent bytes; the others stay as before.
 pub fn write(u: FunctionUnit, out: &mut [u8]) -> Written
-    ensures value { result ≡ writeAnswer u (length out.old) }
-    ensures out_after { out.new ≡ writeOut u out.old }
+    ensures value { result ≡ write_answer u (length out.old) }
+    ensures out_after { out.new ≡ write_out u out.old }
 {
     if !unit::sound(u) {
         return Written::Refused(Refusal::NotSound);

@@ -20,21 +20,21 @@ pub and_right : (a b : Bool) → a && b ≡ true → b ≡ true
 and_right true b e = e
 and_right false b e = nowhere e
 
-pub and-true : {a b : Bool} → a ≡ true → b ≡ true → a && b ≡ true
-and-true {a} {b} p q = rw (p, q)
+pub and_true : {a b : Bool} → a ≡ true → b ≡ true → a && b ≡ true
+and_true {a} {b} p q = rw (p, q)
 
 -- the second part counts only where the first holds
-pub and-cong : (a b d : Bool) → (a ≡ true → b ≡ d) → a && b ≡ a && d
-and-cong true b d h = h refl
-and-cong false b d h = refl
+pub and_cong : (a b d : Bool) → (a ≡ true → b ≡ d) → a && b ≡ a && d
+and_cong true b d h = h refl
+and_cong false b d h = refl
 
 pub or_cases : (a b : Bool) → a || b ≡ true → (a ≡ true) ⊎ (b ≡ true)
 or_cases true b e = inl refl
 or_cases false b e = inr e
 
-pub or-true-left : (a b : Bool) → a ≡ true → a || b ≡ true
-or-true-left true b e = refl
-or-true-left false b e = nowhere e
+pub or_true_left : (a b : Bool) → a ≡ true → a || b ≡ true
+or_true_left true b e = refl
+or_true_left false b e = nowhere e
 
 pub or_true_right : (a b : Bool) → b ≡ true → a || b ≡ true
 or_true_right true b e = refl
@@ -46,14 +46,14 @@ same_test true b f g = sym (f refl)
 same_test false true f g = g refl
 same_test false false f g = refl
 
-pub not-passed : (a : Bool) → (a ≡ true → ⊥) → a ≡ false
-not-passed true f = absurd (f refl)
-not-passed false f = refl
+pub not_passed : (a : Bool) → (a ≡ true → ⊥) → a ≡ false
+not_passed true f = absurd (f refl)
+not_passed false f = refl
 
 -- what holds of both outcomes, each with its test
-pub by-test : {A : Type 0} (b : Bool) → (b ≡ true → A) → (b ≡ false → A) → A
-by-test true f h = f refl
-by-test false f h = h refl
+pub by_test : {A : Type 0} (b : Bool) → (b ≡ true → A) → (b ≡ false → A) → A
+by_test true f h = f refl
+by_test false f h = h refl
 
 pub cond_same : {A : Type 0} (t : Bool) (x : A) → cond t x x ≡ x
 cond_same true x = refl
@@ -75,14 +75,14 @@ on {a} {b} n e = by a b n e
     by false b n e = sym e ∙ sym n
 
 -- two numbers tested for one value are equal where they are 0 or 1
-pub same-eqb : (x y n : ℕ) → x ≡ y → eqb x n ≡ eqb y n
-same-eqb x y n e = ap (λ k. eqb k n) e
+pub same_eqb : (x y n : ℕ) → x ≡ y → eqb x n ≡ eqb y n
+same_eqb x y n e = ap (λ k. eqb k n) e
 
 -- Tests as types
 
-pub cond-elim : {A : Type 0} (P : A → Type 0) (b : Bool) (x y : A) → (T b → P x) → (T (not b) → P y) → P (cond b x y)
-cond-elim P true x y f h = f tt
-cond-elim P false x y f h = h tt
+pub cond_elim : {A : Type 0} (P : A → Type 0) (b : Bool) (x y : A) → (T b → P x) → (T (not b) → P y) → P (cond b x y)
+cond_elim P true x y f h = f tt
+cond_elim P false x y f h = h tt
 
 pub both : (a b : Bool) → T (a && b) → T a × T b
 both true b h = (tt, h)
@@ -96,9 +96,9 @@ pub or_else : (a b : Bool) → T (a || b) → T (not a) → T b
 or_else true b h k = absurd k
 or_else false b h k = h
 
-pub or-intro : (a b : Bool) → (T (not a) → T b) → T (a || b)
-or-intro true b f = tt
-or-intro false b f = f tt
+pub or_intro : (a b : Bool) → (T (not a) → T b) → T (a || b)
+or_intro true b f = tt
+or_intro false b f = f tt
 
 pub or_elim : {P : Type 0} (a b : Bool) → T (a || b) → (T a → P) → (T b → P) → P
 or_elim true b h f k = f tt
@@ -112,12 +112,12 @@ pub or_right : (a b : Bool) → T b → T (a || b)
 or_right true b h = tt
 or_right false b h = h
 
-pub clash-not : (b : Bool) → T b → T (not b) → ⊥
-clash-not true h k = k
-clash-not false h k = h
+pub clash_not : (b : Bool) → T b → T (not b) → ⊥
+clash_not true h k = k
+clash_not false h k = h
 
-pub true-T : {b : Bool} → b ≡ true → T b
-true-T e = subst T (sym e) tt
+pub true_T : {b : Bool} → b ≡ true → T b
+true_T e = subst T (sym e) tt
 
 pub T_true : (b : Bool) → T b → b ≡ true
 T_true true h = refl

@@ -10,14 +10,14 @@ use native.Mathlib.Omega.{arith}
 use borrow.Author.Tests.{eq-eqb, ne_eqb}
 use lib.Count.{count_trailing_zeros, under}
 use lib.Pow.{shr-shr}
-use Rattle.words.specs.Bits.{bit, is_set, zeroFrom}
-use Rattle.words.specs.Below.{leastFrom}
-use Rattle.words.proofs.BitLaws.{bit-above, zero-unset}
-use Rattle.words.proofs.BelowLaws.{least_first, least-skips, least-le}
+use Rattle.words.specs.Bits.{bit, is_set, zero_from}
+use Rattle.words.specs.Below.{least_from}
+use Rattle.words.proofs.BitLaws.{bit_above, zero_unset}
+use Rattle.words.proofs.BelowLaws.{least_first, least_skips, least_le}
 
-pub zero-beyond : (w k : ℕ) → 32 ≤ k → k ≡ zeroFrom w k
-unfolding zeroFrom leastFrom
-zero-beyond w k h = let e : 32 - k ≡ 0 = omega arith in rw e
+pub zero_beyond : (w k : ℕ) → 32 ≤ k → k ≡ zero_from w k
+unfolding zero_from least_from
+zero_beyond w k h = let e : 32 - k ≡ 0 = omega arith in rw e
 
 parity : (x : ℕ) → (x % 2 ≡ 0) ⊎ (x % 2 ≡ 1)
 parity x = go (x % 2) (omega arith)
@@ -27,23 +27,23 @@ parity x = go (x % 2) (omega arith)
     go (suc zero) h = inr refl
     go (suc (suc r)) h = absurd (omega arith)
 
-pub carry-zeros : (n k m w : ℕ) → w < 2 ^ (m + n) → n < k
-    → m + count_trailing_zeros k (w / 2 ^ m + 1) ≡ leastFrom n m (λ i. not (is_set w i))
-unfolding count_trailing_zeros leastFrom
-carry-zeros n zero m w h l = absurd (not-suc-le-zero l)
-carry-zeros zero (suc k) m w h l =
+pub carry_zeros : (n k m w : ℕ) → w < 2 ^ (m + n) → n < k
+    → m + count_trailing_zeros k (w / 2 ^ m + 1) ≡ least_from n m (λ i. not (is_set w i))
+unfolding count_trailing_zeros least_from
+carry_zeros n zero m w h l = absurd (not-suc-le-zero l)
+carry_zeros zero (suc k) m w h l =
     let z : w / 2 ^ m ≡ 0 = div-eq_of_lt (rw (add-zero m) at h) in
     rw z (add-zero m)
-carry-zeros (suc n) (suc k) m w h l =
+carry_zeros (suc n) (suc k) m w h l =
     let s : m + suc n ≡ suc m + n = omega arith in
-    go (parity (w / 2 ^ m)) (carry-zeros n k (suc m) w (rw s at h) (le_of_suc-le-suc l))
+    go (parity (w / 2 ^ m)) (carry_zeros n k (suc m) w (rw s at h) (le_of_suc-le-suc l))
   where
     next : w / 2 ^ m / 2 ≡ w / 2 ^ suc m
     next = shr-shr w m 1 ∙ ap (λ j. w / 2 ^ j) (add-one m)
 
     go : (w / 2 ^ m % 2 ≡ 0) ⊎ (w / 2 ^ m % 2 ≡ 1)
-        → suc m + count_trailing_zeros k (w / 2 ^ suc m + 1) ≡ leastFrom n (suc m) (λ i. not (is_set w i))
-        → m + under ((w / 2 ^ m + 1) % 2) (count_trailing_zeros k ((w / 2 ^ m + 1) / 2)) ≡ cond (not (is_set w m)) m (leastFrom n (suc m) (λ i. not (is_set w i)))
+        → suc m + count_trailing_zeros k (w / 2 ^ suc m + 1) ≡ least_from n (suc m) (λ i. not (is_set w i))
+        → m + under ((w / 2 ^ m + 1) % 2) (count_trailing_zeros k ((w / 2 ^ m + 1) / 2)) ≡ cond (not (is_set w m)) m (least_from n (suc m) (λ i. not (is_set w i)))
     go (inl e) rest =
         let odd : (w / 2 ^ m + 1) % 2 ≡ 1 = omega arith in
         let off : is_set w m ≡ false = ne_eqb (w / 2 ^ m % 2) 1 (λ q. absurd (omega arith)) in
@@ -54,56 +54,56 @@ carry-zeros (suc n) (suc k) m w h l =
         let half : (w / 2 ^ m + 1) / 2 ≡ w / 2 ^ suc m + 1 = omega (arith, next) in
         rw (even, on, half) (omega (arith, rest))
 
-pub zero-carried : (w k : ℕ) → w < 2 ^ 32 → k < 32 → k + count_trailing_zeros 64 (w / 2 ^ k + 1) ≡ zeroFrom w k
-unfolding zeroFrom
-zero-carried w k h l =
+pub zero_carried : (w k : ℕ) → w < 2 ^ 32 → k < 32 → k + count_trailing_zeros 64 (w / 2 ^ k + 1) ≡ zero_from w k
+unfolding zero_from
+zero_carried w k h l =
     let e : k + (32 - k) ≡ 32 = omega arith in
-    carry-zeros (32 - k) 64 k w (rw e h) (omega arith)
+    carry_zeros (32 - k) 64 k w (rw e h) (omega arith)
 
 -- What the next 0 means
 
-pub zero-least : (w k : ℕ) → k ≤ zeroFrom w k
-unfolding zeroFrom
-zero-least w k = least_first (32 - k) k (λ i. not (is_set w i))
+pub zero_least : (w k : ℕ) → k ≤ zero_from w k
+unfolding zero_from
+zero_least w k = least_first (32 - k) k (λ i. not (is_set w i))
 
 -- all before it are 1
-pub zero-skips : (w k i : ℕ) → k ≤ i → i < zeroFrom w k → is_set w i ≡ true
-unfolding zeroFrom
-zero-skips w k i h l = not-false (is_set w i) (least-skips (32 - k) k (λ i. not (is_set w i)) i h l)
+pub zero_skips : (w k i : ℕ) → k ≤ i → i < zero_from w k → is_set w i ≡ true
+unfolding zero_from
+zero_skips w k i h l = not-false (is_set w i) (least_skips (32 - k) k (λ i. not (is_set w i)) i h l)
   where
     not-false : (b : Bool) → not b ≡ false → b ≡ true
     not-false true e = refl
     not-false false e = sym e
 
 -- a word of n bits has only zeros from n on
-pub zero-most : (w n k : ℕ) → w < 2 ^ n → zeroFrom w k ≤ max k n
-unfolding zeroFrom
-zero-most w n k h =
-    least-le (32 - k) k (λ i. not (is_set w i)) (max k n) (omega arith)
-    (ap not (zero-unset w (max k n) (bit-above w n (max k n) h (omega arith))))
+pub zero_most : (w n k : ℕ) → w < 2 ^ n → zero_from w k ≤ max k n
+unfolding zero_from
+zero_most w n k h =
+    least_le (32 - k) k (λ i. not (is_set w i)) (max k n) (omega arith)
+    (ap not (zero_unset w (max k n) (bit_above w n (max k n) h (omega arith))))
 
 -- the test passes at the least number that passes it, if that is one of those tried
-least-inside : (n m : ℕ) (f : ℕ → Bool) → leastFrom n m f < m + n → f (leastFrom n m f) ≡ true
-unfolding leastFrom
-least-inside zero m f h = absurd (omega arith)
-least-inside (suc n) m f h = go (f m) refl h (λ l. least-inside n (suc m) f l)
+least_inside : (n m : ℕ) (f : ℕ → Bool) → least_from n m f < m + n → f (least_from n m f) ≡ true
+unfolding least_from
+least_inside zero m f h = absurd (omega arith)
+least_inside (suc n) m f h = go (f m) refl h (λ l. least_inside n (suc m) f l)
   where
-    go : (b : Bool) → f m ≡ b → cond b m (leastFrom n (suc m) f) < m + suc n
-        → (leastFrom n (suc m) f < suc m + n → f (leastFrom n (suc m) f) ≡ true) → f (cond b m (leastFrom n (suc m) f)) ≡ true
+    go : (b : Bool) → f m ≡ b → cond b m (least_from n (suc m) f) < m + suc n
+        → (least_from n (suc m) f < suc m + n → f (least_from n (suc m) f) ≡ true) → f (cond b m (least_from n (suc m) f)) ≡ true
     go true e l rest = e
     go false e l rest = rest (omega arith)
 
 -- and it is 0
-pub zero_clear : (w k : ℕ) → w < 2 ^ 32 → is_set w (zeroFrom w k) ≡ false
-unfolding zeroFrom
-zero_clear w k h = go (dec_lt (leastFrom (32 - k) k (λ i. not (is_set w i))) 32)
+pub zero_clear : (w k : ℕ) → w < 2 ^ 32 → is_set w (zero_from w k) ≡ false
+unfolding zero_from
+zero_clear w k h = go (dec_lt (least_from (32 - k) k (λ i. not (is_set w i))) 32)
   where
     not-true : (b : Bool) → not b ≡ true → b ≡ false
     not-true true e = sym e
     not-true false e = refl
 
-    go : Dec (leastFrom (32 - k) k (λ i. not (is_set w i)) < 32) → is_set w (leastFrom (32 - k) k (λ i. not (is_set w i))) ≡ false
+    go : Dec (least_from (32 - k) k (λ i. not (is_set w i)) < 32) → is_set w (least_from (32 - k) k (λ i. not (is_set w i))) ≡ false
     go (yes l) =
-        not-true (is_set w (leastFrom (32 - k) k (λ i. not (is_set w i)))) (least-inside (32 - k) k (λ i. not (is_set w i))
+        not-true (is_set w (least_from (32 - k) k (λ i. not (is_set w i)))) (least_inside (32 - k) k (λ i. not (is_set w i))
         (omega (arith, least_first (32 - k) k (λ i. not (is_set w i)))))
-    go (no l) = zero-unset w _ (bit-above w 32 _ h (omega arith))
+    go (no l) = zero_unset w _ (bit_above w 32 _ h (omega arith))

@@ -2,8 +2,8 @@
 // within a range. Bit 0 is the lowest.
 // Every function here is proved, total and without a `requires`; the crate assumes nothing of its own.
 ghost use Rattle.std.specs.Prelude.{◌≡◌, ◌/◌, ◌%◌, ◌^◌};
-ghost use Rattle.words.specs.Bits.{is_set, setBit, clearBit, zeroFrom};
-ghost use Rattle.words.specs.Below.{inside, countBelow};
+ghost use Rattle.words.specs.Bits.{is_set, set_bit, clear_bit, zero_from};
+ghost use Rattle.words.specs.Below.{inside, count_below};
 ghost use Rattle.words.specs.Bytes.{narrow};
 
 // Whether the bit at the index is 1. A word has no 1 from index 32 on.
@@ -18,7 +18,7 @@ pub fn test(word: u32, index: u32) -> bool
 
 // The word with a 1 at the index. From index 32 on there is no bit to set, and the word stays.
 pub fn set(word: u32, index: u32) -> u32
-    ensures { result ≡ setBit word index }
+    ensures { result ≡ set_bit word index }
 {
     if 32 <= index {
         return word;
@@ -28,7 +28,7 @@ pub fn set(word: u32, index: u32) -> u32
 
 // The word with a 0 at the index.
 pub fn clear(word: u32, index: u32) -> u32
-    ensures { result ≡ clearBit word index }
+    ensures { result ≡ clear_bit word index }
 {
     if 32 <= index {
         return word;
@@ -46,14 +46,14 @@ pub fn shift(word: u32, places: u32) -> u32
 
 // How many bits of the word are 1.
 pub fn ones(word: u32) -> u32
-    ensures { result ≡ countBelow 32 (is_set word) }
+    ensures { result ≡ count_below 32 (is_set word) }
 {
     u32::count_ones(word)
 }
 
 // The least index from a given one on at which the word has a 0, in one step: the ones from there on are the zeros that a carry leaves.
 pub fn zero_from(word: u32, from: u32) -> u32
-    ensures { result ≡ zeroFrom word from }
+    ensures { result ≡ zero_from word from }
 {
     if 32 <= from {
         return from;

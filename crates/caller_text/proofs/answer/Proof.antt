@@ -1,5 +1,5 @@
 -- `caller_text::answer` meets its contract: by what is done. Assumes nothing.
-use Rattle.caller_text.proofs.TellLaws.{shared-by}
+use Rattle.caller_text.proofs.TellLaws.{shared_by}
 use borrow.Author.Rules.{rules}
 use Rattle.caller_text.proofs.answer.Statement.{statement}
 use Rattle.caller_text.proofs.answer.Tie as tie
@@ -28,7 +28,7 @@ same_length c = search rules
 returns : tie.Need-returns
 returns c =
     let a = c.before.before.before.before.before.before.before.args in
-    shared-by a.session a.request c.before.before.before.before.enum_told.given.1 c.before.before.«open».ensures
+    shared_by a.session a.request c.before.before.before.before.enum_told.given.1 c.before.before.«open».ensures
 
 same-length-2 : tie.Need-same-length-2
 same-length-2 c = search rules
@@ -36,7 +36,7 @@ same-length-2 c = search rules
 returns-2 : tie.Need-returns-2
 returns-2 c =
     let a = c.before.before.before.before.before.before.before.args in
-    shared-by a.session a.request c.before.before.before.before.enum-told2.given.1 c.before.before.call.ensures
+    shared_by a.session a.request c.before.before.before.before.enum-told2.given.1 c.before.before.call.ensures
 
 same-length-3 : tie.Need-same-length-3
 same-length-3 c = search rules
@@ -44,7 +44,7 @@ same-length-3 c = search rules
 returns-3 : tie.Need-returns-3
 returns-3 c =
     let a = c.before.before.before.before.before.before.before.args in
-    shared-by a.session a.request c.before.before.before.before.enum-told3.given.1 c.before.before.turn.ensures
+    shared_by a.session a.request c.before.before.before.before.enum-told3.given.1 c.before.before.turn.ensures
 
 pub answer-spec : {M : Type 1} → statement M
 answer-spec =

@@ -1,5 +1,5 @@
 -- `caller_text::call` meets its contract. Assumes nothing.
-use Rattle.caller_text.proofs.TellLaws.{called-as}
+use Rattle.caller_text.proofs.TellLaws.{called_as}
 use borrow.Author.Rules.{rules}
 use Rattle.caller_text.proofs.call.Statement.{statement}
 use Rattle.caller_text.proofs.call.Tie as tie
@@ -29,7 +29,7 @@ returns c =
     let tag = calls.before in
     let caller = tag.before in
     let a = c.before.before.before.before.before.before.before.before.before.before.before.before.before.before.args in
-    called-as a.session a.request caller.byte.ensures tag.byte2.ensures calls.call.ensures told.put-answer.ensures c.with-port.ensures
+    called_as a.session a.request caller.byte.ensures tag.byte2.ensures calls.call.ensures told.put-answer.ensures c.with-port.ensures
 
 pub call-spec : {M : Type 1} → statement M
 call-spec =

@@ -1,5 +1,5 @@
 -- `caller_text::open` meets its contract. Assumes nothing.
-use Rattle.caller_text.proofs.TellLaws.{opened-as}
+use Rattle.caller_text.proofs.TellLaws.{opened_as}
 use borrow.Author.Rules.{rules}
 use Rattle.caller_text.proofs.open.Statement.{statement}
 use Rattle.caller_text.proofs.open.Tie as tie
@@ -33,7 +33,7 @@ returns c =
     let some = tested.before in
     let byte = some.before in
     let a = c.before.before.before.before.before.before.before.before.before.before.before.before.before.args in
-    opened-as a.session a.request byte.byte.ensures some.is-inside.ensures tested.tested.ensures told.put-answer.ensures
+    opened_as a.session a.request byte.byte.ensures some.is-inside.ensures tested.tested.ensures told.put-answer.ensures
     then.shared-then.ensures c.with-port.ensures
 
 pub open_spec : {M : Type 1} → statement M

@@ -1,7 +1,7 @@
 -- `caller_text::put_served` meets its contract: by what the time unit did. Assumes nothing.
 use mathlib.Core.Path.{sym, ap}
 use Rattle.session.proofs.LineLaws.{line_as}
-use Rattle.caller_text.specs.Told.{servedLine}
+use Rattle.caller_text.specs.Told.{served_line}
 use borrow.Author.Rules.{rules}
 use Rattle.caller_text.proofs.put_served.Statement.{statement}
 use Rattle.caller_text.proofs.put_served.Tie as tie
@@ -31,21 +31,21 @@ same_length : tie.Need-same-length
 same_length c = search rules
 
 returns : tie.Need-returns
-returns c = line_as (ap servedLine (sym c.before.before.before.before.before.served.given.1)) c.before.before.put-started.ensures
+returns c = line_as (ap served_line (sym c.before.before.before.before.before.served.given.1)) c.before.before.put-started.ensures
 
 same-length-2 : tie.Need-same-length-2
 same-length-2 c = search rules
 
 returns-2 : tie.Need-returns-2
 returns-2 c =
-    line_as (ap servedLine (sym c.before.before.before.before.before.enum_told.given.1))
+    line_as (ap served_line (sym c.before.before.before.before.before.enum_told.given.1))
     record { next = c.before.before.put.ensures.0; out = c.before.before.put.ensures.1 }
 
 same-length-3 : tie.Need-same-length-3
 same-length-3 c = search rules
 
 returns-3 : tie.Need-returns-3
-returns-3 c = line_as (ap servedLine (sym c.before.before.before.before.before.served2.given.1)) c.before.before.put-answer.ensures
+returns-3 c = line_as (ap served_line (sym c.before.before.before.before.before.served2.given.1)) c.before.before.put-answer.ensures
 
 pub put-served-spec : {M : Type 1} → statement M
 put-served-spec =

@@ -9,7 +9,7 @@ use lib.ListN.{get_or}
 use mathlib.Core.Bool.{Bool}
 use mathlib.Core.List.{List}
 use Rattle.callers.specs.Queues.{room, count_of}
-use Rattle.callers.proofs.EachLaws.{Upto, upto-none, upto-more, each-upto, each-false}
+use Rattle.callers.proofs.EachLaws.{Upto, upto_none, upto_more, each_upto, each_false}
 use Rattle.callers.proofs.all_few.Statement.{statement}
 use Rattle.callers.proofs.all_few.Tie as tie
 
@@ -24,7 +24,7 @@ abbrev decreases-loop : tie.decreases-loop
 decreases-loop callers counts place₀ place = callers - place
 
 loop-holds : tie.Need-loop-init invariant-loop decreases-loop
-loop-holds c = (upto-none (λ i. leb (count_of c.args.t1 i) room), search rules)
+loop-holds c = (upto_none (λ i. leb (count_of c.args.t1 i) room), search rules)
 
 mul-if1 : tie.Need-overflow-mul-if1 invariant-loop decreases-loop
 mul-if1 c = search rules
@@ -35,7 +35,7 @@ array-read-if1 c = omega (arith, c.loop-test.true, c.before.before.requires)
 returns : tie.Need-returns invariant-loop decreases-loop
 returns c =
     let p = c.before.before.loop.place in
-    sym (each-false c.before.before.before.args.callers (λ i. leb (count_of c.before.before.before.args.t1 i) room) p c.before.loop-test.true
+    sym (each_false c.before.before.before.args.callers (λ i. leb (count_of c.before.before.before.args.t1 i) room) p c.before.loop-test.true
     (same_place c.before.before.before.args.t1 p (lt-leb _ _ c.if1.true)))
 
 add-place : tie.Need-overflow-add-place invariant-loop decreases-loop
@@ -48,7 +48,7 @@ loop-again : tie.Need-loop-preserved invariant-loop decreases-loop
 loop-again c =
     let p = c.before.before.loop.place in
     let counts = c.before.before.before.args.t1 in (
-      upto-more (λ i. leb (count_of counts i) room) p c.before.before.loop.invariant.0 (same_place counts p (le-leb _ _ c.if1.false)),
+      upto_more (λ i. leb (count_of counts i) room) p c.before.before.loop.invariant.0 (same_place counts p (le-leb _ _ c.if1.false)),
       search rules,
     )
 
@@ -56,7 +56,7 @@ returns-2 : tie.Need-returns-2 invariant-loop decreases-loop
 returns-2 c =
     let a = c.before.before.args in
     let e : c.before.loop.place ≡ a.callers = omega (arith, c.loop-test.false, c.before.loop.invariant.1) in
-    sym (each-upto a.callers (λ i. leb (count_of a.t1 i) room) (subst (Upto (λ i. leb (count_of a.t1 i) room)) e c.before.loop.invariant.0))
+    sym (each_upto a.callers (λ i. leb (count_of a.t1 i) room) (subst (Upto (λ i. leb (count_of a.t1 i) room)) e c.before.loop.invariant.0))
 
 pub all-few-spec : {M : Type 1} → statement M
 all-few-spec =

@@ -10,20 +10,20 @@ use lib.Dec.{leb}
 use lib.ListN.{get_or, take, drop}
 use Rattle.unit.proofs.Laws.{inside_of}
 use Rattle.queue.specs.declared.Waiting.{Waiting}
-use Rattle.queue.specs.Line.{tagsInside}
+use Rattle.queue.specs.Line.{tags_inside}
 use Rattle.callers.specs.Queues.{room, place_of, count_of}
-use Rattle.callers.proofs.EachLaws.{Upto, upto-none, upto-more, each-upto, each-false, each_at}
+use Rattle.callers.proofs.EachLaws.{Upto, upto_none, upto_more, each_upto, each_false, each_at}
 use Rattle.callers.proofs.all_fit.Statement.{statement}
 use Rattle.callers.proofs.all_fit.Tie as tie
 
 abbrev fitsAt : ℕ → List Waiting → List ℕ → ℕ → Bool
-fitsAt f list counts i = tagsInside f (take (count_of counts i) (drop (place_of i) list))
+fitsAt f list counts i = tags_inside f (take (count_of counts i) (drop (place_of i) list))
 
 -- the caller at a place
-same_place : (f : ℕ) (list : List Waiting) (counts : List ℕ) (p : ℕ) {b : Bool} → tagsInside f (take (get_or counts p 0) (drop (8 * p) list)) ≡ b → fitsAt f list counts (p + 1) ≡ b
+same_place : (f : ℕ) (list : List Waiting) (counts : List ℕ) (p : ℕ) {b : Bool} → tags_inside f (take (get_or counts p 0) (drop (8 * p) list)) ≡ b → fitsAt f list counts (p + 1) ≡ b
 same_place f list counts p e =
     let s : p + 1 - 1 ≡ p = omega arith in
-    ap (λ (k : ℕ). tagsInside f (take (get_or counts k 0) (drop (8 * k) list))) s ∙ e
+    ap (λ (k : ℕ). tags_inside f (take (get_or counts k 0) (drop (8 * k) list))) s ∙ e
 
 abbrev invariant-loop : tie.invariant-loop
 invariant-loop list callers functions counts place₀ place = Upto (fitsAt functions list counts) place × (place ≤ callers)
@@ -32,7 +32,7 @@ abbrev decreases-loop : tie.decreases-loop
 decreases-loop list callers functions counts place₀ place = callers - place
 
 loop-holds : tie.Need-loop-init invariant-loop decreases-loop
-loop-holds c = (upto-none (fitsAt c.args.functions c.args.list c.args.t2), search rules)
+loop-holds c = (upto_none (fitsAt c.args.functions c.args.list c.args.t2), search rules)
 
 mul-fits-from : tie.Need-overflow-mul-fits-from invariant-loop decreases-loop
 mul-fits-from c = search rules
@@ -56,7 +56,7 @@ returns : tie.Need-returns invariant-loop decreases-loop
 returns c =
     let p = c.before.before.before.loop.place in
     let a = c.before.before.before.before.args in
-    sym (each-false a.callers (fitsAt a.functions a.list a.t2) p c.before.before.loop-test.true
+    sym (each_false a.callers (fitsAt a.functions a.list a.t2) p c.before.before.loop-test.true
     (same_place a.functions a.list a.t2 p (sym c.before.fits-from.ensures ∙ not-true _ c.if1.true)))
 
 add-place : tie.Need-overflow-add-place invariant-loop decreases-loop
@@ -69,7 +69,7 @@ loop-again : tie.Need-loop-preserved invariant-loop decreases-loop
 loop-again c =
     let p = c.before.before.before.loop.place in
     let a = c.before.before.before.before.args in (
-      upto-more (fitsAt a.functions a.list a.t2) p c.before.before.before.loop.invariant.0
+      upto_more (fitsAt a.functions a.list a.t2) p c.before.before.before.loop.invariant.0
           (same_place a.functions a.list a.t2 p (sym c.before.fits-from.ensures ∙ not-false _ c.if1.false)),
       search rules,
     )
@@ -78,7 +78,7 @@ returns-2 : tie.Need-returns-2 invariant-loop decreases-loop
 returns-2 c =
     let a = c.before.before.args in
     let e : c.before.loop.place ≡ a.callers = omega (arith, c.loop-test.false, c.before.loop.invariant.1) in
-    sym (each-upto a.callers (fitsAt a.functions a.list a.t2) (subst (Upto (fitsAt a.functions a.list a.t2)) e c.before.loop.invariant.0))
+    sym (each_upto a.callers (fitsAt a.functions a.list a.t2) (subst (Upto (fitsAt a.functions a.list a.t2)) e c.before.loop.invariant.0))
 
 pub all-fit-spec : {M : Type 1} → statement M
 all-fit-spec =

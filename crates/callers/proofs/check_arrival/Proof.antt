@@ -8,13 +8,13 @@ use lib.ListN.{take, drop}
 use Rattle.unit.specs.declared.Refusal.TheVariants.{NotSound, NoSuchTag, ShortOutput, TooManyWait, NoSuchCaller}
 use Rattle.unit.specs.declared.Answer.{Answer}
 use Rattle.unit.specs.declared.Answer.TheVariants.{Done}
-use Rattle.unit.specs.Unit.{inside, soundOf}
-use Rattle.unit.specs.Calls.{testedBy}
-use Rattle.unit.proofs.TestLaws.{two-tests, six-tests}
-use Rattle.queue.specs.Line.{tagsInside}
+use Rattle.unit.specs.Unit.{inside, sound_of}
+use Rattle.unit.specs.Calls.{tested_by}
+use Rattle.unit.proofs.TestLaws.{two_tests, six_tests}
+use Rattle.queue.specs.Line.{tags_inside}
 use Rattle.callers.specs.Queues.{room}
 use Rattle.callers.specs.Calls.{one_of}
-use Rattle.callers.proofs.TestedLaws.{placed, arrival-tests}
+use Rattle.callers.proofs.TestedLaws.{placed, arrival_tests}
 use borrow.Author.Rules.{rules}
 use Rattle.callers.proofs.check_arrival.Statement.{statement}
 use Rattle.callers.proofs.check_arrival.Tie as tie
@@ -68,26 +68,26 @@ returns c =
     let known = place.before in
     let sound = known.before in
     let a = sound.before.args in
-    let fits = cond (leb a.count room) (tagsInside a.u.functions (take a.count (drop (placed a.caller) a.list))) true in
+    let fits = cond (leb a.count room) (tags_inside a.u.functions (take a.count (drop (placed a.caller) a.list))) true in
     c.tested6.ensures
-    ∙ ap₂ (λ (x : Answer) (y : Bool). testedBy x y NoSuchTag)
+    ∙ ap₂ (λ (x : Answer) (y : Bool). tested_by x y NoSuchTag)
     (t5.tested5.ensures
-    ∙ ap (λ (x : Answer). testedBy x (ltb a.count 8) TooManyWait)
+    ∙ ap (λ (x : Answer). tested_by x (ltb a.count 8) TooManyWait)
     (t4.tested4.ensures
-    ∙ ap₂ (λ (x : Answer) (y : Bool). testedBy x y NoSuchTag)
+    ∙ ap₂ (λ (x : Answer) (y : Bool). tested_by x y NoSuchTag)
     (t3.tested3.ensures
-    ∙ ap₂ (λ (x : Answer) (k : ℕ). testedBy x (leb (k + 8) a.length) ShortOutput)
+    ∙ ap₂ (λ (x : Answer) (k : ℕ). tested_by x (leb (k + 8) a.length) ShortOutput)
     (t2.tested2.ensures
-    ∙ ap₂ (λ (x : Answer) (y : Bool). testedBy x y NoSuchCaller)
-    (t1.tested.ensures ∙ ap (λ (y : Bool). testedBy Done y NotSound) sound.sound.ensures)
+    ∙ ap₂ (λ (x : Answer) (y : Bool). tested_by x y NoSuchCaller)
+    (t1.tested.ensures ∙ ap (λ (y : Bool). tested_by Done y NotSound) sound.sound.ensures)
     known.named.ensures
-    ∙ two-tests (soundOf a.u) (one_of a.callers a.caller) NotSound NoSuchCaller)
+    ∙ two_tests (sound_of a.u) (one_of a.callers a.caller) NotSound NoSuchCaller)
     place.place-of.ensures.0)
     tag.is-inside.ensures))
-    (fit.own-fit.ensures ∙ ap (λ (k : ℕ). cond (leb a.count room) (tagsInside a.u.functions (take a.count (drop k a.list))) true) place.place-of.ensures.0)
-    ∙ six-tests (soundOf a.u) (one_of a.callers a.caller) (leb (placed a.caller + 8) a.length) (inside a.tag a.u.functions) (ltb a.count 8) fits
+    (fit.own-fit.ensures ∙ ap (λ (k : ℕ). cond (leb a.count room) (tags_inside a.u.functions (take a.count (drop k a.list))) true) place.place-of.ensures.0)
+    ∙ six_tests (sound_of a.u) (one_of a.callers a.caller) (leb (placed a.caller + 8) a.length) (inside a.tag a.u.functions) (ltb a.count 8) fits
     NotSound NoSuchCaller ShortOutput NoSuchTag TooManyWait NoSuchTag
-    ∙ arrival-tests a.u a.callers a.caller a.length a.list a.count a.tag
+    ∙ arrival_tests a.u a.callers a.caller a.length a.list a.count a.tag
 
 pub check-arrival-spec : {M : Type 1} → statement M
 check-arrival-spec =

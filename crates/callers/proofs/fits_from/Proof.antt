@@ -8,40 +8,40 @@ use borrow.Author.Rules.{rules}
 use mathlib.Core.List.{List}
 use lib.ListN.{length, get_or, take, drop, length-drop}
 use lib.Seq.{take-suc, take-take, get_or-drop}
-use Rattle.words.proofs.Tests.{nowhere, by-test, and_right, and-true}
+use Rattle.words.proofs.Tests.{nowhere, by_test, and_right, and_true}
 use Rattle.unit.specs.Unit.{inside}
 use Rattle.queue.specs.declared.Waiting.{Waiting}
-use Rattle.queue.specs.Line.{noRecord, tagsInside}
-use Rattle.queue.proofs.LineLaws.{tags-one-more, tags-take}
+use Rattle.queue.specs.Line.{no_record, tags_inside}
+use Rattle.queue.proofs.LineLaws.{tags_one_more, tags_take}
 use Rattle.callers.proofs.fits_from.Statement.{statement}
 use Rattle.callers.proofs.fits_from.Tie as tie
 
 -- the record at place i is one of those that wait
 
 one_more : (f : ℕ) (list : List Waiting) (from i : ℕ) → from + i < length list
-    → tagsInside f (take (suc i) (drop from list)) ≡ tagsInside f (take i (drop from list)) && inside (get_or list (from + i) noRecord).tag f
+    → tags_inside f (take (suc i) (drop from list)) ≡ tags_inside f (take i (drop from list)) && inside (get_or list (from + i) no_record).tag f
 one_more f list from i h =
-    ap (tagsInside f) (take-suc (drop from list) i noRecord (omega (arith, length-drop from list)))
-    ∙ tags-one-more f (take i (drop from list)) (get_or (drop from list) i noRecord)
-    ∙ ap (λ (w : Waiting). tagsInside f (take i (drop from list)) && inside w.tag f) (get_or-drop from list i noRecord)
+    ap (tags_inside f) (take-suc (drop from list) i no_record (omega (arith, length-drop from list)))
+    ∙ tags_one_more f (take i (drop from list)) (get_or (drop from list) i no_record)
+    ∙ ap (λ (w : Waiting). tags_inside f (take i (drop from list)) && inside w.tag f) (get_or-drop from list i no_record)
 
-misfit : (f : ℕ) (list : List Waiting) (from i count : ℕ) → i < count → from + i < length list → inside (get_or list (from + i) noRecord).tag f ≡ false
-    → tagsInside f (take count (drop from list)) ≡ false
-misfit f list from i count l h e = by-test (tagsInside f (take count (drop from list)))
-    (λ t. nowhere (sym e ∙ and_right (tagsInside f (take i (drop from list))) _ (sym (one_more f list from i h) ∙ fewer t)))
+misfit : (f : ℕ) (list : List Waiting) (from i count : ℕ) → i < count → from + i < length list → inside (get_or list (from + i) no_record).tag f ≡ false
+    → tags_inside f (take count (drop from list)) ≡ false
+misfit f list from i count l h e = by_test (tags_inside f (take count (drop from list)))
+    (λ t. nowhere (sym e ∙ and_right (tags_inside f (take i (drop from list))) _ (sym (one_more f list from i h) ∙ fewer t)))
     (λ b. b)
   where
-    fewer : tagsInside f (take count (drop from list)) ≡ true → tagsInside f (take (suc i) (drop from list)) ≡ true
-    fewer t = ap (tagsInside f) (sym (take-take (suc i) count (drop from list) l)) ∙ tags-take f (suc i) (take count (drop from list)) t
+    fewer : tags_inside f (take count (drop from list)) ≡ true → tags_inside f (take (suc i) (drop from list)) ≡ true
+    fewer t = ap (tags_inside f) (sym (take-take (suc i) count (drop from list) l)) ∙ tags_take f (suc i) (take count (drop from list)) t
 
 abbrev invariant-loop : tie.invariant-loop
-invariant-loop from count functions list i₀ i = (tagsInside functions (take i (drop from list)) ≡ true) × (i ≤ count)
+invariant-loop from count functions list i₀ i = (tags_inside functions (take i (drop from list)) ≡ true) × (i ≤ count)
 
 abbrev decreases-loop : tie.decreases-loop
 decreases-loop from count functions list i₀ i = count - i
 
 loop-holds : tie.Need-loop-init invariant-loop decreases-loop
-unfolding tagsInside
+unfolding tags_inside
 loop-holds c = (refl, search rules)
 
 add-waiting : tie.Need-overflow-add-waiting invariant-loop decreases-loop
@@ -76,9 +76,9 @@ loop-again c =
     let n : length a.t1 ≡ 32 = search rules in
     let s : l.i + 1 ≡ suc l.i = omega arith in
     let h : a.from + l.i < length a.t1 = omega (arith, n, c.before.before.before.loop-test.true, c.before.before.before.before.before.requires) in (
-      ap (λ (k : ℕ). tagsInside a.functions (take k (drop a.from a.t1))) s
+      ap (λ (k : ℕ). tags_inside a.functions (take k (drop a.from a.t1))) s
           ∙ one_more a.functions a.t1 a.from l.i h
-          ∙ and-true l.invariant.0 (sym c.before.is-inside.ensures ∙ not-false _ c.if1.false),
+          ∙ and_true l.invariant.0 (sym c.before.is-inside.ensures ∙ not-false _ c.if1.false),
       search rules,
     )
 
@@ -86,7 +86,7 @@ returns-2 : tie.Need-returns-2 invariant-loop decreases-loop
 returns-2 c =
     let a = c.before.before.args in
     let e : c.before.loop.i ≡ a.count = omega (arith, c.loop-test.false, c.before.loop.invariant.1) in
-    sym (ap (λ (k : ℕ). tagsInside a.functions (take k (drop a.from a.t1))) (sym e) ∙ c.before.loop.invariant.0)
+    sym (ap (λ (k : ℕ). tags_inside a.functions (take k (drop a.from a.t1))) (sym e) ∙ c.before.loop.invariant.0)
 
 pub fits-from-spec : {M : Type 1} → statement M
 fits-from-spec =

@@ -7,9 +7,9 @@ use borrow.Author.Rules.{rules}
 use lib.ListN.{length, take, drop, set, get_or, length-drop, take-append-drop}
 use lib.Seq.{get_or-append-add, length-take-le}
 use Rattle.queue.specs.declared.Waiting.{Waiting}
-use Rattle.queue.specs.Line.{noRecord, forward}
+use Rattle.queue.specs.Line.{no_record, forward}
 use Rattle.queue.proofs.Shift.{shift, shift-step}
-use Rattle.callers.proofs.PartLaws.{set-append-add}
+use Rattle.callers.proofs.PartLaws.{set_append_add}
 use Rattle.callers.proofs.moved_up.Statement.{statement}
 use Rattle.callers.proofs.moved_up.Tie as tie
 
@@ -18,16 +18,16 @@ abbrev moved : List Waiting → ℕ → ℕ → List Waiting
 moved list from j = take from list ++ shift (drop from list) j
 
 moved-step : (list : List Waiting) (from j : ℕ) → from + suc j < length list
-    → set (moved list from j) (from + suc j - 1) (get_or (moved list from j) (from + suc j) noRecord) ≡ moved list from (suc j)
+    → set (moved list from j) (from + suc j - 1) (get_or (moved list from j) (from + suc j) no_record) ≡ moved list from (suc j)
 moved-step list from j h =
     let front : length (take from list) ≡ from = length-take-le from list (omega arith) in
     let place : from + suc j - 1 ≡ length (take from list) + j = omega (arith, front) in
     let next : from + suc j ≡ length (take from list) + suc j = omega (arith, front) in
-    ap (λ (k : ℕ). set (moved list from j) k (get_or (moved list from j) (from + suc j) noRecord)) place
+    ap (λ (k : ℕ). set (moved list from j) k (get_or (moved list from j) (from + suc j) no_record)) place
     ∙ ap (λ (w : Waiting). set (moved list from j) (length (take from list) + j) w)
-    (ap (λ (k : ℕ). get_or (moved list from j) k noRecord) next ∙ get_or-append-add (take from list) (shift (drop from list) j) (suc j) noRecord)
-    ∙ set-append-add (take from list) (shift (drop from list) j) j (get_or (shift (drop from list) j) (suc j) noRecord)
-    ∙ ap (λ (l : List Waiting). take from list ++ l) (shift-step (drop from list) j noRecord (omega (arith, length-drop from list)))
+    (ap (λ (k : ℕ). get_or (moved list from j) k no_record) next ∙ get_or-append-add (take from list) (shift (drop from list) j) (suc j) no_record)
+    ∙ set_append_add (take from list) (shift (drop from list) j) j (get_or (shift (drop from list) j) (suc j) no_record)
+    ∙ ap (λ (l : List Waiting). take from list ++ l) (shift-step (drop from list) j no_record (omega (arith, length-drop from list)))
 
 abbrev invariant-loop : tie.invariant-loop
 invariant-loop from count next₀ i₀ next i = (next ≡ moved next₀ from (i - 1)) × (1 ≤ i) × (i ≤ count)
@@ -73,8 +73,8 @@ loop-again c =
     let s : suc (l.i - 1) ≡ l.i = omega (arith, l.invariant.1) in
     let e : l.i + 1 - 1 ≡ suc (l.i - 1) = omega (arith, l.invariant.1) in
     let h : a.from + suc (l.i - 1) < length a.list = omega (arith, n, c.before.loop-test.true, c.before.before.before.requires.1, l.invariant.1) in (
-      ap (λ (x : List Waiting). set x (a.from + l.i - 1) (get_or x (a.from + l.i) noRecord)) l.invariant.0
-          ∙ ap (λ (k : ℕ). set (moved a.list a.from (l.i - 1)) (a.from + k - 1) (get_or (moved a.list a.from (l.i - 1)) (a.from + k) noRecord)) (sym s)
+      ap (λ (x : List Waiting). set x (a.from + l.i - 1) (get_or x (a.from + l.i) no_record)) l.invariant.0
+          ∙ ap (λ (k : ℕ). set (moved a.list a.from (l.i - 1)) (a.from + k - 1) (get_or (moved a.list a.from (l.i - 1)) (a.from + k) no_record)) (sym s)
           ∙ moved-step a.list a.from (l.i - 1) h
           ∙ ap (moved a.list a.from) (sym e),
       search rules,

@@ -1,7 +1,7 @@
 -- `callers::next_turn` meets its contract: the search goes on from each caller without work to the next (`Going`). Assumes nothing.
 use mathlib.Core.Path.{refl, sym, ◌∙◌}
 use native.Mathlib.Omega.{arith}
-use Rattle.callers.proofs.RoundLaws.{Going, going-one, going-found, going_on, going_end}
+use Rattle.callers.proofs.RoundLaws.{Going, going_one, going_found, going_on, going_end}
 use Rattle.callers.proofs.next_turn.Statement.{statement}
 use Rattle.callers.proofs.next_turn.Tie as tie
 
@@ -18,12 +18,12 @@ round-to-requires : tie.Need-round-to-requires invariant-loop decreases-loop
 round-to-requires c κs = c.before.loop.invariant.here
 
 has-work-requires : tie.Need-has-work-requires invariant-loop decreases-loop
-has-work-requires c κs = going-one c.before.before.loop.invariant c.round-to.result c.round-to.ensures
+has-work-requires c κs = going_one c.before.before.loop.invariant c.round-to.result c.round-to.ensures
 
 returns : tie.Need-returns invariant-loop decreases-loop
 returns c =
     let d = c.before.before in
-    going-found d.before.before.loop.invariant d.before.loop-test.true d.round-to.result d.round-to.ensures (sym c.before.has-work.ensures ∙ c.if1.true)
+    going_found d.before.before.loop.invariant d.before.loop-test.true d.round-to.result d.round-to.ensures (sym c.before.has-work.ensures ∙ c.if1.true)
 
 sub-left : tie.Need-overflow-sub-left invariant-loop decreases-loop
 sub-left c = omega arith

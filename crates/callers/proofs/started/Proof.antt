@@ -8,7 +8,7 @@ use native.Mathlib.Omega.{arith}
 use Rattle.callers.specs.declared.Served.TheVariants.{Started}
 use Rattle.unit.proofs.Laws.{inside_of}
 use Rattle.queue.specs.Line.{forward}
-use Rattle.callers.specs.Queues.{place_of, count_of, withCount}
+use Rattle.callers.specs.Queues.{place_of, count_of, with_count}
 use Rattle.callers.proofs.PartLaws.{forward-part}
 use borrow.Author.Rules.{rules}
 use Rattle.callers.proofs.started.Statement.{statement}
@@ -58,7 +58,7 @@ returns c =
         answer = Started a.caller a.first;
         bank = a.bank;
         turn = c.next-turn.ensures i;
-        counts = record { each = withCount a.counts.each a.caller (n - 1) };
+        counts = record { each = with_count a.counts.each a.caller (n - 1) };
       };
       records = record {
         list = (m.0

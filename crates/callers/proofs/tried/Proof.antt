@@ -2,8 +2,8 @@
 use mathlib.Core.Path.{ap, ◌∙◌, sym}
 use Rattle.controller.specs.declared.Stepped.{Stepped}
 use Rattle.controller.specs.Bank.{step_of}
-use Rattle.callers.specs.Parts.{onBy}
-use Rattle.callers.specs.Inner.{startedBy}
+use Rattle.callers.specs.Parts.{on_by}
+use Rattle.callers.specs.Inner.{started_by}
 use Rattle.callers.proofs.TryLaws.{oldest-granted, oldest-refused}
 use borrow.Author.Rules.{rules}
 use Rattle.callers.proofs.tried.Statement.{statement}
@@ -34,7 +34,7 @@ returns c =
     let a = s.args in
     let f = c.before.before.before.before.first_of in
     c.idled.ensures
-    ∙ ap (onBy a.u a.bank a.callers 0 a.records.list a.counts.each a.caller)
+    ∙ ap (on_by a.u a.bank a.callers 0 a.records.list a.counts.each a.caller)
     (oldest-refused a.u a.bank a.callers a.caller a.records.list a.counts.each s.requires f.ensures.1 f.result f.ensures.0 _
     (sym (ap (λ (x : Stepped). x.answer) c.before.before.before.step.ensures) ∙ c.before.enum_told.given.1))
 
@@ -46,8 +46,8 @@ returns-2 c =
     let f = c.before.before.before.before.before.first_of in
     let step = c.before.before.before.before.step.ensures in
     c.started.ensures
-    ∙ ap (λ (x : Stepped). startedBy a.callers a.caller f.result x.bank a.records.list a.counts.each) step
-    ∙ ap (onBy a.u a.bank a.callers 0 a.records.list a.counts.each a.caller)
+    ∙ ap (λ (x : Stepped). started_by a.callers a.caller f.result x.bank a.records.list a.counts.each) step
+    ∙ ap (on_by a.u a.bank a.callers 0 a.records.list a.counts.each a.caller)
     (oldest-granted a.u a.bank a.callers a.caller a.records.list a.counts.each s.requires f.ensures.1 f.result f.ensures.0
     (sym (ap (λ (x : Stepped). x.answer) step) ∙ c.before.before.enum-told2.given.1))
 

@@ -1,7 +1,7 @@
 -- `chart::check_chart` meets its contract. Assumes nothing.
 use mathlib.Core.Path.{sym, ◌∙◌}
 use borrow.Author.Rules.{rules}
-use Rattle.chart.proofs.ChartLaws.{refused-plan, refused-short, refused-unit}
+use Rattle.chart.proofs.ChartLaws.{refused-plan, refused_short, refused-unit}
 use Rattle.chart.proofs.check_chart.Statement.{statement}
 use Rattle.chart.proofs.check_chart.Tie as tie
 
@@ -21,7 +21,7 @@ returns : tie.Need-returns
 returns c =
     let size = c.before in
     let a = size.before.before.before.before.args in
-    refused-short a.u a.plan a.units a.room (search rules) (sym size.before.before.before.check-plan.ensures ∙ size.before.enum_told.given.1)
+    refused_short a.u a.plan a.units a.room (search rules) (sym size.before.before.before.check-plan.ensures ∙ size.before.enum_told.given.1)
     size.length-of.result size.length-of.ensures c.if1.true
 
 check-units-requires : tie.Need-check-units-requires

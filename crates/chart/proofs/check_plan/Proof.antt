@@ -1,7 +1,7 @@
 -- `chart::check_plan` meets its contract. Assumes nothing.
 use mathlib.Core.Path.{sym, ◌∙◌}
 use borrow.Author.Rules.{rules}
-use Rattle.chart.proofs.ChartLaws.{ready-plan, plan-unknown, plan-bad}
+use Rattle.chart.proofs.ChartLaws.{ready_plan, plan_unknown, plan_bad}
 use Rattle.chart.proofs.check_plan.Statement.{statement}
 use Rattle.chart.proofs.check_plan.Tie as tie
 
@@ -18,13 +18,13 @@ holds-cycle-requires : tie.Need-holds-cycle-requires
 holds-cycle-requires c κs = search rules
 
 returns : tie.Need-returns
-returns c = ready-plan _ _ (record { tag = sym c.before.before.before.before.check-tag.ensures ∙ c.before.before.enum_told.given.1; holds = sym c.before.holds-cycle.ensures ∙ c.if1.true })
+returns c = ready_plan _ _ (record { tag = sym c.before.before.before.before.check-tag.ensures ∙ c.before.before.enum_told.given.1; holds = sym c.before.holds-cycle.ensures ∙ c.if1.true })
 
 returns-2 : tie.Need-returns-2
-returns-2 c = plan-unknown _ _ _ (sym c.before.before.before.check-tag.ensures ∙ c.before.known.given.1)
+returns-2 c = plan_unknown _ _ _ (sym c.before.before.before.check-tag.ensures ∙ c.before.known.given.1)
 
 returns-3 : tie.Need-returns-3
-returns-3 c = plan-bad _ _ (sym c.before.before.before.before.check-tag.ensures ∙ c.before.before.enum_told.given.1) (sym c.before.holds-cycle.ensures ∙ c.if1.false)
+returns-3 c = plan_bad _ _ (sym c.before.before.before.before.check-tag.ensures ∙ c.before.before.enum_told.given.1) (sym c.before.holds-cycle.ensures ∙ c.if1.false)
 
 pub check-plan-spec : {M : Type 1} → statement M
 check-plan-spec =

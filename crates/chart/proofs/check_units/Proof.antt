@@ -5,13 +5,13 @@ use native.Mathlib.Nat.{le_antisymm}
 use native.Mathlib.Omega.{arith}
 use borrow.Author.Rules.{rules}
 use Rattle.unit.specs.declared.Answer.TheVariants.{Done}
-use Rattle.chart.specs.Answers.{unitsAnswer}
-use Rattle.chart.proofs.CellLaws.{At, at-start, at_next, units-none, units-accepted, units-refused}
+use Rattle.chart.specs.Answers.{units_answer}
+use Rattle.chart.proofs.CellLaws.{At, at_start, at_next, units_none, units-accepted, units-refused}
 use Rattle.chart.proofs.check_units.Statement.{statement}
 use Rattle.chart.proofs.check_units.Tie as tie
 
 abbrev invariant-loop : tie.invariant-loop
-invariant-loop u plan units position₀ bank₀ i₀ position bank i = (i ≤ units) × At u plan position bank i × (unitsAnswer u plan i ≡ Done)
+invariant-loop u plan units position₀ bank₀ i₀ position bank i = (i ≤ units) × At u plan position bank i × (units_answer u plan i ≡ Done)
 
 abbrev decreases-loop : tie.decreases-loop
 decreases-loop u plan units position₀ bank₀ i₀ position bank i = units - i
@@ -20,7 +20,7 @@ empty-bank-requires : tie.Need-empty-bank-requires invariant-loop decreases-loop
 empty-bank-requires c κs = search rules
 
 loop-holds : tie.Need-loop-init invariant-loop decreases-loop
-loop-holds c = (omega arith, at-start _ _ _ c.empty-bank.ensures, units-none _ _)
+loop-holds c = (omega arith, at_start _ _ _ c.empty-bank.ensures, units_none _ _)
 
 step-requires : tie.Need-step-requires invariant-loop decreases-loop
 step-requires c κs = search rules
@@ -54,7 +54,7 @@ loop-again c =
     )
 
 returns-2 : tie.Need-returns-2 invariant-loop decreases-loop
-returns-2 c = let l = c.before.loop in let a = c.before.before.before.args in sym (ap (unitsAnswer a.u a.plan) (le_antisymm c.loop-test.false l.invariant.0) ∙ l.invariant.2)
+returns-2 c = let l = c.before.loop in let a = c.before.before.before.args in sym (ap (units_answer a.u a.plan) (le_antisymm c.loop-test.false l.invariant.0) ∙ l.invariant.2)
 
 pub check-units-spec : {M : Type 1} → statement M
 check-units-spec =

@@ -4,7 +4,7 @@ use native.Mathlib.Omega.{arith}
 use lib.Bits.{bit_and}
 use borrow.Fn.Kinds.{In}
 use borrow.Fn.PlainCycle.{Measures, is, falls, and}
-use Rattle.clique_size.proofs.CodeLaws.{most-pruned, some_number, above-falls, and-falls, most-turn, most-fits}
+use Rattle.clique_size.proofs.CodeLaws.{most_pruned, some_number, above_falls, and_falls, most_turn, most_fits}
 use Rattle.clique_size.proofs.most_of.Reads as most-of
 use Rattle.clique_size.proofs.most_of.Kinds as most-of-kinds
 use Rattle.clique_size.proofs.+most_of.Lts-most_of as lts
@@ -46,7 +46,7 @@ ones-requires t c κs = tt
 returns : (t : ℕ) → lts.Need-returns (claims t) (given t) most-of.Post
 returns t c =
     let a = c.before.before.args in
-    most-pruned a.vector a.numbers a.least c.before.ones.result c.before.ones.ensures c.if1.true
+    most_pruned a.vector a.numbers a.least c.before.ones.result c.before.ones.ensures c.if1.true
 
 above-lowest-requires : (t : ℕ) → lts.Need-above-lowest-requires (claims t) (given t) most-of.Post
 above-lowest-requires t c κs = tt
@@ -60,7 +60,7 @@ most-of-requires t c κs =
     let s = e.before.before in
     let a = s.args in
     let above = c.before.above-lowest in
-    (and-falls a.vector a.numbers above.result t (some t e) above.ensures s.requires.0, tt)
+    (and_falls a.vector a.numbers above.result t (some t e) above.ensures s.requires.0, tt)
 
 add-with-lowest : (t : ℕ) → lts.Need-overflow-add-with-lowest (claims t) (given t) most-of.Post
 add-with-lowest t c =
@@ -69,7 +69,7 @@ add-with-lowest t c =
     let above = c.before.before.above-lowest in
     let less = c.before.one_less in
     record {
-      fits = most-fits a.vector (bit_and above.result a.vector) less.result c.most-of.result (omega (arith, less.ensures, s.ranges.least)) c.most-of.ensures;
+      fits = most_fits a.vector (bit_and above.result a.vector) less.result c.most-of.result (omega (arith, less.ensures, s.ranges.least)) c.most-of.ensures;
     }
 
 most-of-requires-2 : (t : ℕ) → lts.Need-most-of-requires-2 (claims t) (given t) most-of.Post
@@ -77,7 +77,7 @@ most-of-requires-2 t c κs =
     let e = c.before.before.before in
     let s = e.before.before in
     let above = c.before.before.above-lowest in
-    (above-falls s.args.numbers above.result t (some t e) above.ensures s.requires.0, tt)
+    (above_falls s.args.numbers above.result t (some t e) above.ensures s.requires.0, tt)
 
 returns-2 : (t : ℕ) → lts.Need-returns-2 (claims t) (given t) most-of.Post
 returns-2 t c =
@@ -87,7 +87,7 @@ returns-2 t c =
     let above = c.before.before.before.above-lowest in
     let less = c.before.before.one_less in
     let with-lowest = c.before.most-of in
-    most-turn a.vector a.numbers a.least above.result less.result with-lowest.result c.most-of2.result
+    most_turn a.vector a.numbers a.least above.result less.result with-lowest.result c.most-of2.result
     s.ranges.numbers.fits (some t e) above.ensures less.ensures with-lowest.ensures c.most-of2.ensures
 
 pub +most-of-spec : {M : Type 1} → statement M

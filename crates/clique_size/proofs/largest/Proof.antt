@@ -1,8 +1,8 @@
 -- `clique_size::largest` meets its contract. Assumes nothing.
 use native.Mathlib.Omega.{arith}
 use borrow.Author.Rules.{rules}
-use Rattle.clique_size.specs.Largest.{largestClique}
-use Rattle.clique_size.proofs.CodeLaws.{most-fits}
+use Rattle.clique_size.specs.Largest.{largest_clique}
+use Rattle.clique_size.proofs.CodeLaws.{most_fits}
 use Rattle.clique_size.proofs.largest.Statement.{statement}
 use Rattle.clique_size.proofs.largest.Tie as tie
 
@@ -10,10 +10,10 @@ most-of-requires : tie.Need-most-of-requires
 most-of-requires c κs = search rules
 
 add-result : tie.Need-overflow-add-result
-add-result c = let v = c.before.args.vector in record { fits = most-fits v v 0 c.most-of.result (omega arith) c.most-of.ensures }
+add-result c = let v = c.before.args.vector in record { fits = most_fits v v 0 c.most-of.result (omega arith) c.most-of.ensures }
 
 returns : tie.Need-returns
-unfolding largestClique
+unfolding largest_clique
 returns c = search rules
 
 pub largest-spec : {M : Type 1} → statement M

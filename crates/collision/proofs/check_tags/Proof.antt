@@ -1,6 +1,6 @@
 -- `collision::check_tags` meets its contract: the tags in turn. Assumes nothing.
 use mathlib.Core.Path.{sym, ◌∙◌}
-use Rattle.collision.proofs.AnswerLaws.{tags-one, tags-other}
+use Rattle.collision.proofs.AnswerLaws.{tags_one, tags_other}
 use borrow.Author.Rules.{rules}
 use Rattle.collision.proofs.check_tags.Statement.{statement}
 use Rattle.collision.proofs.check_tags.Tie as tie
@@ -20,12 +20,12 @@ check-tag-requires-2 c κs = search rules
 returns : tie.Need-returns
 returns c =
     let b = c.before.before.before in
-    sym (tags-one _ _ _ _ (sym b.check-tag.ensures ∙ c.before.first.given.1))
+    sym (tags_one _ _ _ _ (sym b.check-tag.ensures ∙ c.before.first.given.1))
 
 returns-2 : tie.Need-returns-2
 returns-2 c =
     let b = c.before.before.before in
-    c.check-tag2.ensures ∙ sym (tags-other _ _ _ (sym b.check-tag.ensures ∙ c.before.enum_told.given.1))
+    c.check-tag2.ensures ∙ sym (tags_other _ _ _ (sym b.check-tag.ensures ∙ c.before.enum_told.given.1))
 
 pub check-tags-spec : {M : Type 1} → statement M
 check-tags-spec =

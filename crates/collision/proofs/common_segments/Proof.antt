@@ -4,7 +4,7 @@ use mathlib.Core.Path.{◌≡◌, refl, subst}
 use native.Mathlib.Omega.{arith}
 use borrow.Author.Rules.{rules}
 use lib.ListN.{length}
-use Rattle.collision.proofs.CommonLaws.{Collected, collected-start, collected-more, collected-all}
+use Rattle.collision.proofs.CommonLaws.{Collected, collected_start, collected_more, collected_all}
 use Rattle.collision.proofs.common_segments.Statement.{statement}
 use Rattle.collision.proofs.common_segments.Tie as tie
 
@@ -18,7 +18,7 @@ padded-requires : tie.Need-padded-requires invariant-loop decreases-loop
 padded-requires c κs = search rules
 
 loop-holds : tie.Need-loop-init invariant-loop decreases-loop
-loop-holds c = (search rules, refl, collected-start c.before.args.t1 c.padded.result)
+loop-holds c = (search rules, refl, collected_start c.before.args.t1 c.padded.result)
 
 mul-join-column : tie.Need-overflow-mul-join-column invariant-loop decreases-loop
 mul-join-column c = search rules
@@ -41,7 +41,7 @@ loop-again c =
     let a = c.before.before.before.before.before.before.args in (
       search rules,
       c.join-column.ensures.long,
-      collected-more a.t1 c.before.before.before.before.before.padded.result l.common c.join-column.new.0 l.passed
+      collected_more a.t1 c.before.before.before.before.before.padded.result l.common c.join-column.new.0 l.passed
           c.join-column.ensures l.invariant.2,
     )
 
@@ -51,7 +51,7 @@ returns c =
     let a = c.before.before.before.args in
     let p = c.before.before.padded in
     let e : l.passed ≡ 32 = omega (arith, c.loop-test.false) in
-    collected-all a.t1 a.earlier p.result l.common p.ensures
+    collected_all a.t1 a.earlier p.result l.common p.ensures
     (subst (λ (n : ℕ). Collected a.t1 p.result n l.common) e l.invariant.2)
 
 pub common-segments-spec : {M : Type 1} → statement M

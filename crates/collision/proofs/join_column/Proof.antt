@@ -5,20 +5,20 @@ use native.Mathlib.Omega.{arith}
 use borrow.Author.Rules.{rules}
 use lib.Bits.{bit_and, bit_or}
 use lib.ListN.{get_or}
-use Rattle.collision.specs.Inner.{withCommon}
-use Rattle.collision.proofs.CommonLaws.{Filled, filled-start, filled_more}
+use Rattle.collision.specs.Inner.{with_common}
+use Rattle.collision.proofs.CommonLaws.{Filled, filled_start, filled_more}
 use Rattle.collision.proofs.join_column.Statement.{statement}
 use Rattle.collision.proofs.join_column.Tie as tie
 
 abbrev invariant-loop : tie.invariant-loop
 invariant-loop common₀ earlier column word apart₀ common apart =
-    (apart ≤ 32) × Filled (withCommon earlier column word common₀) common₀ common apart
+    (apart ≤ 32) × Filled (with_common earlier column word common₀) common₀ common apart
 
 abbrev decreases-loop : tie.decreases-loop
 decreases-loop common₀ earlier column word apart₀ common apart = 32 - apart
 
 loop-holds : tie.Need-loop-init invariant-loop decreases-loop
-loop-holds c = (search rules, filled-start _ _)
+loop-holds c = (search rules, filled_start _ _)
 
 mul-common : tie.Need-overflow-mul-common invariant-loop decreases-loop
 mul-common c = search rules

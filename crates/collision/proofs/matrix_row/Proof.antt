@@ -1,7 +1,7 @@
 -- `collision::matrix_row` meets its contract. Assumes nothing.
 use mathlib.Core.Path.{sym, ◌∙◌}
-use Rattle.collision.specs.Answers.{rowAnswer}
-use Rattle.collision.proofs.AnswerLaws.{number-refused, number-given}
+use Rattle.collision.specs.Answers.{row_answer}
+use Rattle.collision.proofs.AnswerLaws.{number_refused, number_given}
 use borrow.Author.Rules.{rules}
 use Rattle.collision.proofs.matrix_row.Statement.{statement}
 use Rattle.collision.proofs.matrix_row.Tie as tie
@@ -19,12 +19,12 @@ row-of-tags-requires : tie.Need-row-of-tags-requires
 row-of-tags-requires c κs = search rules
 
 returns : tie.Need-returns
-unfolding rowAnswer
-returns c = number-refused _ (sym c.before.before.before.check-tags.ensures ∙ c.before.answer.given.1)
+unfolding row_answer
+returns c = number_refused _ (sym c.before.before.before.check-tags.ensures ∙ c.before.answer.given.1)
 
 returns-2 : tie.Need-returns-2
-unfolding rowAnswer
-returns-2 c = number-given (sym c.before.before.before.check-tags.ensures ∙ c.before.enum_told.given.1) c.row-of-tags.ensures
+unfolding row_answer
+returns-2 c = number_given (sym c.before.before.before.check-tags.ensures ∙ c.before.enum_told.given.1) c.row-of-tags.ensures
 
 pub matrix-row-spec : {M : Type 1} → statement M
 matrix-row-spec =

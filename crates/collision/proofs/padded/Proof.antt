@@ -4,7 +4,7 @@ use mathlib.Core.Path.{◌≡◌, refl}
 use native.Mathlib.Omega.{arith}
 use borrow.Author.Rules.{rules}
 use lib.ListN.{get_or, replicate, length-replicate}
-use Rattle.collision.proofs.CommonLaws.{Filled, filled-start, filled_more, padded-all}
+use Rattle.collision.proofs.CommonLaws.{Filled, filled_start, filled_more, padded_all}
 use Rattle.collision.proofs.padded.Statement.{statement}
 use Rattle.collision.proofs.padded.Tie as tie
 
@@ -15,7 +15,7 @@ abbrev decreases-loop : tie.decreases-loop
 decreases-loop columns wide₀ i₀ wide i = 32 - i
 
 loop-holds : tie.Need-loop-init invariant-loop decreases-loop
-loop-holds c = (search rules, filled-start _ _)
+loop-holds c = (search rules, filled_start _ _)
 
 mul_wide : tie.Need-overflow-mul-wide invariant-loop decreases-loop
 mul_wide c = search rules
@@ -44,7 +44,7 @@ returns : tie.Need-returns invariant-loop decreases-loop
 returns c =
     let l = c.before.loop in
     let e : l.i ≡ 32 = omega (arith, c.loop-test.false) in
-    padded-all c.before.before.args.t1 l.wide (search rules) (rw e at l.invariant.1)
+    padded_all c.before.before.args.t1 l.wide (search rules) (rw e at l.invariant.1)
 
 pub padded-spec : {M : Type 1} → statement M
 padded-spec =

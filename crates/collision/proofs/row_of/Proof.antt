@@ -6,16 +6,16 @@ use mathlib.Core.Logic.{⊎_elim}
 use native.Mathlib.Omega.{arith}
 use borrow.Author.Rules.{rules}
 use borrow.Author.Tests.{eq-eqb, ne_eqb}
-use Rattle.words.specs.Bits.{setBit}
-use Rattle.words.specs.Below.{wordBelow}
+use Rattle.words.specs.Bits.{set_bit}
+use Rattle.words.specs.Below.{word_below}
 use Rattle.collision.specs.Inner.{nonzero}
-use Rattle.collision.proofs.RowLaws.{rowBefore, row_one, row_zero, row-end}
+use Rattle.collision.proofs.RowLaws.{row_before, row_one, row_zero, row_end}
 use Rattle.collision.proofs.row_of.Statement.{statement}
 use Rattle.collision.proofs.row_of.Tie as tie
 
 abbrev invariant-loop : tie.invariant-loop
 invariant-loop common row₀ latency₀ row latency =
-    (1 ≤ latency) × (latency ≤ 32) × (row ≡ rowBefore (nonzero common) latency)
+    (1 ≤ latency) × (latency ≤ 32) × (row ≡ row_before (nonzero common) latency)
 
 abbrev decreases-loop : tie.decreases-loop
 decreases-loop common row₀ latency₀ row latency = 32 - latency
@@ -24,7 +24,7 @@ common-segments-requires : tie.Need-common-segments-requires invariant-loop decr
 common-segments-requires c κs = search rules
 
 loop-holds : tie.Need-loop-init invariant-loop decreases-loop
-unfolding wordBelow
+unfolding word_below
 loop-holds c = (search rules, search rules, refl)
 
 cast-if1 : tie.Need-overflow-cast-if1 invariant-loop decreases-loop
@@ -49,14 +49,14 @@ loop-less : tie.Need-loop-smaller invariant-loop decreases-loop
 loop-less c = search rules
 
 more : (c : tie.Joined1 invariant-loop decreases-loop)
-    → c.if1.row ≡ rowBefore (nonzero c.before.before.before.common-segments.result) (c.before.before.loop.latency + 1)
+    → c.if1.row ≡ row_before (nonzero c.before.before.before.common-segments.result) (c.before.before.loop.latency + 1)
 more c =
     let l = c.before.before.loop in
     let f = nonzero c.before.before.before.common-segments.result in
     let t = l.latency in
     ⊎_elim
     (λ w.
-    w.2 ∙ w.1.ensures ∙ ap (λ v. setBit v (t - 1)) l.invariant.2
+    w.2 ∙ w.1.ensures ∙ ap (λ v. set_bit v (t - 1)) l.invariant.2
     ∙ row_one f t l.invariant.0 (omega (arith, c.before.loop-test.true)) (ap not (ne_eqb _ 0 w.0.taken)))
     (λ w. w.1 ∙ l.invariant.2 ∙ row_zero f t l.invariant.0 (ap not (eq-eqb _ 0 w.0.left)))
     c.if1.branch
@@ -70,8 +70,8 @@ returns c =
     let l = c.before.loop in
     let s = c.before.before.common-segments in
     let e : l.latency ≡ 32 = omega (arith, c.loop-test.false) in
-    l.invariant.2 ∙ ap (rowBefore (nonzero s.result)) e
-    ∙ row-end a.later a.earlier (nonzero s.result) (search rules) s.ensures
+    l.invariant.2 ∙ ap (row_before (nonzero s.result)) e
+    ∙ row_end a.later a.earlier (nonzero s.result) (search rules) s.ensures
 
 pub row-of-spec : {M : Type 1} → statement M
 row-of-spec =

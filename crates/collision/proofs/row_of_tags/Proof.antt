@@ -1,7 +1,7 @@
 -- `collision::row_of_tags` meets its contract. Assumes nothing.
 use mathlib.Core.Path.{ap₂, ◌∙◌}
-use Rattle.collision.specs.Vector.{rowOfColumns}
-use Rattle.collision.proofs.RowLaws.{row-columns}
+use Rattle.collision.specs.Vector.{row_of_columns}
+use Rattle.collision.proofs.RowLaws.{row_columns}
 use borrow.Author.Rules.{rules}
 use Rattle.collision.proofs.row_of_tags.Statement.{statement}
 use Rattle.collision.proofs.row_of_tags.Tie as tie
@@ -16,7 +16,7 @@ row-of-requires : tie.Need-row-of-requires
 row-of-requires c κs = search rules
 
 returns : tie.Need-returns
-returns c = c.row_of.ensures ∙ ap₂ rowOfColumns c.before.before.columns_of.ensures c.before.columns-of2.ensures ∙ row-columns _ _ _
+returns c = c.row_of.ensures ∙ ap₂ row_of_columns c.before.before.columns_of.ensures c.before.columns-of2.ensures ∙ row_columns _ _ _
 
 pub row-of-tags-spec : {M : Type 1} → statement M
 row-of-tags-spec =

@@ -1,7 +1,7 @@
 -- `collision::vector` meets its contract. Assumes nothing.
 use mathlib.Core.Path.{sym, ◌∙◌}
-use Rattle.collision.specs.Answers.{vectorAnswer}
-use Rattle.collision.proofs.AnswerLaws.{number-refused, number-given}
+use Rattle.collision.specs.Answers.{vector_answer}
+use Rattle.collision.proofs.AnswerLaws.{number_refused, number_given}
 use borrow.Author.Rules.{rules}
 use Rattle.collision.proofs.vector.Statement.{statement}
 use Rattle.collision.proofs.vector.Tie as tie
@@ -19,12 +19,12 @@ row-of-tags-requires : tie.Need-row-of-tags-requires
 row-of-tags-requires c κs = search rules
 
 returns : tie.Need-returns
-unfolding vectorAnswer
-returns c = number-refused _ (sym c.before.before.before.check-tag.ensures ∙ c.before.answer.given.1)
+unfolding vector_answer
+returns c = number_refused _ (sym c.before.before.before.check-tag.ensures ∙ c.before.answer.given.1)
 
 returns-2 : tie.Need-returns-2
-unfolding vectorAnswer
-returns-2 c = number-given (sym c.before.before.before.check-tag.ensures ∙ c.before.enum_told.given.1) c.row-of-tags.ensures
+unfolding vector_answer
+returns-2 c = number_given (sym c.before.before.before.check-tag.ensures ∙ c.before.enum_told.given.1) c.row-of-tags.ensures
 
 pub vector-spec : {M : Type 1} → statement M
 vector-spec =

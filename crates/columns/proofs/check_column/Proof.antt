@@ -6,8 +6,8 @@ use borrow.Author.Tests.{lt-ltb, le-ltb}
 use Rattle.words.proofs.Tests.{on, off}
 use Rattle.words.proofs.BitLaws.{shifted_one}
 use Rattle.unit.specs.declared.Answer.TheVariants.{Done}
-use Rattle.unit.specs.Calls.{tagAnswer, columnAnswer}
-use Rattle.unit.proofs.Laws.{Within, tag-segments}
+use Rattle.unit.specs.Calls.{tag_answer, column_answer}
+use Rattle.unit.proofs.Laws.{Within, tag_segments}
 use borrow.Author.Rules.{rules}
 use Rattle.columns.proofs.check_column.Statement.{statement}
 use Rattle.columns.proofs.check_column.Tie as tie
@@ -22,11 +22,11 @@ enum_told : tie.Need-enum-told
 enum_told c = search rules
 
 -- the tag was accepted, so the shift is short
-passed : (c : tie.After-enum-told) → tagAnswer c.before.before.before.args.u c.before.before.before.args.tag.0 ≡ Done
+passed : (c : tie.After-enum-told) → tag_answer c.before.before.before.args.u c.before.before.before.args.tag.0 ≡ Done
 passed c = sym c.before.before.check-tag.ensures ∙ c.enum_told.given.1
 
 few : (c : tie.After-enum-told) → Within c.before.before.before.args.u.segments 16
-few c = let a = c.before.before.before.args in tag-segments a.u a.tag.0 (passed c)
+few c = let a = c.before.before.before.args in tag_segments a.u a.tag.0 (passed c)
 
 cast-top : tie.Need-overflow-cast-top
 cast-top c = search rules
@@ -35,7 +35,7 @@ shl-top : tie.Need-overflow-shl-top
 shl-top c = omega (arith, (few c.before).most)
 
 returns : tie.Need-returns
-unfolding columnAnswer
+unfolding column_answer
 returns c =
     let e = c.before.before in
     let a = e.before.before.before.args in
@@ -56,18 +56,18 @@ short c =
     omega arith
 
 returns-2 : tie.Need-returns-2
-unfolding columnAnswer
+unfolding column_answer
 returns-2 c =
     let e = c.before.before.before.before in
     let a = e.before.before.before.args in
     simp (passed e, lt-ltb a.word (2 ^ a.u.segments) (short c.before.before), off c.if2.true c.before.is-inside.ensures)
 
 returns-3 : tie.Need-returns-3
-unfolding columnAnswer
+unfolding column_answer
 returns-3 c = simp (sym c.before.before.before.check-tag.ensures ∙ c.before.first.given.1)
 
 returns-4 : tie.Need-returns-4
-unfolding columnAnswer
+unfolding column_answer
 returns-4 c =
     let e = c.before.before.before.before in
     let a = e.before.before.before.args in

@@ -6,7 +6,7 @@ use mathlib.Core.Path.{◌≡◌, sym, subst}
 use native.Mathlib.Omega.{arith}
 use lib.ListN.{length, length-set}
 use Rattle.words.proofs.Tests.{on, off}
-use Rattle.unit.specs.Unit.{inside, columnsOf}
+use Rattle.unit.specs.Unit.{inside, columns_of}
 use Rattle.unit.proofs.Laws.{within}
 use Rattle.unit.proofs.ColumnLaws.{Copied, copied_more, copied_all}
 use Rattle.columns.proofs.columns_of.Statement.{statement}
@@ -23,7 +23,7 @@ is-inside-requires : tie.Need-is-inside-requires invariant-loop decreases-loop
 is-inside-requires c κs = search rules
 
 returns : tie.Need-returns invariant-loop decreases-loop
-unfolding columnsOf
+unfolding columns_of
 returns c = simp (off c.if1.true c.before.is-inside.ensures)
 
 cast-first : tie.Need-overflow-cast-first invariant-loop decreases-loop
@@ -73,7 +73,7 @@ loop-again c =
     (search rules, search rules, copied_more l.columns a.u.marks ((a.tag.0 - 1) * 32) l.i h l.invariant.2)
 
 returns-2 : tie.Need-returns-2 invariant-loop decreases-loop
-unfolding columnsOf
+unfolding columns_of
 returns-2 c =
     let l = c.before.loop in
     let b = c.before.before.before.before in

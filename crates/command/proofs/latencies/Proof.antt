@@ -1,7 +1,7 @@
 -- `command::latencies` meets its contract. Assumes nothing.
 use mathlib.Core.Path.{sym}
 use lib.Seq.{length-take-le}
-use Rattle.command.proofs.LineLaws.{same-in-front, latencies-rest}
+use Rattle.command.proofs.LineLaws.{same_in_front, latencies_rest}
 use borrow.Author.Rules.{rules}
 use Rattle.command.proofs.latencies.Statement.{statement}
 use Rattle.command.proofs.latencies.Tie as tie
@@ -29,7 +29,7 @@ returns c =
     let l = c.before.before in
     let q = l.before.before in
     let p = q.before in
-    same-in-front p.before.before.before.before.before.args.cycle.now (latencies-rest _ _ _ _ p.before.before.text-end.ensures p.past_word.ensures q.past-word2.ensures) l.bytes_after.ensures
+    same_in_front p.before.before.before.before.before.args.cycle.now (latencies_rest _ _ _ _ p.before.before.text-end.ensures p.past_word.ensures q.past-word2.ensures) l.bytes_after.ensures
 
 pub latencies-spec : {M : Type 1} → statement M
 latencies-spec =

@@ -1,7 +1,7 @@
 -- `command::parse_text` meets its contract. Assumes nothing.
 use mathlib.Core.Path.{sym, ◌∙◌}
 use native.Mathlib.Omega.{arith}
-use Rattle.command.proofs.WordLaws.{word-inside}
+use Rattle.command.proofs.WordLaws.{word_inside}
 use Rattle.command.proofs.LineLaws.{said-nothing, said-comment, said-named}
 use borrow.Author.Rules.{rules}
 use Rattle.command.proofs.parse_text.Statement.{statement}
@@ -29,7 +29,7 @@ part-find-start : tie.Need-slice-bounds-find-start
 part-find-start c = search rules
 
 part-find-end : tie.Need-slice-bounds-find-end
-part-find-end c = word-inside _ _ _ c.word-end.ensures c.before.before.before.before.word-start.ensures.inside
+part-find-end c = word_inside _ _ _ c.word-end.ensures c.before.before.before.before.word-start.ensures.inside
 
 find-requires : tie.Need-find-requires
 find-requires c κs = search rules
@@ -48,7 +48,7 @@ returns-3 c =
     said-named _ _ i.before.word-start.ensures i.if1.false _ _ e.before.if2.false e.word-end.ensures (sym c.enum_told.given.1 ∙ v.find.ensures)
 
 parse-rest-requires : tie.Need-parse-rest-requires
-parse-rest-requires c κs = let e = c.before.before.before.before.before in word-inside _ _ _ e.word-end.ensures e.before.before.before.before.word-start.ensures.inside
+parse-rest-requires c κs = let e = c.before.before.before.before.before in word_inside _ _ _ e.word-end.ensures e.before.before.before.before.word-start.ensures.inside
 
 returns-4 : tie.Need-returns-4
 returns-4 c =

@@ -1,7 +1,7 @@
 -- `command::tags` meets its contract. Assumes nothing.
 use mathlib.Core.Path.{sym}
 use lib.Seq.{length-take-le}
-use Rattle.command.proofs.LineLaws.{same-in-front, tags-rest}
+use Rattle.command.proofs.LineLaws.{same_in_front, tags_rest}
 use borrow.Author.Rules.{rules}
 use Rattle.command.proofs.tags.Statement.{statement}
 use Rattle.command.proofs.tags.Tie as tie
@@ -25,7 +25,7 @@ returns : tie.Need-returns
 returns c =
     let l = c.before.before in
     let p = l.before.before in
-    same-in-front p.before.before.before.before.before.args.list.now (tags-rest _ _ _ p.before.before.text-end.ensures p.past_word.ensures) l.bytes_after.ensures
+    same_in_front p.before.before.before.before.before.args.list.now (tags_rest _ _ _ p.before.before.text-end.ensures p.past_word.ensures) l.bytes_after.ensures
 
 pub tags-spec : {M : Type 1} → statement M
 tags-spec =

@@ -1,7 +1,7 @@
 -- `command::word` meets its contract. Assumes nothing.
 use mathlib.Core.Path.{sym}
 use lib.Seq.{length-take-le}
-use Rattle.command.proofs.WordLaws.{word-inside}
+use Rattle.command.proofs.WordLaws.{word_inside}
 use Rattle.command.proofs.LineLaws.{word_read}
 use borrow.Author.Rules.{rules}
 use Rattle.command.proofs.word.Statement.{statement}
@@ -29,7 +29,7 @@ part-result-start : tie.Need-slice-bounds-result-start
 part-result-start c = search rules
 
 part-result-end : tie.Need-slice-bounds-result-end
-part-result-end c = word-inside _ _ _ c.word-end.ensures c.before.word-start.ensures.inside
+part-result-end c = word_inside _ _ _ c.word-end.ensures c.before.word-start.ensures.inside
 
 returns : tie.Need-returns
 returns c =

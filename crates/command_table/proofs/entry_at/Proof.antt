@@ -2,7 +2,7 @@
 use mathlib.Core.Path.{◌∙◌}
 use native.Mathlib.Omega.{arith}
 use Rattle.command_table.proofs.TableLaws.{held}
-use Rattle.command_table.proofs.NameLaws.{same-entry}
+use Rattle.command_table.proofs.NameLaws.{same_entry}
 use borrow.Author.Rules.{rules}
 use Rattle.command_table.proofs.entry_at.Statement.{statement}
 use Rattle.command_table.proofs.entry_at.Tie as tie
@@ -23,7 +23,7 @@ verb-at-requires : tie.Need-verb-at-requires
 verb-at-requires c κs = search rules
 
 returns : tie.Need-returns
-returns c = let f = c.before in let s = f.before.before.before in same-entry _ (f.form_of.ensures ∙ (held _ s.requires.1 _ s.requires.0).form) c.verb-at.ensures
+returns c = let f = c.before in let s = f.before.before.before in same_entry _ (f.form_of.ensures ∙ (held _ s.requires.1 _ s.requires.0).form) c.verb-at.ensures
 
 pub entry-at-spec : {M : Type 1} → statement M
 entry-at-spec =

@@ -1,12 +1,12 @@
 -- `command_table::put_name` meets its contract. Assumes nothing.
-use Rattle.command_table.proofs.TableLaws.{name-beyond}
-use Rattle.command_table.proofs.NameLaws.{put_same, put-nothing}
+use Rattle.command_table.proofs.TableLaws.{name_beyond}
+use Rattle.command_table.proofs.NameLaws.{put_same, put_nothing}
 use borrow.Author.Rules.{rules}
 use Rattle.command_table.proofs.put_name.Statement.{statement}
 use Rattle.command_table.proofs.put_name.Tie as tie
 
 returns : tie.Need-returns
-returns c = put-nothing _ _ (name-beyond _ c.if1.true)
+returns c = put_nothing _ _ (name_beyond _ c.if1.true)
 
 table-requires : tie.Need-table-requires
 table-requires c κs = search rules

@@ -1,12 +1,12 @@
 -- `command_table::put_usage` meets its contract. Assumes nothing.
-use Rattle.command_table.proofs.TableLaws.{usage-beyond}
-use Rattle.command_table.proofs.NameLaws.{put_same, put-nothing}
+use Rattle.command_table.proofs.TableLaws.{usage_beyond}
+use Rattle.command_table.proofs.NameLaws.{put_same, put_nothing}
 use borrow.Author.Rules.{rules}
 use Rattle.command_table.proofs.put_usage.Statement.{statement}
 use Rattle.command_table.proofs.put_usage.Tie as tie
 
 returns : tie.Need-returns
-returns c = put-nothing _ _ (usage-beyond _ c.if1.true)
+returns c = put_nothing _ _ (usage_beyond _ c.if1.true)
 
 table-requires : tie.Need-table-requires
 table-requires c κs = search rules

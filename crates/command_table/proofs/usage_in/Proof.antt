@@ -3,7 +3,7 @@ use mathlib.Core.Path.{◌≡◌, ap, ◌∙◌}
 use Prim.Native.Nat.{◌+◌, ◌-◌, ◌*◌}
 use native.Mathlib.Omega.{arith}
 use lib.ListN.{length, get_or, take, drop}
-use Rattle.command_table.specs.Commands.{usageAt}
+use Rattle.command_table.specs.Commands.{usage_at}
 use Rattle.command_table.proofs.TableLaws.{held}
 use borrow.Author.Rules.{rules}
 use Rattle.command_table.proofs.usage_in.Statement.{statement}
@@ -40,7 +40,7 @@ returns : tie.Need-returns
 returns c =
     let h = held c.before.before.args.index c.before.before.requires.1 c.before.before.args.table.now c.before.before.requires.0 in
     let a = c.before.before.args in
-    let n : a.index * 48 + 3 + get_or a.table.now (a.index * 48 + 1) 0 - (a.index * 48 + 3) ≡ length (usageAt a.index) = omega (arith, h.usages) in
+    let n : a.index * 48 + 3 + get_or a.table.now (a.index * 48 + 1) 0 - (a.index * 48 + 3) ≡ length (usage_at a.index) = omega (arith, h.usages) in
     ap (λ k. take k (drop (a.index * 48 + 3) a.table.now)) n ∙ h.usage
 
 pub usage-in-spec : {M : Type 1} → statement M

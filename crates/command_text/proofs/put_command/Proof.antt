@@ -1,6 +1,6 @@
 -- `command_text::put_command` meets its contract. Assumes nothing.
 use borrow.Author.Rules.{rules}
-use Rattle.command_text.proofs.WriteLaws.{put-after}
+use Rattle.command_text.proofs.WriteLaws.{put_after}
 use Rattle.command_text.proofs.put_command.Statement.{statement}
 use Rattle.command_text.proofs.put_command.Tie as tie
 
@@ -14,7 +14,7 @@ same_length : tie.Need-same-length
 same_length c = search rules
 
 returns : tie.Need-returns
-returns c = put-after _ _ _ _ c.before.before.before.before.before.before.put-name.ensures c.before.before.put-words.ensures
+returns c = put_after _ _ _ _ c.before.before.before.before.before.before.put-name.ensures c.before.before.put-words.ensures
 
 pub put-command-spec : {M : Type 1} → statement M
 put-command-spec = tie.close (tie.spec put-name-requires put-words-requires same_length returns)

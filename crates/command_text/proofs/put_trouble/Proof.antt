@@ -1,7 +1,7 @@
 -- `command_text::put_trouble` meets its contract. Assumes nothing.
 use borrow.Author.Rules.{rules}
 use Rattle.command_table.proofs.NameLaws.{put_same}
-use Rattle.command_text.proofs.WriteLaws.{front-text, front_length}
+use Rattle.command_text.proofs.WriteLaws.{front_text, front_length}
 use Rattle.command_text.proofs.put_trouble.Statement.{statement}
 use Rattle.command_text.proofs.put_trouble.Tie as tie
 
@@ -24,7 +24,7 @@ same_length : tie.Need-same-length
 same_length c = search rules
 
 returns : tie.Need-returns
-returns c = put_same _ _ (front-text c.before.before.before.before.before.before.write-trouble.ensures) c.before.before.put.ensures
+returns c = put_same _ _ (front_text c.before.before.before.before.before.before.write-trouble.ensures) c.before.before.put.ensures
 
 pub put-trouble-spec : {M : Type 1} → statement M
 put-trouble-spec =

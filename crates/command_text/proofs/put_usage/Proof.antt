@@ -1,5 +1,5 @@
 -- `command_text::put_usage` meets its contract. Assumes nothing.
-use Rattle.command_text.proofs.WriteLaws.{usage-wrote}
+use Rattle.command_text.proofs.WriteLaws.{usage_wrote}
 use borrow.Author.Rules.{rules}
 use Rattle.command_text.proofs.put_usage.Statement.{statement}
 use Rattle.command_text.proofs.put_usage.Tie as tie
@@ -21,7 +21,7 @@ returns c =
     let u = c.before.before in
     let p = u.before.before.before.before in
     let a = p.before.before.before.before in
-    usage-wrote a.args.row p.put.ensures u.put-usage.ensures a.requires
+    usage_wrote a.args.row p.put.ensures u.put-usage.ensures a.requires
 
 pub put-usage-spec : {M : Type 1} → statement M
 put-usage-spec =

@@ -1,7 +1,7 @@
 -- `command_text::write_trouble` meets its contract. Assumes nothing.
 use native.Mathlib.Omega.{arith}
 use borrow.Author.Rules.{rules}
-use Rattle.command_text.proofs.WriteLaws.{trouble-head, trouble-room, trouble-wrote}
+use Rattle.command_text.proofs.WriteLaws.{trouble_head, trouble_room, trouble_wrote}
 use Rattle.command_text.proofs.write_trouble.Statement.{statement}
 use Rattle.command_text.proofs.write_trouble.Tie as tie
 
@@ -27,7 +27,7 @@ put-expected-requires c κs =
     let word = number.before.before.before.before in
     let start = word.before.before.before.before in
     let n = start.args.number in
-    trouble-room n (omega arith) (trouble-head n (omega arith) word.put.ensures number.put-number.ensures colon.put2.ensures start.requires) start.requires
+    trouble_room n (omega arith) (trouble_head n (omega arith) word.put.ensures number.put-number.ensures colon.put2.ensures start.requires) start.requires
 
 slice-aggregate-put-3 : tie.Need-slice-aggregate-put-3
 slice-aggregate-put-3 c = search rules
@@ -47,8 +47,8 @@ returns c =
     let word = number.before.before.before.before in
     let start = word.before.before.before.before in
     let n = start.args.number in
-    trouble-wrote n start.args.trouble (omega arith)
-    (trouble-head n (omega arith) word.put.ensures number.put-number.ensures colon.put2.ensures start.requires)
+    trouble_wrote n start.args.trouble (omega arith)
+    (trouble_head n (omega arith) word.put.ensures number.put-number.ensures colon.put2.ensures start.requires)
     told.put-expected.ensures end.put3.ensures start.requires
 
 pub write-trouble-spec : {M : Type 1} → statement M

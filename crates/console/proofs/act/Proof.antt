@@ -1,10 +1,10 @@
 -- `console::act` meets its contract. Assumes nothing.
 use mathlib.Core.Path.{◌≡◌}
-use Rattle.planner.specs.Plans.{searchAnswer}
+use Rattle.planner.specs.Plans.{search_answer}
 use Rattle.controller.specs.declared.Event.TheVariants as Event
 use Rattle.controller.specs.Bank.{step_of}
-use Rattle.session.specs.Sessions.{tag, answerLine}
-use Rattle.console.specs.Turns.{withBank, eventAsked, Sought}
+use Rattle.session.specs.Sessions.{tag, answer_line}
+use Rattle.console.specs.Turns.{with_bank, event_asked, Sought}
 use Rattle.console.proofs.TurnLaws.{act_by, gives_at}
 use borrow.Author.Rules.{rules}
 use Rattle.console.proofs.act.Statement.{statement}
@@ -80,7 +80,7 @@ returns-3 : tie.Need-returns-3
 returns-3 c =
     let b = c.before.before.before.before.before.before in
     let a = b.before.before.args in
-    act_by a.session a.request c.before.before.before.before.enum-told3.given.1 (gives_at (λ q. answerLine (searchAnswer a.session.unit q 16000)) (Sought a.session) b.byte.ensures c.before.before.seek.ensures)
+    act_by a.session a.request c.before.before.before.before.enum-told3.given.1 (gives_at (λ q. answer_line (search_answer a.session.unit q 16000)) (Sought a.session) b.byte.ensures c.before.before.seek.ensures)
 
 same-length-4 : tie.Need-same-length-4
 same-length-4 c = search rules
@@ -107,7 +107,7 @@ returns-6 : tie.Need-returns-6
 returns-6 c =
     let b = c.before.before.before.before.before.before in
     let a = b.before.before.args in
-    act_by a.session a.request c.before.before.before.before.enum-told6.given.1 (gives_at (λ q. answerLine (eventAsked a.session (Event.Start (tag q)))) (λ q x. x ≡ withBank a.session (step_of a.session.unit a.session.bank (Event.Start (tag q))).bank) b.byte.ensures c.before.before.step2.ensures)
+    act_by a.session a.request c.before.before.before.before.enum-told6.given.1 (gives_at (λ q. answer_line (event_asked a.session (Event.Start (tag q)))) (λ q x. x ≡ with_bank a.session (step_of a.session.unit a.session.bank (Event.Start (tag q))).bank) b.byte.ensures c.before.before.step2.ensures)
 
 same-length-7 : tie.Need-same-length-7
 same-length-7 c = search rules

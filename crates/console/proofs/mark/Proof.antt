@@ -2,7 +2,7 @@
 use mathlib.Core.Path.{◌∙◌}
 use Rattle.unit.specs.Calls.{mark_of}
 use Rattle.session.proofs.SessionLaws.{by_three}
-use Rattle.console.proofs.SessionLaws.{edited-as}
+use Rattle.console.proofs.SessionLaws.{edited_as}
 use borrow.Author.Rules.{rules}
 use Rattle.console.proofs.mark.Statement.{statement}
 use Rattle.console.proofs.mark.Tie as tie
@@ -30,7 +30,7 @@ returns c =
     let made = c.before.before.before.before in
     let third = made.before in
     let s = c.before.before.before.before.before.before.before.before.before.before.args.session in
-    edited-as s (made.mark.ensures ∙ by_three (mark_of s.unit) third.before.before.byte.ensures third.before.byte2.ensures third.byte3.ensures)
+    edited_as s (made.mark.ensures ∙ by_three (mark_of s.unit) third.before.before.byte.ensures third.before.byte2.ensures third.byte3.ensures)
     c.before.before.take-unit.ensures
 
 pub mark_spec : {M : Type 1} → statement M

@@ -1,5 +1,5 @@
 -- `console::step` meets its contract. Assumes nothing.
-use Rattle.console.proofs.SessionLaws.{stepped-as}
+use Rattle.console.proofs.SessionLaws.{stepped_as}
 use borrow.Author.Rules.{rules}
 use Rattle.console.proofs.step.Statement.{statement}
 use Rattle.console.proofs.step.Tie as tie
@@ -20,7 +20,7 @@ returns : tie.Need-returns
 returns c =
     let told = c.before.before.before.before.before.before in
     let steps = told.before.before in
-    stepped-as steps.before.before.before.args.session steps.before.before.before.args.event steps.step.ensures told.put-answer.ensures c.with-port.ensures
+    stepped_as steps.before.before.before.args.session steps.before.before.before.args.event steps.step.ensures told.put-answer.ensures c.with-port.ensures
 
 pub step_spec : {M : Type 1} → statement M
 step_spec = tie.close (tie.spec step-requires put-answer-requires with-port-requires same_length returns)

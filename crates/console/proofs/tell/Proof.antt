@@ -1,8 +1,8 @@
 -- `console::tell` meets its contract. Assumes nothing.
 use mathlib.Core.Path.{refl}
 use lib.ListN.{replicate}
-use Rattle.command.specs.Lines.{latenciesIn}
-use Rattle.console.specs.Turns.{questionOf}
+use Rattle.command.specs.Lines.{latencies_in}
+use Rattle.console.specs.Turns.{question_of}
 use Rattle.command.proofs.FrontLaws.{front_length}
 use Rattle.console.proofs.JudgeLaws.{gives-told}
 use borrow.Author.Rules.{rules}
@@ -24,7 +24,7 @@ array-share-prefix-cycle c = search rules
 slice-aggregate-ask : tie.Need-slice-aggregate-ask
 slice-aggregate-ask c =
     let read = c.before.before.before.before in
-    front_length (latenciesIn read.before.before.before.before.before.args.line.now) (replicate 257 0) read.latencies.ensures.0 read.latencies.ensures.1
+    front_length (latencies_in read.before.before.before.before.before.args.line.now) (replicate 257 0) read.latencies.ensures.0 read.latencies.ensures.1
 
 ask-requires : tie.Need-ask-requires
 ask-requires c κs = search rules
@@ -37,8 +37,8 @@ returns c =
     let read = c.before.before.before.before.before.before.before in
     let asked = read.before.before in
     let a = asked.before.before.before.args in
-    gives-told (latenciesIn a.line.now) (replicate 257 0) read.latencies.ensures.0 read.latencies.ensures.1 asked.question-of.result
-    (questionOf a.ask a.request) a.line.now a.out.now asked.question-of.ensures refl refl c.before.before.ask.ensures
+    gives-told (latencies_in a.line.now) (replicate 257 0) read.latencies.ensures.0 read.latencies.ensures.1 asked.question-of.result
+    (question_of a.ask a.request) a.line.now a.out.now asked.question-of.ensures refl refl c.before.before.ask.ensures
 
 pub tell-spec : {M : Type 1} → statement M
 tell-spec =

@@ -1,8 +1,8 @@
 -- `console::unmark` meets its contract. Assumes nothing.
 use mathlib.Core.Path.{◌∙◌}
-use Rattle.unit.specs.Calls.{unmarkOf}
+use Rattle.unit.specs.Calls.{unmark_of}
 use Rattle.session.proofs.SessionLaws.{by_three}
-use Rattle.console.proofs.SessionLaws.{edited-as}
+use Rattle.console.proofs.SessionLaws.{edited_as}
 use borrow.Author.Rules.{rules}
 use Rattle.console.proofs.unmark.Statement.{statement}
 use Rattle.console.proofs.unmark.Tie as tie
@@ -30,7 +30,7 @@ returns c =
     let made = c.before.before.before.before in
     let third = made.before in
     let s = c.before.before.before.before.before.before.before.before.before.before.args.session in
-    edited-as s (made.unmark.ensures ∙ by_three (unmarkOf s.unit) third.before.before.byte.ensures third.before.byte2.ensures third.byte3.ensures)
+    edited_as s (made.unmark.ensures ∙ by_three (unmark_of s.unit) third.before.before.byte.ensures third.before.byte2.ensures third.byte3.ensures)
     c.before.before.take-unit.ensures
 
 pub unmark-spec : {M : Type 1} → statement M

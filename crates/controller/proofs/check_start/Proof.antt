@@ -1,8 +1,8 @@
 -- `controller::check_start` meets its contract: the unit and the tag first, then the lowest bit of the register. Assumes nothing.
 use mathlib.Core.Path.{◌≡◌, sym, ◌∙◌}
 use Rattle.unit.specs.declared.Answer.TheVariants.{Done}
-use Rattle.unit.specs.Calls.{tagAnswer}
-use Rattle.controller.proofs.StepLaws.{start-refused, start-held, start-granted}
+use Rattle.unit.specs.Calls.{tag_answer}
+use Rattle.controller.proofs.StepLaws.{start_refused, start_held, start_granted}
 use borrow.Author.Rules.{rules}
 use Rattle.controller.proofs.check_start.Statement.{statement}
 use Rattle.controller.proofs.check_start.Tie as tie
@@ -20,25 +20,25 @@ register-of-requires : tie.Need-register-of-requires
 register-of-requires c κs = search rules
 
 -- past the first tests
-accepting : (c : tie.After-enum-told) → tagAnswer c.before.before.before.args.u c.before.before.before.args.q.0 ≡ Done
+accepting : (c : tie.After-enum-told) → tag_answer c.before.before.before.args.u c.before.before.before.args.q.0 ≡ Done
 accepting c = sym c.before.before.check-tag.ensures ∙ c.enum_told.given.1
 
 returns : tie.Need-returns
 returns c =
     let t = c.before.before in
     let a = t.before.before.before.args in
-    sym (start-held a.u a.bank a.q (accepting t) c.before.register_of.ensures c.if1.true)
+    sym (start_held a.u a.bank a.q (accepting t) c.before.register_of.ensures c.if1.true)
 
 returns-2 : tie.Need-returns-2
 returns-2 c =
     let a = c.before.before.before.before.args in
-    sym (start-refused a.u a.bank a.q _ (sym c.before.before.before.check-tag.ensures ∙ c.before.first.given.1))
+    sym (start_refused a.u a.bank a.q _ (sym c.before.before.before.check-tag.ensures ∙ c.before.first.given.1))
 
 returns-3 : tie.Need-returns-3
 returns-3 c =
     let t = c.before.before in
     let a = t.before.before.before.args in
-    sym (start-granted a.u a.bank a.q (accepting t) c.before.register_of.ensures c.if1.false)
+    sym (start_granted a.u a.bank a.q (accepting t) c.before.register_of.ensures c.if1.false)
 
 pub check-start-spec : {M : Type 1} → statement M
 check-start-spec =

@@ -39,7 +39,7 @@ use denote.Exit.{yes}
 use denote.Struct.Laws as LL
 use denote.Enum.Laws as EL
 use Rattle.controller.specs.declared.Event.TheVariants.{Tick}
-use Rattle.controller.specs.Bank.{eventAnswer, step_of}
+use Rattle.controller.specs.Bank.{event_answer, step_of}
 use Rattle.unit.specs.declared.FunctionUnit.{FunctionUnit}
 use Rattle.controller.specs.declared.Bank.{Bank}
 use Rattle.controller.specs.declared.Stepped.{Stepped}
@@ -84,7 +84,7 @@ module _ {M : Type 1} {𝓤 : Ura M} (𝓛 : Logic 𝓤) (at_mem : Memory → SP
   Post = (walk_of 𝓛 f.ended stayed (f.clauses 𝓛 at_mem run)).post (((κ, tt), (q, tt), tt, passed, at), tt)
 
   abbrev Said : Stepped → Type 0
-  Said r = (r.answer ≡ eventAnswer u bank Tick) × (r.bank ≡ (step_of u bank Tick).bank)
+  Said r = (r.answer ≡ event_answer u bank Tick) × (r.bank ≡ (step_of u bank Tick).bank)
 
   exits : (r : Stepped) → Said r → Is T-as-Answer.the_row r.answer ((EL.val T-as-Answer.the_type L-as-Answer.the_laws r.answer) ∷ []) → ent 𝓤 (⋆ 𝓛 (‵ (fobs γ' ((T-as-Bank.the_row).coded.code r.bank)) ∷ ‵ (fbor κ (Body (mem T-as-Bank.the_row) b' o' γ')) ∷ ‵ (flft κ q) ∷ [])) (Post (EL.val T-as-Answer.the_type L-as-Answer.the_laws r.answer))
   exits r e is =

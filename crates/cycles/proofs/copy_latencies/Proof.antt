@@ -1,7 +1,7 @@
 -- `cycles::copy_latencies` meets its contract: the latencies passed are copied and added up. Assumes nothing.
 use Prim.Native.Nat.{◌-◌}
 use native.Mathlib.Omega.{arith}
-use Rattle.cycles.proofs.NotedLaws.{Copying, copy_start, copy-room, copy_more, copy-end}
+use Rattle.cycles.proofs.NotedLaws.{Copying, copy_start, copy-room, copy_more, copy_end}
 use Rattle.cycles.proofs.copy_latencies.Statement.{statement}
 use Rattle.cycles.proofs.copy_latencies.Tie as tie
 
@@ -51,7 +51,7 @@ same_length : tie.Need-same-length invariant-loop decreases-loop
 same_length c = copy-room _ _ _ _ c.before.before.requires _ _ _ c.before.loop.invariant
 
 returns : tie.Need-returns invariant-loop decreases-loop
-returns c = copy-end _ _ _ _ c.before.before.requires _ _ _ c.before.loop.invariant c.loop-test.false
+returns c = copy_end _ _ _ _ c.before.before.requires _ _ _ c.before.loop.invariant c.loop-test.false
 
 pub copy-latencies-spec : {M : Type 1} → statement M
 copy-latencies-spec =

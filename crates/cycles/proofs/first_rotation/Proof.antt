@@ -5,7 +5,7 @@ use mathlib.Core.Logic.{⊎_elim}
 use native.Mathlib.Omega.{arith}
 use lib.ListN.{length}
 use Rattle.words.proofs.Tests.{off, on}
-use Rattle.cycles.proofs.OrderLaws.{Leading, lead-start, lead-keep, lead-change, lead-end}
+use Rattle.cycles.proofs.OrderLaws.{Leading, lead_start, lead-keep, lead-change, lead-end}
 use Rattle.cycles.proofs.first_rotation.Statement.{statement}
 use Rattle.cycles.proofs.first_rotation.Tie as tie
 
@@ -16,7 +16,7 @@ abbrev decreases-loop : tie.decreases-loop
 decreases-loop cycle first₀ rotation₀ first rotation = length cycle - rotation
 
 loop-holds : tie.Need-loop-init invariant-loop decreases-loop
-loop-holds c = lead-start _
+loop-holds c = lead_start _
 
 comes-first-requires : tie.Need-comes-first-requires invariant-loop decreases-loop
 comes-first-requires c κs =

@@ -2,8 +2,8 @@
 use mathlib.Core.Path.{sym, ◌∙◌}
 use native.Mathlib.Omega.{arith}
 use borrow.Author.Rules.{rules}
-use Rattle.diagram.proofs.StatesLaws.{Vector, vector-value, vector-refused, enlist-few, enlist-many}
-use Rattle.cycles.proofs.EndLaws.{listed-walkable, walked-copyable, ends-refused, ends-short-work, ends-short-out, ends-many, ends-cycle}
+use Rattle.diagram.proofs.StatesLaws.{Vector, vector_value, vector_refused, enlist_few, enlist_many}
+use Rattle.cycles.proofs.EndLaws.{listed_walkable, walked_copyable, ends_refused, ends-short-work, ends-short-out, ends_many, ends-cycle}
 use Rattle.cycles.proofs.greedy.Statement.{statement}
 use Rattle.cycles.proofs.greedy.Tie as tie
 
@@ -23,7 +23,7 @@ start c = c.before.before.before.before.before.before
 known : (c : tie.After-known-told2) → Vector (start c).args.u (start c).args.tag.0 c.before.vector3.given.0.0
 known c =
     let a = (start c).args in
-    vector-value a.u a.tag.0 c.before.vector3.given.0.0 (sym c.before.before.before.vector.ensures ∙ c.before.vector3.given.1)
+    vector_value a.u a.tag.0 c.before.vector3.given.0.0 (sym c.before.before.before.vector.ensures ∙ c.before.vector3.given.1)
 
 returns : tie.Need-returns
 returns c =
@@ -48,21 +48,21 @@ returns-3 c =
     let fits = listed.before.before in
     let enough = fits.before in
     let a = (start enough.before).args in
-    ends-many a.u a.tag.0 a.work.now a.out.now _ (known enough.before) (omega (arith, enough.if1.false)) (omega (arith, fits.if2.false)) _ _ listed.enlist.ensures
-    (enlist-many _ 1 _ listed.enlist.result (omega (arith, enough.if1.false)) listed.enlist.ensures.answer c.if3.true)
+    ends_many a.u a.tag.0 a.work.now a.out.now _ (known enough.before) (omega (arith, enough.if1.false)) (omega (arith, fits.if2.false)) _ _ listed.enlist.ensures
+    (enlist_many _ 1 _ listed.enlist.result (omega (arith, enough.if1.false)) listed.enlist.ensures.answer c.if3.true)
 
 walk-requires : tie.Need-walk-requires
 walk-requires c κs =
     let listed = c.before.before.before.before in
     let enough = listed.before.before.before in
-    listed-walkable _ _ _ _ (omega (arith, enough.if1.false)) c.before.if3.false listed.enlist.ensures
+    listed_walkable _ _ _ _ (omega (arith, enough.if1.false)) c.before.if3.false listed.enlist.ensures
 
 copy-latencies-requires : tie.Need-copy-latencies-requires
 copy-latencies-requires c κs =
     let walked = c.before.before.before.before in
     let listed = walked.before.before.before.before.before in
     let fits = listed.before.before in
-    walked-copyable _ _ _ _ _ (omega (arith, listed.enlist.ensures.size, fits.before.if1.false)) (omega (arith, fits.if2.false)) walked.walk.ensures
+    walked_copyable _ _ _ _ _ (omega (arith, listed.enlist.ensures.size, fits.before.if1.false)) (omega (arith, fits.if2.false)) walked.walk.ensures
 
 cast-latencies : tie.Need-overflow-cast-latencies
 cast-latencies c =
@@ -73,7 +73,7 @@ returns-4 : tie.Need-returns-4
 returns-4 c =
     let asked = c.before.before.before in
     let a = asked.before.before.before.args in
-    ends-refused a.u a.tag.0 a.work.now a.out.now _ (vector-refused a.u a.tag.0 _ (sym asked.vector.ensures ∙ c.before.vector2.given.1))
+    ends_refused a.u a.tag.0 a.work.now a.out.now _ (vector_refused a.u a.tag.0 _ (sym asked.vector.ensures ∙ c.before.vector2.given.1))
 
 same-length-2 : tie.Need-same-length-2
 same-length-2 c = search rules
@@ -90,7 +90,7 @@ returns-5 c =
     let enough = fits.before in
     let a = (start enough.before).args in
     ends-cycle a.u a.tag.0 a.work.now a.out.now _ (known enough.before) (omega (arith, enough.if1.false)) (omega (arith, fits.if2.false)) _ _ listed.enlist.ensures
-    (enlist-few _ 1 _ listed.enlist.result listed.enlist.ensures.answer walked.before.before.if3.false)
+    (enlist_few _ 1 _ listed.enlist.result listed.enlist.ensures.answer walked.before.before.if3.false)
     _ walked.walk.result _ _ walked.walk.ensures copied.copy-latencies.ensures
 
 pub greedy-spec : {M : Type 1} → statement M

@@ -3,7 +3,7 @@ use Prim.Native.Nat.{◌+◌, ◌-◌}
 use native.Mathlib.Omega.{arith}
 use borrow.Author.Rules.{rules}
 use Rattle.words.proofs.Tests.{off, on}
-use Rattle.cycles.proofs.LatencyLaws.{Trying, try-start, try-more, try-found, try-last}
+use Rattle.cycles.proofs.LatencyLaws.{Trying, try_start, try-more, try-found, try-last}
 use Rattle.cycles.proofs.least_latency.Statement.{statement}
 use Rattle.cycles.proofs.least_latency.Tie as tie
 
@@ -14,7 +14,7 @@ abbrev decreases-loop : tie.decreases-loop
 decreases-loop state columns latency₀ latency = columns + 1 - latency
 
 loop-holds : tie.Need-loop-init invariant-loop decreases-loop
-loop-holds c = try-start _ _
+loop-holds c = try_start _ _
 
 sub-test : tie.Need-overflow-sub-test invariant-loop decreases-loop
 sub-test c = omega arith

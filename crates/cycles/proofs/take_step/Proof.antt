@@ -5,7 +5,7 @@ use native.Mathlib.Omega.{arith}
 use lib.ListN.{set, length-set}
 use borrow.Author.Rules.{rules}
 use Rattle.diagram.specs.Work.{place_in}
-use Rattle.cycles.proofs.LatencyLaws.{step-state}
+use Rattle.cycles.proofs.LatencyLaws.{step_state}
 use Rattle.cycles.proofs.take_step.Statement.{statement}
 use Rattle.cycles.proofs.take_step.Tie as tie
 
@@ -60,7 +60,7 @@ returns c =
     let latency = found.least-latency.ensures in
     record {
       words = ap (set (set w (768 + a.at) (a.step + 1)) (1024 + a.step)) latency;
-      place = c.place.ensures ∙ ap (place_in w a.states) (step-state a.vector _ _ _ _ entry.requires.narrow latency c.before.shift.ensures);
+      place = c.place.ensures ∙ ap (place_in w a.states) (step_state a.vector _ _ _ _ entry.requires.narrow latency c.before.shift.ensures);
     }
 
 pub take-step-spec : {M : Type 1} → statement M

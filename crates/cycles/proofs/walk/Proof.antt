@@ -4,7 +4,7 @@ use mathlib.Core.Path.{sym, subst}
 use native.Mathlib.Omega.{arith}
 use borrow.Author.Rules.{rules}
 use Rattle.cycles.specs.Inner.{Ready}
-use Rattle.cycles.proofs.WalkLaws.{Walking, walk_start, walk-few, walk-room, walk-place, walk-fewer, walk-ready, walk_more, walk-back, walk_end}
+use Rattle.cycles.proofs.WalkLaws.{Walking, walk_start, walk_few, walk-room, walk-place, walk_fewer, walk-ready, walk_more, walk-back, walk_end}
 use Rattle.cycles.proofs.walk.Statement.{statement}
 use Rattle.cycles.proofs.walk.Tie as tie
 
@@ -47,7 +47,7 @@ add_step c =
 loop-less : tie.Need-loop-smaller invariant-loop decreases-loop
 loop-less c =
     let l = c.before.before.before.before.before.before in
-    omega (arith, walk-fewer l.loop.invariant c.before.before.before.before.if1.true)
+    omega (arith, walk_fewer l.loop.invariant c.before.before.before.before.if1.true)
 
 loop-again : tie.Need-loop-preserved invariant-loop decreases-loop
 loop-again c =
@@ -74,7 +74,7 @@ sub-first c = (walk-back c.before.before.before.loop.invariant c.before.if1.fals
 add-from : tie.Need-overflow-add-from invariant-loop decreases-loop
 add-from c =
     let l = c.before.before.before.loop in
-    omega (arith, (walk-back l.invariant c.before.if1.false).1, walk-few l.invariant, l.invariant.listing.index.few)
+    omega (arith, (walk-back l.invariant c.before.if1.false).1, walk_few l.invariant, l.invariant.listing.index.few)
 
 sub-count : tie.Need-overflow-sub-count invariant-loop decreases-loop
 sub-count c = omega (arith, (walk-back c.before.before.before.loop.invariant c.before.if1.false).1)

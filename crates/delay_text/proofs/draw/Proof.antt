@@ -1,6 +1,6 @@
 -- `delay_text::draw` meets its contract. Assumes nothing.
 use borrow.Author.Rules.{rules}
-use Rattle.delay_text.proofs.ShownLaws.{table-refused, table-drawn}
+use Rattle.delay_text.proofs.ShownLaws.{table_refused, table-drawn}
 use Rattle.delay_text.proofs.draw.Statement.{statement}
 use Rattle.delay_text.proofs.draw.Tie as tie
 
@@ -17,7 +17,7 @@ table-requires : tie.Need-table-requires
 table-requires c κs = search rules
 
 returns : tie.Need-returns
-returns c = let o = c.before.before.before.delays in table-refused _ _ _ o.result o.ensures _ _ c.before.answer.given.1
+returns c = let o = c.before.before.before.delays in table_refused _ _ _ o.result o.ensures _ _ c.before.answer.given.1
 
 same_length : tie.Need-same-length
 same_length c = search rules

@@ -1,6 +1,6 @@
 -- `delay_text::write` meets its contract. Assumes nothing.
 use borrow.Author.Rules.{rules}
-use Rattle.delay_text.proofs.ShownLaws.{file-refused, file-written}
+use Rattle.delay_text.proofs.ShownLaws.{file_refused, file_written}
 use Rattle.delay_text.proofs.write.Statement.{statement}
 use Rattle.delay_text.proofs.write.Tie as tie
 
@@ -17,13 +17,13 @@ write-requires : tie.Need-write-requires
 write-requires c κs = search rules
 
 returns : tie.Need-returns
-returns c = let o = c.before.before.before.delays in file-refused _ _ _ o.result o.ensures _ _ c.before.answer.given.1
+returns c = let o = c.before.before.before.delays in file_refused _ _ _ o.result o.ensures _ _ c.before.answer.given.1
 
 same_length : tie.Need-same-length
 same_length c = search rules
 
 returns-2 : tie.Need-returns-2
-returns-2 c = let b = c.before.before in let o = b.before.before.before.before.delays in file-written _ _ _ o.result o.ensures _ _ _ b.before.before.enum_told.given.1 b.write.ensures
+returns-2 c = let b = c.before.before in let o = b.before.before.before.before.delays in file_written _ _ _ o.result o.ensures _ _ _ b.before.before.enum_told.given.1 b.write.ensures
 
 pub write_spec : {M : Type 1} → statement M
 write_spec =

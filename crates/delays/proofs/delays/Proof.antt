@@ -6,7 +6,7 @@ use mir.Syntax.{w16}
 use mir.Val.{Fits}
 use Rattle.words.proofs.Tests.{on, off}
 use Rattle.unit.proofs.SoundLaws.{Words}
-use Rattle.delays.proofs.EndLaws.{crowded-is, suited, tag-left, crowded-left, latency-left, all_placed}
+use Rattle.delays.proofs.EndLaws.{crowded_is, suited, tag-left, crowded-left, latency-left, all_placed}
 use Rattle.delays.proofs.delays.Statement.{statement}
 use Rattle.delays.proofs.delays.Tie as tie
 
@@ -41,7 +41,7 @@ returns c =
     let s = d.before.before.before.before in
     let t = sym d.before.before.before.check-tag.ensures ∙ d.before.enum_told.given.1 in
     c.refused2.ensures
-    ∙ crowded-left s.args.u s.args.tag.0 s.args.latency t (sym (crowded-is s.args.u s.args.tag.0 _ (words s) t d.columns_of.ensures) ∙ sym c.before.before.is-crowded.ensures ∙ c.before.if1.true)
+    ∙ crowded-left s.args.u s.args.tag.0 s.args.latency t (sym (crowded_is s.args.u s.args.tag.0 _ (words s) t d.columns_of.ensures) ∙ sym c.before.before.is-crowded.ensures ∙ c.before.if1.true)
 
 is-latency-requires : tie.Need-is-latency-requires
 is-latency-requires c κs =
@@ -56,7 +56,7 @@ returns-2 c =
     let d = c.before.before.before.before.before in
     let s = d.before.before.before.before in
     let t = sym d.before.before.before.check-tag.ensures ∙ d.before.enum_told.given.1 in
-    let single = sym (crowded-is s.args.u s.args.tag.0 _ (words s) t d.columns_of.ensures) ∙ sym c.before.before.before.before.is-crowded.ensures ∙ c.before.before.before.if1.false in
+    let single = sym (crowded_is s.args.u s.args.tag.0 _ (words s) t d.columns_of.ensures) ∙ sym c.before.before.before.before.is-crowded.ensures ∙ c.before.before.before.if1.false in
     c.refused3.ensures ∙ latency-left s.args.u s.args.tag.0 s.args.latency t single (off c.before.if2.true c.before.before.is-latency.ensures)
 
 place-all-requires : tie.Need-place-all-requires
@@ -76,7 +76,7 @@ returns-4 c =
     let d = c.before.before.before.before.before in
     let s = d.before.before.before.before in
     let t = sym d.before.before.before.check-tag.ensures ∙ d.before.enum_told.given.1 in
-    let single = sym (crowded-is s.args.u s.args.tag.0 _ (words s) t d.columns_of.ensures) ∙ sym c.before.before.before.before.is-crowded.ensures ∙ c.before.before.before.if1.false in
+    let single = sym (crowded_is s.args.u s.args.tag.0 _ (words s) t d.columns_of.ensures) ∙ sym c.before.before.before.before.is-crowded.ensures ∙ c.before.before.before.if1.false in
     c.place-all.ensures
     ∙ all_placed s.args.u s.args.tag.0 s.args.latency t single _ d.columns_of.ensures (on c.before.if2.false c.before.before.is-latency.ensures)
 

@@ -1,12 +1,12 @@
 -- `delays::first_for` meets its contract. Assumes nothing.
 use native.Mathlib.Omega.{arith}
 use borrow.Author.Rules.{rules}
-use Rattle.delays.proofs.WordLaws.{first-none, first_some}
+use Rattle.delays.proofs.WordLaws.{first_none, first_some}
 use Rattle.delays.proofs.first_for.Statement.{statement}
 use Rattle.delays.proofs.first_for.Tie as tie
 
 returns : tie.Need-returns
-returns c = first-none _ _ c.if1.true
+returns c = first_none _ _ c.if1.true
 
 sub-result : tie.Need-overflow-sub-result
 sub-result c = search rules

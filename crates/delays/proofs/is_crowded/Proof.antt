@@ -6,13 +6,13 @@ use native.Mathlib.Omega.{arith}
 use borrow.Author.Count.{below_more}
 use borrow.Author.Rules.{rules}
 use lib.ListN.{get_or}
-use Rattle.words.proofs.BelowLaws.{some-intro, some-none}
-use Rattle.delays.specs.Inner.{twoIn}
+use Rattle.words.proofs.BelowLaws.{some_intro, some_none}
+use Rattle.delays.specs.Inner.{two_in}
 use Rattle.delays.proofs.is_crowded.Statement.{statement}
 use Rattle.delays.proofs.is_crowded.Tie as tie
 
 abbrev invariant-loop : tie.invariant-loop
-invariant-loop columns i₀ i = (i ≤ 32) × ((k : ℕ) → k < i → twoIn (get_or columns k 0) ≡ false)
+invariant-loop columns i₀ i = (i ≤ 32) × ((k : ℕ) → k < i → two_in (get_or columns k 0) ≡ false)
 
 abbrev decreases-loop : tie.decreases-loop
 decreases-loop columns i₀ i = 32 - i
@@ -32,7 +32,7 @@ has-two-requires c κs = search rules
 returns : tie.Need-returns invariant-loop decreases-loop
 returns c =
     let l = c.before.before.before.loop in
-    sym (some-intro 32 _ l.i c.before.before.loop-test.true (sym c.before.has-two.ensures ∙ c.if1.true))
+    sym (some_intro 32 _ l.i c.before.before.loop-test.true (sym c.before.has-two.ensures ∙ c.if1.true))
 
 add-i : tie.Need-overflow-add-i invariant-loop decreases-loop
 add-i c = search rules
@@ -46,7 +46,7 @@ loop-again c =
     (omega arith, below_more _ l.i l.invariant.1 (sym c.before.has-two.ensures ∙ c.if1.false))
 
 returns-2 : tie.Need-returns-2 invariant-loop decreases-loop
-returns-2 c = let l = c.before.loop in sym (some-none 32 _ (λ k h. l.invariant.1 k (omega (arith, c.loop-test.false))))
+returns-2 c = let l = c.before.loop in sym (some_none 32 _ (λ k h. l.invariant.1 k (omega (arith, c.loop-test.false))))
 
 pub is-crowded-spec : {M : Type 1} → statement M
 is-crowded-spec =

@@ -5,7 +5,7 @@ use borrow.Author.Rules.{rules}
 use lib.Dec.{leb}
 use Rattle.words.proofs.Tests.{on, off}
 use Rattle.unit.specs.Unit.{marked}
-use Rattle.collision.specs.Vector.{marksOf}
+use Rattle.collision.specs.Vector.{marks_of}
 use Rattle.delays.proofs.EndLaws.{marks-given, marks-never}
 use Rattle.delays.proofs.is_latency.Statement.{statement}
 use Rattle.delays.proofs.is_latency.Tie as tie
@@ -35,7 +35,7 @@ returns-3 c =
     let s = c.before.before.before.before.before.before in
     let m = s.args.latency in
     let most = marks-given s.args.u s.args.tag.0 s.requires _ c.before.before.before.marks.ensures _ c.before.most.given.1 in
-    ap (λ n. leb n m) most ∙ sym (ap (λ t. t && leb (marksOf (marked s.args.u) s.args.tag.0) m) (on c.before.before.before.before.if1.false c.before.before.before.before.before.is-inside.ensures))
+    ap (λ n. leb n m) most ∙ sym (ap (λ t. t && leb (marks_of (marked s.args.u) s.args.tag.0) m) (on c.before.before.before.before.if1.false c.before.before.before.before.before.is-inside.ensures))
 
 pub is-latency-spec : {M : Type 1} → statement M
 is-latency-spec = tie.close (tie.spec is-inside-requires returns marks-requires enum_told enum-known-most returns-2 returns-3)

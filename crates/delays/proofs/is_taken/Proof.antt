@@ -7,12 +7,12 @@ use borrow.Author.Rules.{rules}
 use lib.Dec.{eqb}
 use lib.ListN.{get_or}
 use Rattle.collision.specs.Vector.{meet}
-use Rattle.delays.proofs.WordLaws.{takenBy, by-none, by-more, by_all}
+use Rattle.delays.proofs.WordLaws.{taken_by, by_none, by_more, by_all}
 use Rattle.delays.proofs.is_taken.Statement.{statement}
 use Rattle.delays.proofs.is_taken.Tie as tie
 
 abbrev invariant-loop : tie.invariant-loop
-invariant-loop count place latency columns spots word rest taken₀ i₀ taken i = (i ≤ count) × (count < 32) × (1 ≤ latency) × (word ≡ get_or columns count 0) × (rest ≡ place % latency) × (taken ≡ takenBy columns spots count latency place i)
+invariant-loop count place latency columns spots word rest taken₀ i₀ taken i = (i ≤ count) × (count < 32) × (1 ≤ latency) × (word ≡ get_or columns count 0) × (rest ≡ place % latency) × (taken ≡ taken_by columns spots count latency place i)
 
 abbrev decreases-loop : tie.decreases-loop
 decreases-loop count place latency columns spots word rest taken₀ i₀ taken i = count - i
@@ -27,7 +27,7 @@ rem-rest : tie.Need-nonzero-rem-rest invariant-loop decreases-loop
 rem-rest c = search rules
 
 loop-holds : tie.Need-loop-init invariant-loop decreases-loop
-loop-holds c = (omega arith, c.requires.0, c.requires.1, refl, refl, by-none _ _ _ _ _)
+loop-holds c = (omega arith, c.requires.0, c.requires.1, refl, refl, by_none _ _ _ _ _)
 
 mul-is-taken-more : tie.Need-overflow-mul-is-taken-more invariant-loop decreases-loop
 mul-is-taken-more c = search rules
@@ -61,7 +61,7 @@ loop-again c =
       refl,
       c.is-taken-more.ensures
           ∙ ap (λ t. meet (get_or a.t1 l.i 0) (get_or a.t1 a.count 0) && eqb (get_or a.t2 l.i 0 % a.latency) (a.place % a.latency) || t) l.invariant.5
-          ∙ by-more a.t1 a.t2 a.count a.latency a.place l.i,
+          ∙ by_more a.t1 a.t2 a.count a.latency a.place l.i,
     )
 
 returns : tie.Need-returns invariant-loop decreases-loop
@@ -69,7 +69,7 @@ returns c =
     let l = c.before.loop in
     let a = c.before.before.args in
     let e : l.i ≡ a.count = omega (arith, c.loop-test.false, l.invariant.0) in
-    l.invariant.5 ∙ ap (takenBy a.t1 a.t2 a.count a.latency a.place) e ∙ by_all _ _ _ _ _
+    l.invariant.5 ∙ ap (taken_by a.t1 a.t2 a.count a.latency a.place) e ∙ by_all _ _ _ _ _
 
 pub is-taken-spec : {M : Type 1} → statement M
 is-taken-spec =

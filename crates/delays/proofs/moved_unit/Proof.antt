@@ -6,15 +6,15 @@ use borrow.Author.Rules.{rules}
 use lib.ListN.{get_or}
 use Rattle.unit.specs.declared.FunctionUnit.{FunctionUnit}
 use Rattle.unit.specs.declared.Outcome.{Outcome}
-use Rattle.unit.specs.Calls.{unit_of, columnOf}
-use Rattle.delays.specs.Delays.{places, movedTable}
-use Rattle.delays.specs.Inner.{columnMarks, Movable}
-use Rattle.delays.proofs.MoveLaws.{fresh-is, unit-none, unit-more}
+use Rattle.unit.specs.Calls.{unit_of, column_of}
+use Rattle.delays.specs.Delays.{places, moved_table}
+use Rattle.delays.specs.Inner.{column_marks, Movable}
+use Rattle.delays.proofs.MoveLaws.{fresh_is, unit-none, unit-more}
 use Rattle.delays.proofs.moved_unit.Statement.{statement}
 use Rattle.delays.proofs.moved_unit.Tie as tie
 
 abbrev invariant-loop : tie.invariant-loop
-invariant-loop latency count segments width columns spots unit₀ i₀ unit i = (i ≤ count) × Movable columns spots latency count segments width × (unit ≡ unit_of 1 segments width (movedTable (columnMarks columns) (places (columnMarks columns) latency i)))
+invariant-loop latency count segments width columns spots unit₀ i₀ unit i = (i ≤ count) × Movable columns spots latency count segments width × (unit ≡ unit_of 1 segments width (moved_table (column_marks columns) (places (column_marks columns) latency i)))
 
 abbrev decreases-loop : tie.decreases-loop
 decreases-loop latency count segments width columns spots unit₀ i₀ unit i = count - i
@@ -27,7 +27,7 @@ loop-holds c =
     let s = c.before.before in (
       omega arith,
       s.requires,
-      ap (λ (o : Outcome). o.unit) c.before.fresh.ensures ∙ fresh-is s.args.segments s.args.width
+      ap (λ (o : Outcome). o.unit) c.before.fresh.ensures ∙ fresh_is s.args.segments s.args.width
           ∙ unit-none s.args.t1 s.args.t2 s.args.latency s.args.count s.args.segments s.args.width s.requires,
     )
 
@@ -62,7 +62,7 @@ loop-again c =
       omega (arith, c.before.before.loop-test.true),
       l.invariant.1,
       ap (λ (o : Outcome). o.unit) c.before.with-column.ensures
-          ∙ ap (λ (u : FunctionUnit). (columnOf u 1 (get_or a.t2 l.i 0) (get_or a.t1 l.i 0)).unit) l.invariant.2
+          ∙ ap (λ (u : FunctionUnit). (column_of u 1 (get_or a.t2 l.i 0) (get_or a.t1 l.i 0)).unit) l.invariant.2
           ∙ unit-more a.t1 a.t2 a.latency a.count a.segments a.width l.invariant.1 l.i c.before.before.loop-test.true,
     )
 
@@ -71,7 +71,7 @@ returns c =
     let l = c.before.loop in
     let a = c.before.before.before.before.args in
     let e : l.i ≡ a.count = omega (arith, c.loop-test.false, l.invariant.0) in
-    l.invariant.2 ∙ ap (λ k. unit_of 1 a.segments a.width (movedTable (columnMarks a.t1) (places (columnMarks a.t1) a.latency k))) e
+    l.invariant.2 ∙ ap (λ k. unit_of 1 a.segments a.width (moved_table (column_marks a.t1) (places (column_marks a.t1) a.latency k))) e
 
 pub moved-unit-spec : {M : Type 1} → statement M
 moved-unit-spec =

@@ -3,7 +3,7 @@ use Prim.Native.Nat.{◌-◌}
 use native.Mathlib.Omega.{arith}
 use Rattle.words.proofs.Tests.{on, off}
 use Rattle.delays.specs.Inner.{Placing}
-use Rattle.delays.proofs.WordLaws.{Tried, tried-more, tried-found}
+use Rattle.delays.proofs.WordLaws.{Tried, tried_more, tried_found}
 use Rattle.delays.proofs.place_for.Statement.{statement}
 use Rattle.delays.proofs.place_for.Tie as tie
 
@@ -25,7 +25,7 @@ is-taken-requires c κs = let l = c.before.loop in (l.invariant.0.inside, l.inva
 returns : tie.Need-returns invariant-loop decreases-loop
 returns c =
     let l = c.before.before.before.loop in (
-      tried-found _ _ _ _ l.place l.tries l.invariant.1 (λ h. off c.if1.true c.before.is-taken.ensures),
+      tried_found _ _ _ _ l.place l.tries l.invariant.1 (λ h. off c.if1.true c.before.is-taken.ensures),
       omega (arith, l.invariant.1.spot, l.invariant.0.low, l.invariant.0.most, c.before.before.loop-test.true),
     )
 
@@ -41,12 +41,12 @@ loop-less c = omega (arith, c.before.before.loop-test.true)
 loop-again : tie.Need-loop-preserved invariant-loop decreases-loop
 loop-again c =
     let l = c.before.before.before.loop in
-    (l.invariant.0, tried-more _ _ _ _ l.place l.tries l.invariant.1 c.before.before.loop-test.true (on c.if1.false c.before.is-taken.ensures))
+    (l.invariant.0, tried_more _ _ _ _ l.place l.tries l.invariant.1 c.before.before.loop-test.true (on c.if1.false c.before.is-taken.ensures))
 
 returns-2 : tie.Need-returns-2 invariant-loop decreases-loop
 returns-2 c =
     let l = c.before.loop in (
-      tried-found _ _ _ _ l.place l.tries l.invariant.1 (λ h. absurd (omega (arith, c.loop-test.false))),
+      tried_found _ _ _ _ l.place l.tries l.invariant.1 (λ h. absurd (omega (arith, c.loop-test.false))),
       omega (arith, l.invariant.1.spot, l.invariant.1.few, l.invariant.0.low, l.invariant.0.most),
     )
 

@@ -3,19 +3,19 @@ use Prim.Native.Nat.{ℕ, ◌≤◌, ◌<◌, ◌-◌, ◌+◌, ◌*◌}
 use mathlib.Core.Path.{◌≡◌, refl, subst}
 use native.Mathlib.Omega.{arith}
 use lib.ListN.{replicate}
-use Rattle.delays.specs.Inner.{columnMarks, firstFor, Placed}
-use Rattle.delays.proofs.WordLaws.{first-none, placed-more, placed-low}
+use Rattle.delays.specs.Inner.{column_marks, first_for, Placed}
+use Rattle.delays.proofs.WordLaws.{first_none, placed_more, placed-low}
 use Rattle.delays.proofs.places_of.Statement.{statement}
 use Rattle.delays.proofs.places_of.Tie as tie
 
 abbrev invariant-loop : tie.invariant-loop
-invariant-loop columns count latency spots₀ i₀ spots i = (i ≤ count) × (count ≤ 32) × (1 ≤ latency) × (latency ≤ 32) × (firstFor spots i ≤ 33 * i + 1) × Placed (columnMarks columns) latency i spots
+invariant-loop columns count latency spots₀ i₀ spots i = (i ≤ count) × (count ≤ 32) × (1 ≤ latency) × (latency ≤ 32) × (first_for spots i ≤ 33 * i + 1) × Placed (column_marks columns) latency i spots
 
 abbrev decreases-loop : tie.decreases-loop
 decreases-loop columns count latency spots₀ i₀ spots i = count - i
 
 loop-holds : tie.Need-loop-init invariant-loop decreases-loop
-loop-holds c = (omega arith, c.requires.0, c.requires.1, c.requires.2, omega (arith, first-none (replicate 32 0) 0 refl), record { size = refl; each = λ k h. absurd (omega arith) })
+loop-holds c = (omega arith, c.requires.0, c.requires.1, c.requires.2, omega (arith, first_none (replicate 32 0) 0 refl), record { size = refl; each = λ k h. absurd (omega arith) })
 
 place-for-requires : tie.Need-place-for-requires invariant-loop decreases-loop
 place-for-requires c κs = let l = c.before.loop in record { inside = omega (arith, l.invariant.1); least = l.invariant.2; most = l.invariant.3; low = l.invariant.4 }
@@ -43,7 +43,7 @@ loop-again c =
       l.invariant.2,
       l.invariant.3,
       placed-low a.columns a.latency l.spots l.i _ h l.invariant.5.size e.1,
-      placed-more a.columns a.latency l.spots l.i _ h l.invariant.5 e.0,
+      placed_more a.columns a.latency l.spots l.i _ h l.invariant.5 e.0,
     )
 
 returns : tie.Need-returns invariant-loop decreases-loop
@@ -51,7 +51,7 @@ returns c =
     let l = c.before.loop in
     let a = c.before.before.args in
     let e : l.i ≡ a.count = omega (arith, c.loop-test.false, l.invariant.0) in
-    subst (λ (k : ℕ). Placed (columnMarks a.columns) a.latency k l.spots) e l.invariant.5
+    subst (λ (k : ℕ). Placed (column_marks a.columns) a.latency k l.spots) e l.invariant.5
 
 pub places-of-spec : {M : Type 1} → statement M
 places-of-spec =

@@ -1,7 +1,7 @@
 -- `diagram::clear` meets its contract: the heads before the slot are none. Assumes nothing.
 use Prim.Native.Nat.{◌-◌}
 use native.Mathlib.Omega.{arith}
-use Rattle.diagram.proofs.ClearLaws.{Clearing, clear-start, clear-more, clear-end}
+use Rattle.diagram.proofs.ClearLaws.{Clearing, clear_start, clear_more, clear_end}
 use Rattle.diagram.proofs.clear.Statement.{statement}
 use Rattle.diagram.proofs.clear.Tie as tie
 
@@ -12,7 +12,7 @@ abbrev decreases-loop : tie.decreases-loop
 decreases-loop work₀ slot₀ work slot = 512 - slot
 
 loop-holds : tie.Need-loop-init invariant-loop decreases-loop
-loop-holds c = clear-start _ c.requires
+loop-holds c = clear_start _ c.requires
 
 mul-work : tie.Need-overflow-mul-work invariant-loop decreases-loop
 mul-work c = omega arith
@@ -27,13 +27,13 @@ loop-less : tie.Need-loop-smaller invariant-loop decreases-loop
 loop-less c = omega arith
 
 loop-again : tie.Need-loop-preserved invariant-loop decreases-loop
-loop-again c = clear-more _ _ _ c.before.loop.invariant (omega (arith, c.loop-test.true))
+loop-again c = clear_more _ _ _ c.before.loop.invariant (omega (arith, c.loop-test.true))
 
 same_length : tie.Need-same-length invariant-loop decreases-loop
 same_length c = omega arith
 
 returns : tie.Need-returns invariant-loop decreases-loop
-returns c = clear-end _ _ _ c.before.loop.invariant (omega (arith, c.loop-test.false))
+returns c = clear_end _ _ _ c.before.loop.invariant (omega (arith, c.loop-test.false))
 
 pub clear_spec : {M : Type 1} → statement M
 clear_spec =

@@ -3,7 +3,7 @@ use mathlib.Core.Path.{◌∙◌}
 use Prim.Native.Nat.{◌-◌}
 use native.Mathlib.Omega.{arith}
 use borrow.Author.Rules.{rules}
-use Rattle.diagram.proofs.EnlistLaws.{Exploring, explore-start, explore-ready, explore-more, explore-over, explore-end}
+use Rattle.diagram.proofs.EnlistLaws.{Exploring, explore_start, explore-ready, explore_more, explore-over, explore-end}
 use Rattle.diagram.proofs.explore.Statement.{statement}
 use Rattle.diagram.proofs.explore.Tie as tie
 
@@ -19,7 +19,7 @@ width-of-requires c κs = search rules
 loop-holds : tie.Need-loop-init invariant-loop decreases-loop
 loop-holds c =
     let start = c.before.before in
-    explore-start _ _ _ c.width_of_lem.ensures start.ranges.vector.fits start.requires
+    explore_start _ _ _ c.width_of_lem.ensures start.ranges.vector.fits start.requires
 
 follow-requires : tie.Need-follow-requires invariant-loop decreases-loop
 follow-requires c κs = explore-ready c.before.before.loop.invariant c.before.loop-test.true
@@ -49,7 +49,7 @@ loop-again : tie.Need-loop-preserved invariant-loop decreases-loop
 loop-again c =
     let called = c.before.before.before in
     let turn = called.before.before in
-    explore-more turn.before.loop.invariant turn.loop-test.true called.follow.ensures c.if1.false
+    explore_more turn.before.loop.invariant turn.loop-test.true called.follow.ensures c.if1.false
 
 same-length-2 : tie.Need-same-length-2 invariant-loop decreases-loop
 same-length-2 c = c.before.loop.invariant.confined.size

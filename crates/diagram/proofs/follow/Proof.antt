@@ -4,8 +4,8 @@ use mathlib.Core.Bool.{false}
 use Rattle.words.specs.Bits.{is_set}
 use Prim.Native.Nat.{◌+◌, ◌-◌}
 use native.Mathlib.Omega.{arith}
-use Rattle.words.proofs.ZeroLaws.{zero-most}
-use Rattle.diagram.proofs.FollowLaws.{Following, follow-start, follow-more, follow-over, follow-end, follow-next, follow-past, follow-free}
+use Rattle.words.proofs.ZeroLaws.{zero_most}
+use Rattle.diagram.proofs.FollowLaws.{Following, follow_start, follow_more, follow_over, follow-end, follow_next, follow_past, follow_free}
 use borrow.Author.Rules.{rules}
 use Rattle.diagram.proofs.follow.Statement.{statement}
 use Rattle.diagram.proofs.follow.Tie as tie
@@ -29,14 +29,14 @@ zero-from-requires c κs = search rules
 add-latency : tie.Need-overflow-add-latency invariant-loop decreases-loop
 add-latency c =
     let start = c.before.before.before in
-    omega (arith, c.zero-from.ensures, start.requires.narrow, zero-most _ _ 0 start.requires.small)
+    omega (arith, c.zero-from.ensures, start.requires.narrow, zero_most _ _ 0 start.requires.small)
 
 loop-holds : tie.Need-loop-init invariant-loop decreases-loop
 loop-holds c =
     let start = c.before.before.before in
-    let r = follow-start _ _ _ _ _ start.requires.index in (
-      follow-next 0 _ r refl start.requires.small (omega arith) c.zero-from.ensures,
-      follow-free 0 _ r start.requires.small start.requires.narrow c.zero-from.ensures,
+    let r = follow_start _ _ _ _ _ start.requires.index in (
+      follow_next 0 _ r refl start.requires.small (omega arith) c.zero-from.ensures,
+      follow_free 0 _ r start.requires.small start.requires.narrow c.zero-from.ensures,
     )
 
 add-loop : tie.Need-overflow-add-loop invariant-loop decreases-loop
@@ -58,7 +58,7 @@ returns c =
     let called = c.before.before.before in
     let turn = called.before.before in
     let start = turn.before.before.before.before.before in
-    follow-over turn.before.loop.invariant.0 start.requires.small (omega (arith, turn.loop-test.true)) called.visit.ensures c.if1.true
+    follow_over turn.before.loop.invariant.0 start.requires.small (omega (arith, turn.loop-test.true)) called.visit.ensures c.if1.true
 
 zero-from-requires-2 : tie.Need-zero-from-requires-2 invariant-loop decreases-loop
 zero-from-requires-2 c κs = search rules
@@ -67,21 +67,21 @@ add-latency-2 : tie.Need-overflow-add-latency-2 invariant-loop decreases-loop
 add-latency-2 c =
     let turn = c.before.before.before.before.before.before in
     let start = turn.before.before.before.before.before in
-    omega (arith, c.zero-from2.ensures, start.requires.narrow, turn.loop-test.true, zero-most _ _ turn.before.loop.latency start.requires.small)
+    omega (arith, c.zero-from2.ensures, start.requires.narrow, turn.loop-test.true, zero_most _ _ turn.before.loop.latency start.requires.small)
 
 loop-less : tie.Need-loop-smaller invariant-loop decreases-loop
 loop-less c =
     let turn = c.before.before.before.before.before.before in
-    omega (arith, turn.before.loop.invariant.0.most, turn.loop-test.true, follow-past turn.before.loop.latency _ turn.before.loop.invariant.0 c.zero-from2.ensures)
+    omega (arith, turn.before.loop.invariant.0.most, turn.loop-test.true, follow_past turn.before.loop.latency _ turn.before.loop.invariant.0 c.zero-from2.ensures)
 
 loop-again : tie.Need-loop-preserved invariant-loop decreases-loop
 loop-again c =
     let called = c.before.before.before.before in
     let turn = called.before.before in
     let start = turn.before.before.before.before.before in
-    let r = follow-more turn.before.loop.invariant.0 start.requires.small (omega (arith, turn.loop-test.true)) called.visit.ensures c.before.if1.false in (
-      follow-next turn.before.loop.latency _ r refl start.requires.small (omega (arith, turn.loop-test.true)) c.zero-from2.ensures,
-      follow-free turn.before.loop.latency _ r start.requires.small start.requires.narrow c.zero-from2.ensures,
+    let r = follow_more turn.before.loop.invariant.0 start.requires.small (omega (arith, turn.loop-test.true)) called.visit.ensures c.before.if1.false in (
+      follow_next turn.before.loop.latency _ r refl start.requires.small (omega (arith, turn.loop-test.true)) c.zero-from2.ensures,
+      follow_free turn.before.loop.latency _ r start.requires.small start.requires.narrow c.zero-from2.ensures,
     )
 
 same-length-2 : tie.Need-same-length-2 invariant-loop decreases-loop

@@ -1,6 +1,6 @@
 -- `diagram::include` meets its contract: the index tells whether the state is listed. Assumes nothing.
 use native.Mathlib.Omega.{arith}
-use Rattle.diagram.proofs.FollowLaws.{include-found, include-full, include-more}
+use Rattle.diagram.proofs.FollowLaws.{include-found, include_full, include-more}
 use borrow.Author.Rules.{rules}
 use Rattle.diagram.proofs.include.Statement.{statement}
 use Rattle.diagram.proofs.include.Tie as tie
@@ -22,7 +22,7 @@ same-length-2 c = search rules
 returns-2 : tie.Need-returns-2
 returns-2 c =
     let placed = c.before.before in
-    include-full _ _ _ _ placed.before.before.before.requires placed.place.ensures c.before.if1.false (omega (arith, c.if2.true))
+    include_full _ _ _ _ placed.before.before.before.requires placed.place.ensures c.before.if1.false (omega (arith, c.if2.true))
 
 insert-requires : tie.Need-insert-requires
 insert-requires c κs = search rules

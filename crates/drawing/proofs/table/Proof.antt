@@ -3,9 +3,9 @@ use mathlib.Core.Path.{◌≡◌, sym, ◌∙◌}
 use native.Mathlib.Omega.{arith}
 use borrow.Author.Rules.{rules}
 use Rattle.unit.specs.declared.Answer.TheVariants.{Done}
-use Rattle.unit.specs.Calls.{tagAnswer}
-use Rattle.drawing.proofs.TableLaws.{lines-few}
-use Rattle.drawing.proofs.AnswerLaws.{sound-unit, table-refused, table-short, table-drawn}
+use Rattle.unit.specs.Calls.{tag_answer}
+use Rattle.drawing.proofs.TableLaws.{lines_few}
+use Rattle.drawing.proofs.AnswerLaws.{sound_unit, table_refused, table-short, table-drawn}
 use Rattle.drawing.proofs.table.Statement.{statement}
 use Rattle.drawing.proofs.table.Tie as tie
 
@@ -13,7 +13,7 @@ abbrev start : tie.After-enum-told → tie.Start
 start c = c.before.before.before.before
 
 -- the tag has passed
-passed : (c : tie.After-enum-told) → tagAnswer (start c).args.u (start c).args.tag.0 ≡ Done
+passed : (c : tie.After-enum-told) → tag_answer (start c).args.u (start c).args.tag.0 ≡ Done
 passed c = sym c.before.before.check-tag.ensures ∙ c.enum_told.given.1
 
 check-tag-requires : tie.Need-check-tag-requires
@@ -48,18 +48,18 @@ put-lines-requires c κs =
     let b = c.before.before.before.before in
     let n = b.before in
     let a = (start n.before).args in
-    let d = sound-unit a.u a.tag.0 (passed n.before) in
+    let d = sound_unit a.u a.tag.0 (passed n.before) in
     (d.segments.1, d.columns.1, omega (arith, n.length-of.ensures, b.if1.false))
 
 cast-t15 : tie.Need-overflow-cast-t15
 cast-t15 c =
     let e = c.before.before.before.before.before.before.before.before.before in
     let a = (start e).args in
-    let d = sound-unit a.u a.tag.0 (passed e) in
-    omega (arith, c.before.before.put-lines.ensures.few, lines-few a.u.segments a.u.columns d.segments.1 d.columns.1)
+    let d = sound_unit a.u a.tag.0 (passed e) in
+    omega (arith, c.before.before.put-lines.ensures.few, lines_few a.u.segments a.u.columns d.segments.1 d.columns.1)
 
 returns-2 : tie.Need-returns-2
-returns-2 c = let a = c.before.before.before.before.before.args in table-refused a.u a.tag.0 a.out.now _ (sym c.before.before.before.check-tag.ensures ∙ c.before.checked.given.1)
+returns-2 c = let a = c.before.before.before.before.before.args in table_refused a.u a.tag.0 a.out.now _ (sym c.before.before.before.check-tag.ensures ∙ c.before.checked.given.1)
 
 same_length : tie.Need-same-length
 same_length c = search rules

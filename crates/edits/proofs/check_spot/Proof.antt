@@ -2,8 +2,8 @@
 use mathlib.Core.Path.{◌≡◌, sym, ◌∙◌}
 use Rattle.words.proofs.Tests.{on, off}
 use Rattle.unit.specs.declared.Answer.TheVariants.{Done}
-use Rattle.unit.specs.Calls.{tagAnswer}
-use Rattle.unit.proofs.Laws.{spot-tag, spot-rest}
+use Rattle.unit.specs.Calls.{tag_answer}
+use Rattle.unit.proofs.Laws.{spot_tag, spot_rest}
 use borrow.Author.Rules.{rules}
 use Rattle.edits.proofs.check_spot.Statement.{statement}
 use Rattle.edits.proofs.check_spot.Tie as tie
@@ -25,8 +25,8 @@ returns c =
     let b = c.before.before in
     let s = b.before.before.before in
     let a = s.args in
-    let t : tagAnswer a.u a.tag.0 ≡ Done = sym b.before.before.check-tag.ensures ∙ b.enum_told.given.1 in
-    let r = spot-rest a.u a.tag.0 a.segment.0 a.column t in
+    let t : tag_answer a.u a.tag.0 ≡ Done = sym b.before.before.check-tag.ensures ∙ b.enum_told.given.1 in
+    let r = spot_rest a.u a.tag.0 a.segment.0 a.column t in
     rw r (simp (off c.if1.true c.before.is-inside.ensures))
 
 is-inside-requires-2 : tie.Need-is-inside-requires-2
@@ -37,22 +37,22 @@ returns-2 c =
     let b = c.before.before.before.before in
     let s = b.before.before.before in
     let a = s.args in
-    let t : tagAnswer a.u a.tag.0 ≡ Done = sym b.before.before.check-tag.ensures ∙ b.enum_told.given.1 in
-    let r = spot-rest a.u a.tag.0 a.segment.0 a.column t in
+    let t : tag_answer a.u a.tag.0 ≡ Done = sym b.before.before.check-tag.ensures ∙ b.enum_told.given.1 in
+    let r = spot_rest a.u a.tag.0 a.segment.0 a.column t in
     rw r (simp (on c.before.before.if1.false c.before.before.before.is-inside.ensures, off c.if2.true c.before.is-inside2.ensures))
 
 returns-3 : tie.Need-returns-3
 returns-3 c =
     let a = c.before.before.before.before.args in
-    sym (spot-tag a.u a.tag.0 a.segment.0 a.column _ (sym c.before.before.before.check-tag.ensures ∙ c.before.first.given.1))
+    sym (spot_tag a.u a.tag.0 a.segment.0 a.column _ (sym c.before.before.before.check-tag.ensures ∙ c.before.first.given.1))
 
 returns-4 : tie.Need-returns-4
 returns-4 c =
     let b = c.before.before.before.before in
     let s = b.before.before.before in
     let a = s.args in
-    let t : tagAnswer a.u a.tag.0 ≡ Done = sym b.before.before.check-tag.ensures ∙ b.enum_told.given.1 in
-    let r = spot-rest a.u a.tag.0 a.segment.0 a.column t in
+    let t : tag_answer a.u a.tag.0 ≡ Done = sym b.before.before.check-tag.ensures ∙ b.enum_told.given.1 in
+    let r = spot_rest a.u a.tag.0 a.segment.0 a.column t in
     rw r (simp (on c.before.before.if1.false c.before.before.before.is-inside.ensures, on c.if2.false c.before.is-inside2.ensures))
 
 pub check-spot-spec : {M : Type 1} → statement M

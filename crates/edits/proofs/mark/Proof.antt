@@ -5,8 +5,8 @@ use lib.ListN.{get_or}
 use mir.Syntax.{w16}
 use mir.Val.{Fits}
 use Rattle.unit.specs.declared.Answer.TheVariants.{Done}
-use Rattle.unit.specs.Calls.{spotAnswer, mark_of}
-use Rattle.unit.proofs.Laws.{Ranges, edit-ranges}
+use Rattle.unit.specs.Calls.{spot_answer, mark_of}
+use Rattle.unit.proofs.Laws.{Ranges, edit_ranges}
 use Rattle.unit.proofs.SoundLaws.{Words}
 use Rattle.unit.proofs.TableLaws.{mark-by-column}
 use borrow.Author.Rules.{rules}
@@ -26,11 +26,11 @@ abbrev start : tie.After-enum-told → tie.Start
 start c = c.before.before.before
 
 -- past the tests, the edit is accepted, and its numbers are in their ranges
-accepting : (c : tie.After-enum-told) → spotAnswer (start c).args.u (start c).args.tag.0 (start c).args.segment.0 (start c).args.column ≡ Done
+accepting : (c : tie.After-enum-told) → spot_answer (start c).args.u (start c).args.tag.0 (start c).args.segment.0 (start c).args.column ≡ Done
 accepting c = sym c.before.before.check-spot.ensures ∙ c.enum_told.given.1
 
 allowed : (c : tie.After-enum-told) → Ranges (start c).args.u (start c).args.tag.0 (start c).args.segment.0 (start c).args.column
-allowed c = edit-ranges _ _ _ _ (accepting c)
+allowed c = edit_ranges _ _ _ _ (accepting c)
 
 -- the unit has 128 words of 16 bits
 words : (c : tie.Start) → Words c.args.u

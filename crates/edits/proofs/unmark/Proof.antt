@@ -5,8 +5,8 @@ use lib.ListN.{get_or}
 use mir.Syntax.{w16}
 use mir.Val.{Fits}
 use Rattle.unit.specs.declared.Answer.TheVariants.{Done}
-use Rattle.unit.specs.Calls.{spotAnswer, unmarkOf}
-use Rattle.unit.proofs.Laws.{Ranges, edit-ranges}
+use Rattle.unit.specs.Calls.{spot_answer, unmark_of}
+use Rattle.unit.proofs.Laws.{Ranges, edit_ranges}
 use Rattle.unit.proofs.SoundLaws.{Words}
 use Rattle.unit.proofs.TableLaws.{unmark-by-column}
 use borrow.Author.Rules.{rules}
@@ -26,18 +26,18 @@ abbrev start : tie.After-enum-told → tie.Start
 start c = c.before.before.before
 
 -- past the tests, the edit is accepted, and its numbers are in their ranges
-accepting : (c : tie.After-enum-told) → spotAnswer (start c).args.u (start c).args.tag.0 (start c).args.segment.0 (start c).args.column ≡ Done
+accepting : (c : tie.After-enum-told) → spot_answer (start c).args.u (start c).args.tag.0 (start c).args.segment.0 (start c).args.column ≡ Done
 accepting c = sym c.before.before.check-spot.ensures ∙ c.enum_told.given.1
 
 allowed : (c : tie.After-enum-told) → Ranges (start c).args.u (start c).args.tag.0 (start c).args.segment.0 (start c).args.column
-allowed c = edit-ranges _ _ _ _ (accepting c)
+allowed c = edit_ranges _ _ _ _ (accepting c)
 
 -- the unit has 128 words of 16 bits
 words : (c : tie.Start) → Words c.args.u
 words c = record { count = search rules; small = λ k. let f : Fits w16 (get_or c.args.u.marks k 0) = search rules in f.fits }
 
 returns : tie.Need-returns
-unfolding unmarkOf
+unfolding unmark_of
 returns c = simp (sym c.before.before.check-spot.ensures ∙ c.enum-told2.given.1, c.enum-told2.given.1)
 
 columns-of-requires : tie.Need-columns-of-requires

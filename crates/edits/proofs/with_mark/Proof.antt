@@ -3,7 +3,7 @@ use Prim.Native.Nat.{◌-◌, ◌<◌, ◌^◌}
 use mathlib.Core.Path.{sym, subst}
 use native.Mathlib.Omega.{arith}
 use borrow.Author.Rules.{rules}
-use Rattle.words.proofs.BitLaws.{set-lt}
+use Rattle.words.proofs.BitLaws.{set_lt}
 use Rattle.edits.proofs.with_mark.Statement.{statement}
 use Rattle.edits.proofs.with_mark.Tie as tie
 
@@ -16,7 +16,7 @@ set-requires c κs = search rules
 cast-result : tie.Need-overflow-cast-result
 cast-result c =
     let a = c.before.args in
-    record { fits = rw c.set.ensures (set-lt 16 a.word (a.segment - 1) (omega arith) (search rules)) }
+    record { fits = rw c.set.ensures (set_lt 16 a.word (a.segment - 1) (omega arith) (search rules)) }
 
 returns : tie.Need-returns
 returns c = search rules

@@ -3,7 +3,7 @@ use Prim.Native.Nat.{◌-◌, ◌<◌, ◌^◌}
 use mathlib.Core.Path.{sym, subst}
 use native.Mathlib.Omega.{arith}
 use borrow.Author.Rules.{rules}
-use Rattle.words.proofs.BitLaws.{clear-lt}
+use Rattle.words.proofs.BitLaws.{clear_lt}
 use Rattle.edits.proofs.without_mark.Statement.{statement}
 use Rattle.edits.proofs.without_mark.Tie as tie
 
@@ -16,7 +16,7 @@ clear-requires c κs = search rules
 cast-result : tie.Need-overflow-cast-result
 cast-result c =
     let a = c.before.args in
-    record { fits = rw c.clear.ensures (clear-lt 16 a.word (a.segment - 1) (search rules)) }
+    record { fits = rw c.clear.ensures (clear_lt 16 a.word (a.segment - 1) (search rules)) }
 
 returns : tie.Need-returns
 returns c = search rules

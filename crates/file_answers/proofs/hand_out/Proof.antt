@@ -1,5 +1,5 @@
 -- `file_answers::hand_out` meets its contract: the ways that it ends. Assumes nothing.
-use Rattle.file_answers.proofs.HandedLaws.{number-unread, number-value, number-refused}
+use Rattle.file_answers.proofs.HandedLaws.{number-unread, number-value, number_refused}
 use borrow.Author.Rules.{rules}
 use Rattle.file_answers.proofs.hand_out.Statement.{statement}
 use Rattle.file_answers.proofs.hand_out.Tie as tie
@@ -35,7 +35,7 @@ returns-2 : tie.Need-returns-2
 returns-2 c = let told = c.before.asked in number-value _ _ _ c.before.before.before.enum_told.given.1 told.given.1
 
 returns-3 : tie.Need-returns-3
-returns-3 c = let told = c.before.before in number-refused _ _ _ told.before.before.enum_told.given.1 told.asked2.given.1 c.number-in2.ensures
+returns-3 c = let told = c.before.before in number_refused _ _ _ told.before.before.enum_told.given.1 told.asked2.given.1 c.number-in2.ensures
 
 pub hand-out-spec : {M : Type 1} → statement M
 hand-out-spec =

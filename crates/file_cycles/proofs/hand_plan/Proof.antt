@@ -4,7 +4,7 @@ use Prim.Native.Nat.{◌≤◌}
 use lib.ListN.{length}
 use lib.Seq.{length-take-le}
 use Rattle.unit.specs.declared.Plan.{Plan}
-use Rattle.file_cycles.proofs.SearchLaws.{plan-refused, plan-handed}
+use Rattle.file_cycles.proofs.SearchLaws.{plan_refused, plan-handed}
 use borrow.Author.Rules.{rules}
 use Rattle.file_cycles.proofs.hand_plan.Statement.{statement}
 use Rattle.file_cycles.proofs.hand_plan.Tie as tie
@@ -22,7 +22,7 @@ cast-result : tie.Need-overflow-cast-result
 cast-result c = search rules
 
 returns : tie.Need-returns
-returns c = plan-refused _ c.before.before.before.before.args.plan _ _ _ c.before.enum-told2.given.1 c.number_in.ensures
+returns c = plan_refused _ c.before.before.before.before.args.plan _ _ _ c.before.enum-told2.given.1 c.number_in.ensures
 
 cast-length : tie.Need-overflow-cast-length
 cast-length c = search rules

@@ -1,6 +1,6 @@
 -- `file_edits::write_back` meets its contract. Assumes nothing.
 use mathlib.Core.Path.{◌∙◌}
-use Rattle.unit.proofs.EndLaws.{then-first, then-second, ends-number, ends-done}
+use Rattle.unit.proofs.EndLaws.{then_first, then_second, ends_number, ends_done}
 use borrow.Author.Rules.{rules}
 use Rattle.file_edits.proofs.write_back.Statement.{statement}
 use Rattle.file_edits.proofs.write_back.Tie as tie
@@ -18,7 +18,7 @@ cast-result : tie.Need-overflow-cast-result
 cast-result c = search rules
 
 returns : tie.Need-returns
-returns c = let e = c.before.enum-told2.given.1 in ends-number _ _ _ (then-first _ _ e) e c.number_in.ensures
+returns c = let e = c.before.enum-told2.given.1 in ends_number _ _ _ (then_first _ _ e) e c.number_in.ensures
 
 enum-told-3 : tie.Need-enum-told-3
 enum-told-3 c = search rules
@@ -36,7 +36,7 @@ returns-2 : tie.Need-returns-2
 returns-2 c =
     let told = c.before in
     let e = told.enum-told4.given.1 in
-    ends-number _ _ _ (then-second _ _ told.before.before.enum_told.given.1 ∙ e) e c.number-in2.ensures
+    ends_number _ _ _ (then_second _ _ told.before.before.enum_told.given.1 ∙ e) e c.number-in2.ensures
 
 write-requires : tie.Need-write-requires
 write-requires c κs = search rules
@@ -48,7 +48,7 @@ returns-3 : tie.Need-returns-3
 returns-3 c =
     let w = c.before.before in
     let told = w.before.before in
-    let r = ends-done _ _ (then-second _ _ told.before.before.enum_told.given.1 ∙ told.enum-told3.given.1) in
+    let r = ends_done _ _ (then_second _ _ told.before.before.enum_told.given.1 ∙ told.enum-told3.given.1) in
     (r.0, w.write.ensures.1 ∙ r.1)
 
 pub write-back-spec : {M : Type 1} → statement M

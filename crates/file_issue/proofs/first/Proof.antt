@@ -1,6 +1,6 @@
 -- `file_issue::first` meets its contract. Assumes nothing.
 use mathlib.Core.Path.{sym}
-use Rattle.unit.proofs.EndLaws.{then-first}
+use Rattle.unit.proofs.EndLaws.{then_first}
 use borrow.Author.Rules.{rules}
 use Rattle.file_issue.proofs.first.Statement.{statement}
 use Rattle.file_issue.proofs.first.Tie as tie
@@ -15,7 +15,7 @@ returns : tie.Need-returns
 returns c = search rules
 
 returns-2 : tie.Need-returns-2
-returns-2 c = sym (then-first _ _ c.before.read.given.1)
+returns-2 c = sym (then_first _ _ c.before.read.given.1)
 
 pub first_spec : {M : Type 1} → statement M
 first_spec = tie.close (tie.spec enum_told enum-known-read returns returns-2)

@@ -2,7 +2,7 @@
 use native.Mathlib.Omega.{arith}
 use borrow.Author.Rules.{rules}
 use lib.ListN.{length-set}
-use Rattle.file_issue.proofs.WordLaws.{bank-stored}
+use Rattle.file_issue.proofs.WordLaws.{bank_stored}
 use Rattle.file_issue.proofs.store.Statement.{statement}
 use Rattle.file_issue.proofs.store.Tie as tie
 
@@ -22,7 +22,7 @@ same_length : tie.Need-same-length
 same_length c = search rules
 
 returns : tie.Need-returns
-returns c = bank-stored c.args.bank c.args.words.now c.requires
+returns c = bank_stored c.args.bank c.args.words.now c.requires
 
 pub store_spec : {M : Type 1} → statement M
 store_spec =

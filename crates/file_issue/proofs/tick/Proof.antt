@@ -1,5 +1,5 @@
 -- `file_issue::tick` meets its contract: the file's refusal, or one event on the registers. Assumes nothing.
-use Rattle.file_issue.proofs.IssueLaws.{tick-ends}
+use Rattle.file_issue.proofs.IssueLaws.{tick_ends}
 use borrow.Author.Rules.{rules}
 use Rattle.file_issue.proofs.tick.Statement.{statement}
 use Rattle.file_issue.proofs.tick.Tie as tie
@@ -17,7 +17,7 @@ returns : tie.Need-returns
 returns c =
     let stepped = c.before.before in
     let back = stepped.before.before in
-    tick-ends _ _ back.read.result _ _ back.read.ensures stepped.step.ensures
+    tick_ends _ _ back.read.result _ _ back.read.ensures stepped.step.ensures
 
 pub tick-spec : {M : Type 1} → statement M
 tick-spec = tie.close (tie.spec read-requires step-requires same_length returns)

@@ -1,10 +1,10 @@
 -- `file_questions::matrix_row` meets its contract: a refused file is passed on, and an accepted one's row is handed out. Assumes nothing.
 use mathlib.Core.Path.{ap₂, ◌∙◌}
 use Rattle.words.specs.Bytes.{narrow}
-use Rattle.collision.specs.Vector.{rowWord}
-use Rattle.collision.specs.Answers.{tagsAnswer, rowAnswer}
-use Rattle.file_answers.proofs.HandedLaws.{number-handed}
-use Rattle.file_questions.specs.Questions.{tagsRefusal}
+use Rattle.collision.specs.Vector.{row_word}
+use Rattle.collision.specs.Answers.{tags_answer, row_answer}
+use Rattle.file_answers.proofs.HandedLaws.{number_handed}
+use Rattle.file_questions.specs.Questions.{tags_refusal}
 use borrow.Author.Rules.{rules}
 use Rattle.file_questions.proofs.matrix_row.Statement.{statement}
 use Rattle.file_questions.proofs.matrix_row.Tie as tie
@@ -25,15 +25,15 @@ hand-out-requires : tie.Need-hand-out-requires
 hand-out-requires c κs = search rules
 
 returns : tie.Need-returns
-unfolding tagsRefusal rowAnswer
+unfolding tags_refusal row_answer
 returns c =
     let v = c.before.before in
     let b = v.before in
     let r = b.before.before in
     let tag = narrow r.before.before.args.tag in
     let other = narrow r.before.before.args.other in
-    number-handed _ _ r.read.ensures (λ u. tagsAnswer u tag other) (λ T. rowWord T tag other) _
-    (v.matrix-row.ensures ∙ ap₂ (rowAnswer r.read.result.unit) b.before.byte.ensures b.byte2.ensures) c.hand-out.ensures
+    number_handed _ _ r.read.ensures (λ u. tags_answer u tag other) (λ T. row_word T tag other) _
+    (v.matrix-row.ensures ∙ ap₂ (row_answer r.read.result.unit) b.before.byte.ensures b.byte2.ensures) c.hand-out.ensures
 
 pub matrix-row-spec : {M : Type 1} → statement M
 matrix-row-spec =

@@ -1,5 +1,5 @@
 -- `file_questions::states` meets its contract: the answer, the words and the count. Assumes nothing.
-use Rattle.file_questions.proofs.StatesLaws.{list-handed}
+use Rattle.file_questions.proofs.StatesLaws.{list_handed}
 use borrow.Author.Rules.{rules}
 use Rattle.file_questions.proofs.states.Statement.{statement}
 use Rattle.file_questions.proofs.states.Tie as tie
@@ -25,7 +25,7 @@ returns c =
     let byte = made.before.before in
     let back = byte.before in
     let a = back.before.before.before.args in
-    list-handed a.file.now a.tag a.out.now a.count.now back.read.result byte.byte.result made.states.result _ _ _ back.read.ensures
+    list_handed a.file.now a.tag a.out.now a.count.now back.read.result byte.byte.result made.states.result _ _ _ back.read.ensures
     byte.byte.ensures made.states.ensures c.hand-out.ensures
 
 pub states-spec : {M : Type 1} → statement M

@@ -1,11 +1,11 @@
 -- `file_questions::vector` meets its contract: a refused file is passed on, and an accepted one's vector is handed out. Assumes nothing.
 use mathlib.Core.Path.{ap, ◌∙◌}
 use Rattle.words.specs.Bytes.{narrow}
-use Rattle.unit.specs.Calls.{tagAnswer}
-use Rattle.collision.specs.Vector.{vectorWord}
-use Rattle.collision.specs.Answers.{vectorAnswer}
-use Rattle.file_answers.specs.Answers.{tagRefusal}
-use Rattle.file_answers.proofs.HandedLaws.{number-handed}
+use Rattle.unit.specs.Calls.{tag_answer}
+use Rattle.collision.specs.Vector.{vector_word}
+use Rattle.collision.specs.Answers.{vector_answer}
+use Rattle.file_answers.specs.Answers.{tag_refusal}
+use Rattle.file_answers.proofs.HandedLaws.{number_handed}
 use borrow.Author.Rules.{rules}
 use Rattle.file_questions.proofs.vector.Statement.{statement}
 use Rattle.file_questions.proofs.vector.Tie as tie
@@ -23,14 +23,14 @@ hand-out-requires : tie.Need-hand-out-requires
 hand-out-requires c κs = search rules
 
 returns : tie.Need-returns
-unfolding tagRefusal vectorAnswer
+unfolding tag_refusal vector_answer
 returns c =
     let v = c.before.before in
     let b = v.before in
     let r = b.before in
     let tag = narrow r.before.before.args.tag in
-    number-handed _ _ r.read.ensures (λ u. tagAnswer u tag) (λ T. vectorWord T tag) _
-    (v.vector.ensures ∙ ap (vectorAnswer r.read.result.unit) b.byte.ensures) c.hand-out.ensures
+    number_handed _ _ r.read.ensures (λ u. tag_answer u tag) (λ T. vector_word T tag) _
+    (v.vector.ensures ∙ ap (vector_answer r.read.result.unit) b.byte.ensures) c.hand-out.ensures
 
 pub vector-spec : {M : Type 1} → statement M
 vector-spec =

@@ -1,6 +1,6 @@
 -- `file_questions::verdict_number` meets its contract. Assumes nothing.
 use mathlib.Core.Path.{ap, sym}
-use Rattle.file_questions.specs.Inner.{verdictNumber}
+use Rattle.file_questions.specs.Inner.{verdict_number}
 use borrow.Author.Rules.{rules}
 use Rattle.file_questions.proofs.verdict_number.Statement.{statement}
 use Rattle.file_questions.proofs.verdict_number.Tie as tie
@@ -21,7 +21,7 @@ returns-2 : tie.Need-returns-2
 returns-2 c = search rules
 
 returns-3 : tie.Need-returns-3
-returns-3 c = ap verdictNumber (sym c.before.verdict.given.1)
+returns-3 c = ap verdict_number (sym c.before.verdict.given.1)
 
 pub verdict-number-spec : {M : Type 1} → statement M
 verdict-number-spec =

@@ -3,13 +3,13 @@ use mathlib.Core.Path.{◌≡◌, sym, ◌∙◌}
 use native.Mathlib.Omega.{arith}
 use borrow.Author.Rules.{rules}
 use Rattle.unit.specs.declared.Answer.TheVariants.{Done}
-use Rattle.unit.specs.Calls.{tagAnswer}
-use Rattle.graph.proofs.AnswerLaws.{dot-refused, dot-short}
+use Rattle.unit.specs.Calls.{tag_answer}
+use Rattle.graph.proofs.AnswerLaws.{dot_refused, dot-short}
 use Rattle.graph.proofs.dot.Statement.{statement}
 use Rattle.graph.proofs.dot.Tie as tie
 
 -- the tag has passed
-passed : (c : tie.After-enum-told) → tagAnswer c.before.before.before.before.args.u c.before.before.before.before.args.tag.0 ≡ Done
+passed : (c : tie.After-enum-told) → tag_answer c.before.before.before.before.args.u c.before.before.before.before.args.tag.0 ≡ Done
 passed c = sym c.before.before.check-tag.ensures ∙ c.enum_told.given.1
 
 check-tag-requires : tie.Need-check-tag-requires
@@ -28,7 +28,7 @@ dot-states-requires : tie.Need-dot-states-requires
 dot-states-requires c κs = (passed c.before.before, omega (arith, c.before.if1.false))
 
 returns-2 : tie.Need-returns-2
-returns-2 c = let a = c.before.before.before.before.before.args in dot-refused a.u a.tag.0 a.out.now _ (sym c.before.before.before.check-tag.ensures ∙ c.before.checked.given.1)
+returns-2 c = let a = c.before.before.before.before.before.args in dot_refused a.u a.tag.0 a.out.now _ (sym c.before.before.before.check-tag.ensures ∙ c.before.checked.given.1)
 
 same_length : tie.Need-same-length
 same_length c = search rules

@@ -4,7 +4,7 @@ use native.Mathlib.Omega.{arith}
 use lib.ListN.{length, take}
 use lib.Seq.{length-take-le}
 use borrow.Author.Rules.{rules}
-use Rattle.graph.proofs.AnswerLaws.{Handed, handed-part, handed-listing, plan-few, dot-many, dot-handed, dot-drawn}
+use Rattle.graph.proofs.AnswerLaws.{Handed, handed_part, handed_listing, plan_few, dot-many, dot-handed, dot_drawn}
 use Rattle.graph.proofs.dot_states.Statement.{statement}
 use Rattle.graph.proofs.dot_states.Tie as tie
 
@@ -27,7 +27,7 @@ planned : (c : tie.After-list3)
     → length (take c.before.before.before.cycle-length.result (start c.before.before.before.before.before.before).args.u.plan.latencies) ≡ c.before.before.before.cycle-length.result
 planned c =
     let s = start c.before.before.before.before.before.before in
-    length-take-le _ _ (omega (arith, latencies-long s, c.before.before.before.cycle-length.ensures, plan-few s.args.u s.args.tag.0 s.pre.0))
+    length-take-le _ _ (omega (arith, latencies-long s, c.before.before.before.cycle-length.ensures, plan_few s.args.u s.args.tag.0 s.pre.0))
 
 slice-aggregate-states : tie.Need-slice-aggregate-states
 slice-aggregate-states c = search rules
@@ -60,12 +60,12 @@ array-share-prefix-list : tie.Need-array-share-prefix-list
 array-share-prefix-list c = (handed c.before.before.before.before.before).room
 
 slice-aggregate-put-diagram : tie.Need-slice-aggregate-put-diagram
-slice-aggregate-put-diagram c = handed-part (handed c.before.before.before.before.before.before)
+slice-aggregate-put-diagram c = handed_part (handed c.before.before.before.before.before.before)
 
 array-share-prefix-latencies : tie.Need-array-share-prefix-latencies
 array-share-prefix-latencies c =
     let s = start c.before.before.before.before.before.before in
-    omega (arith, latencies-long s, c.before.before.before.cycle-length.ensures, plan-few s.args.u s.args.tag.0 s.pre.0)
+    omega (arith, latencies-long s, c.before.before.before.cycle-length.ensures, plan_few s.args.u s.args.tag.0 s.pre.0)
 
 slice-aggregate-put-diagram-2 : tie.Need-slice-aggregate-put-diagram-2
 slice-aggregate-put-diagram-2 c = sym (planned c.before)
@@ -74,8 +74,8 @@ put-diagram-requires : tie.Need-put-diagram-requires
 put-diagram-requires c κs =
     let t = c.before.before.before.before.before.before.before in
     let s = start t in
-    let few = plan-few s.args.u s.args.tag.0 s.pre.0 in
-    (handed-listing (handed t), omega (arith, few, c.before.before.before.before.cycle-length.ensures, planned c.before), s.pre.1)
+    let few = plan_few s.args.u s.args.tag.0 s.pre.0 in
+    (handed_listing (handed t), omega (arith, few, c.before.before.before.before.cycle-length.ensures, planned c.before), s.pre.1)
 
 cast-t17 : tie.Need-overflow-cast-t17
 cast-t17 c = omega (arith, c.before.before.put-diagram.ensures.few)
@@ -90,7 +90,7 @@ returns-2 c =
     let t = length.before.before.before in
     let s = start t in
     let a = s.args in
-    dot-drawn a.u a.tag.0 s.pre.0 a.out.now s.pre.1 (handed t) length.cycle-length.ensures drawn.put-diagram.ensures
+    dot_drawn a.u a.tag.0 s.pre.0 a.out.now s.pre.1 (handed t) length.cycle-length.ensures drawn.put-diagram.ensures
 
 pub dot-states-spec : {M : Type 1} → statement M
 dot-states-spec =

@@ -3,8 +3,8 @@ use mathlib.Core.Path.{sym, ◌∙◌}
 use mathlib.Core.Bool.{true, false}
 use borrow.Author.Rules.{rules}
 use Rattle.words.proofs.Tests.{on, off}
-use Rattle.judge.proofs.CycleLaws.{counted-whole}
-use Rattle.judge.proofs.VerdictLaws.{judge-refused, judge-bad, judge-good}
+use Rattle.judge.proofs.CycleLaws.{counted_whole}
+use Rattle.judge.proofs.VerdictLaws.{judge_refused, judge_bad, judge_good}
 use Rattle.judge.proofs.judge.Statement.{statement}
 use Rattle.judge.proofs.judge.Tie as tie
 
@@ -25,13 +25,13 @@ returns c =
     let a = c.before.before.before in
     let v = a.before.before in
     let s = v.before.before in
-    sym (judge-bad _ _ _ _ (sym v.vector.ensures ∙ a.asked2.given.1)
-    (sym (counted-whole s.args.cycle.now) ∙ off c.if1.true c.before.is-cycle.ensures))
+    sym (judge_bad _ _ _ _ (sym v.vector.ensures ∙ a.asked2.given.1)
+    (sym (counted_whole s.args.cycle.now) ∙ off c.if1.true c.before.is-cycle.ensures))
 
 turn-meets-requires : tie.Need-turn-meets-requires
 turn-meets-requires c κs =
     let s = c.before.before.before.before.before.before.before in
-    sym (counted-whole s.args.cycle.now) ∙ on c.if1.false c.before.is-cycle.ensures
+    sym (counted_whole s.args.cycle.now) ∙ on c.if1.false c.before.is-cycle.ensures
 
 returns-2 : tie.Need-returns-2
 returns-2 c =
@@ -39,14 +39,14 @@ returns-2 c =
     let a = g.before.before.before in
     let v = a.before.before in
     let s = v.before.before in
-    sym (judge-good _ _ _ _ true (sym v.vector.ensures ∙ a.asked2.given.1)
-    (sym (counted-whole s.args.cycle.now) ∙ on g.if1.false g.before.is-cycle.ensures)
+    sym (judge_good _ _ _ _ true (sym v.vector.ensures ∙ a.asked2.given.1)
+    (sym (counted_whole s.args.cycle.now) ∙ on g.if1.false g.before.is-cycle.ensures)
     (sym c.before.turn-meets.ensures ∙ c.if2.true))
 
 returns-3 : tie.Need-returns-3
 returns-3 c =
     let v = c.before.before.before in
-    sym (judge-refused _ _ _ _ (sym v.vector.ensures ∙ c.before.asked.given.1))
+    sym (judge_refused _ _ _ _ (sym v.vector.ensures ∙ c.before.asked.given.1))
 
 returns-4 : tie.Need-returns-4
 returns-4 c =
@@ -54,8 +54,8 @@ returns-4 c =
     let a = g.before.before.before in
     let v = a.before.before in
     let s = v.before.before in
-    sym (judge-good _ _ _ _ false (sym v.vector.ensures ∙ a.asked2.given.1)
-    (sym (counted-whole s.args.cycle.now) ∙ on g.if1.false g.before.is-cycle.ensures)
+    sym (judge_good _ _ _ _ false (sym v.vector.ensures ∙ a.asked2.given.1)
+    (sym (counted_whole s.args.cycle.now) ∙ on g.if1.false g.before.is-cycle.ensures)
     (sym c.before.turn-meets.ensures ∙ c.if2.false))
 
 pub judge-spec : {M : Type 1} → statement M

@@ -7,9 +7,9 @@ use native.Mathlib.Omega.{arith}
 use borrow.Author.Rules.{rules}
 use lib.ListN.{length}
 use Rattle.collision.specs.Pipeline.{latency}
-use Rattle.collision.proofs.StartLaws.{latency-least}
-use Rattle.judge.proofs.CycleLaws.{good-facts, good-cycle}
-use Rattle.judge.proofs.IntervalLaws.{Passed, passed_start, passed-more, passed-hit, passed-all, passed-far}
+use Rattle.collision.proofs.StartLaws.{latency_least}
+use Rattle.judge.proofs.CycleLaws.{good_facts, good_cycle_lem}
+use Rattle.judge.proofs.IntervalLaws.{Passed, passed_start, passed_more, passed_hit, passed_all, passed_far}
 use Rattle.judge.proofs.start_meets.Statement.{statement}
 use Rattle.judge.proofs.start_meets.Tie as tie
 
@@ -22,7 +22,7 @@ decreases-loop vector cycle start interval₀ step₀ interval step = 32 - step
 
 loop-holds : tie.Need-loop-init invariant-loop decreases-loop
 loop-holds c =
-    let r = good-facts _ c.before.requires.0 in
+    let r = good_facts _ c.before.requires.0 in
     (search rules, search rules, r.least, r.most, passed_start _ _ _)
 
 add-interval : tie.Need-overflow-add-interval invariant-loop decreases-loop
@@ -49,7 +49,7 @@ returns : tie.Need-returns invariant-loop decreases-loop
 returns c =
     let l = c.before.before.before.loop in
     let s = c.before.before.before.before.before in
-    sym (passed-far _ _ _ l.step l.interval s.ranges.vector.fits l.invariant.4 c.if1.true)
+    sym (passed_far _ _ _ l.step l.interval s.ranges.vector.fits l.invariant.4 c.if1.true)
 
 -- the next interval is longer by a latency, which is at least 1
 grown : (c : tie.Else1 invariant-loop decreases-loop)
@@ -59,7 +59,7 @@ grown : (c : tie.Else1 invariant-loop decreases-loop)
 grown c =
     let l = c.before.before.before.loop in
     let s = c.before.before.before.before.before in
-    omega (arith, l.invariant.0, latency-least 1 _ (good-cycle _ s.requires.0) (s.args.start + l.step))
+    omega (arith, l.invariant.0, latency_least 1 _ (good_cycle_lem _ s.requires.0) (s.args.start + l.step))
 
 sub-test : tie.Need-overflow-sub-test invariant-loop decreases-loop
 sub-test c = omega (arith, grown c)
@@ -71,7 +71,7 @@ returns-2 : tie.Need-returns-2 invariant-loop decreases-loop
 returns-2 c =
     let e = c.before.before in
     let l = e.before.before.before.loop in
-    sym (passed-hit _ _ _ l.step l.interval l.invariant.4 (omega (arith, grown e, e.if1.false)) (sym c.before.test.ensures ∙ c.if2.true))
+    sym (passed_hit _ _ _ l.step l.interval l.invariant.4 (omega (arith, grown e, e.if1.false)) (sym c.before.test.ensures ∙ c.if2.true))
 
 add_step : tie.Need-overflow-add-step invariant-loop decreases-loop
 add_step c = search rules
@@ -87,13 +87,13 @@ loop-again c =
       e.if1.false,
       l.invariant.2,
       l.invariant.3,
-      passed-more _ _ _ l.step l.interval l.invariant.4 (sym c.before.test.ensures ∙ c.if2.false),
+      passed_more _ _ _ l.step l.interval l.invariant.4 (sym c.before.test.ensures ∙ c.if2.false),
     )
 
 returns-3 : tie.Need-returns-3 invariant-loop decreases-loop
 returns-3 c =
     let l = c.before.loop in
-    sym (passed-all _ _ _ l.step l.interval l.invariant.4 c.loop-test.false)
+    sym (passed_all _ _ _ l.step l.interval l.invariant.4 c.loop-test.false)
 
 pub start-meets-spec : {M : Type 1} → statement M
 start-meets-spec =

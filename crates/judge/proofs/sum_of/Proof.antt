@@ -6,7 +6,7 @@ use borrow.Author.Rules.{rules}
 use lib.ListN.{length, take}
 use Rattle.collision.specs.Pipeline.{total}
 use Rattle.collision.proofs.StartLaws.{sum_more}
-use Rattle.judge.proofs.CycleLaws.{counted-facts}
+use Rattle.judge.proofs.CycleLaws.{counted_facts}
 use Rattle.judge.proofs.sum_of.Statement.{statement}
 use Rattle.judge.proofs.sum_of.Tie as tie
 
@@ -19,7 +19,7 @@ decreases-loop list count sum₀ i₀ sum i = count - i
 
 loop-holds : tie.Need-loop-init invariant-loop decreases-loop
 loop-holds c =
-    let r = counted-facts _ _ c.requires in
+    let r = counted_facts _ _ c.requires in
     (search rules, r.inside, r.most, search rules, search rules)
 
 shared-slice-read-sum : tie.Need-shared-slice-read-sum invariant-loop decreases-loop

@@ -6,13 +6,13 @@ use native.Mathlib.Omega.{arith}
 use borrow.Author.Count.{below_more}
 use borrow.Author.Rules.{rules}
 use lib.ListN.{length}
-use Rattle.judge.specs.Inner.{startMeets}
-use Rattle.judge.proofs.IntervalLaws.{turn-hit, turn-all}
+use Rattle.judge.specs.Inner.{start_meets}
+use Rattle.judge.proofs.IntervalLaws.{turn_hit, turn_all}
 use Rattle.judge.proofs.turn_meets.Statement.{statement}
 use Rattle.judge.proofs.turn_meets.Tie as tie
 
 abbrev invariant-loop : tie.invariant-loop
-invariant-loop vector cycle start₀ start = (start ≤ length cycle) × ((i : ℕ) → i < start → startMeets vector cycle i ≡ false)
+invariant-loop vector cycle start₀ start = (start ≤ length cycle) × ((i : ℕ) → i < start → start_meets vector cycle i ≡ false)
 
 abbrev decreases-loop : tie.decreases-loop
 decreases-loop vector cycle start₀ start = length cycle - start
@@ -26,7 +26,7 @@ start-meets-requires c κs = (c.before.before.before.requires, c.loop-test.true)
 returns : tie.Need-returns invariant-loop decreases-loop
 returns c =
     let b = c.before.before in
-    sym (turn-hit _ _ b.before.loop.start b.loop-test.true (sym c.before.start-meets.ensures ∙ c.if1.true))
+    sym (turn_hit _ _ b.before.loop.start b.loop-test.true (sym c.before.start-meets.ensures ∙ c.if1.true))
 
 add_start : tie.Need-overflow-add-start invariant-loop decreases-loop
 add_start c = search rules
@@ -40,7 +40,7 @@ loop-again c =
     (search rules, below_more _ _ l.invariant.1 (sym c.before.start-meets.ensures ∙ c.if1.false))
 
 returns-2 : tie.Need-returns-2 invariant-loop decreases-loop
-returns-2 c = sym (turn-all _ _ (λ i h. c.before.loop.invariant.1 i (omega (arith, c.loop-test.false))))
+returns-2 c = sym (turn_all _ _ (λ i h. c.before.loop.invariant.1 i (omega (arith, c.loop-test.false))))
 
 pub turn-meets-spec : {M : Type 1} → statement M
 turn-meets-spec =

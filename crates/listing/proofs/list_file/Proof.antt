@@ -1,5 +1,5 @@
 -- `listing::list_file` meets its contract: a file that is read is listed as its unit, a refused one by its number. Assumes nothing.
-use Rattle.listing.proofs.FileLaws.{file-refused, file-accepted}
+use Rattle.listing.proofs.FileLaws.{file_refused, file_accepted}
 use borrow.Author.Rules.{rules}
 use Rattle.listing.proofs.list_file.Statement.{statement}
 use Rattle.listing.proofs.list_file.Tie as tie
@@ -27,7 +27,7 @@ returns c =
     let l = c.before.before in
     let m = l.before.before.before in
     let r = m.before.before in
-    file-refused r.read.ensures m.answer.given.1 l.list-refusal.ensures
+    file_refused r.read.ensures m.answer.given.1 l.list-refusal.ensures
 
 same-length-2 : tie.Need-same-length-2
 same-length-2 c = search rules
@@ -37,7 +37,7 @@ returns-2 c =
     let l = c.before.before in
     let m = l.before.before in
     let r = m.before.before in
-    file-accepted r.read.ensures m.enum_told.given.1 l.list-unit.ensures
+    file_accepted r.read.ensures m.enum_told.given.1 l.list-unit.ensures
 
 pub list-file-spec : {M : Type 1} → statement M
 list-file-spec =

@@ -1,8 +1,8 @@
 -- `listing::list_refusal` meets its contract: the line is put together first, and handed over. Assumes nothing.
 use native.Mathlib.Omega.{arith}
 use Rattle.text.specs.Text.{ascii}
-use Rattle.listing.proofs.FunctionLaws.{number-line}
-use Rattle.listing.proofs.AreaLaws.{put_front, put-front-length, printed-as}
+use Rattle.listing.proofs.FunctionLaws.{number_line_lem}
+use Rattle.listing.proofs.AreaLaws.{put_front, put_front_length, printed_as}
 use borrow.Author.Rules.{rules}
 use Rattle.listing.proofs.list_refusal.Statement.{statement}
 use Rattle.listing.proofs.list_refusal.Tie as tie
@@ -26,10 +26,10 @@ array-share-prefix-line : tie.Need-array-share-prefix-line
 array-share-prefix-line c = search rules
 
 slice-aggregate-hand-out : tie.Need-slice-aggregate-hand-out
-slice-aggregate-hand-out c = put-front-length c.before.before.put-line.ensures
+slice-aggregate-hand-out c = put_front_length c.before.before.put-line.ensures
 
 hand-out-requires : tie.Need-hand-out-requires
-hand-out-requires c κs = let p = c.before.before.before.put-line.ensures in omega (arith, p.few, put-front-length p)
+hand-out-requires c κs = let p = c.before.before.before.put-line.ensures in omega (arith, p.few, put_front_length p)
 
 same_length : tie.Need-same-length
 same_length c = search rules
@@ -38,7 +38,7 @@ returns : tie.Need-returns
 returns c =
     let h = c.before.before in
     let l = h.before.before.before.before in
-    printed-as (put_front (number-line (ascii "refused ") l.before.number_in.ensures l.put-line.ensures)) h.hand-out.ensures
+    printed_as (put_front (number_line_lem (ascii "refused ") l.before.number_in.ensures l.put-line.ensures)) h.hand-out.ensures
 
 pub list-refusal-spec : {M : Type 1} → statement M
 list-refusal-spec =

@@ -1,6 +1,6 @@
 -- `loop_text::answer` meets its contract. Assumes nothing.
 use lib.ListN.{replicate}
-use Rattle.command.specs.Lines.{tagsIn}
+use Rattle.command.specs.Lines.{tags_in}
 use Rattle.command.proofs.FrontLaws.{front_length}
 use Rattle.loop_text.proofs.ToldLaws.{told_line}
 use borrow.Author.Rules.{rules}
@@ -19,7 +19,7 @@ array-share-prefix-tags c = search rules
 slice-aggregate-tell : tie.Need-slice-aggregate-tell
 slice-aggregate-tell c =
     let read = c.before.before in
-    front_length (tagsIn read.before.before.before.before.args.line.now) (replicate 9 0) read.tags2.ensures.0 read.tags2.ensures.1
+    front_length (tags_in read.before.before.before.before.args.line.now) (replicate 9 0) read.tags2.ensures.0 read.tags2.ensures.1
 
 tell-requires : tie.Need-tell-requires
 tell-requires c κs = search rules

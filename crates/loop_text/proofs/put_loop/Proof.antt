@@ -3,7 +3,7 @@ use mathlib.Core.Path.{◌≡◌, sym}
 use native.Mathlib.Omega.{arith}
 use lib.ListN.{length}
 use lib.Seq.{length-take-le}
-use Rattle.session.proofs.LineLaws.{line-length, line-put}
+use Rattle.session.proofs.LineLaws.{line_length_lem, line_put}
 use borrow.Author.Rules.{rules}
 use Rattle.loop_text.proofs.put_loop.Statement.{statement}
 use Rattle.loop_text.proofs.put_loop.Tie as tie
@@ -39,7 +39,7 @@ array-share-prefix-line : tie.Need-array-share-prefix-line
 array-share-prefix-line c = search rules
 
 slice-aggregate-put : tie.Need-slice-aggregate-put
-slice-aggregate-put c = line-length c.before.before.before.write-loop.ensures
+slice-aggregate-put c = line_length_lem c.before.before.before.write-loop.ensures
 
 put-requires : tie.Need-put-requires
 put-requires c κs = search rules
@@ -50,7 +50,7 @@ same_length c = search rules
 returns : tie.Need-returns
 returns c =
     let wrote = c.before.before.before.before.before.before in
-    line-put wrote.before.before.before.before.before.before.before.args.out.now wrote.write-loop.ensures c.before.before.put.ensures
+    line_put wrote.before.before.before.before.before.before.before.args.out.now wrote.write-loop.ensures c.before.before.put.ensures
 
 pub put-loop-spec : {M : Type 1} → statement M
 put-loop-spec =

@@ -1,7 +1,7 @@
 -- `loop_text::write_loop` meets its contract. Assumes nothing.
 use native.Mathlib.Omega.{arith}
-use Rattle.text.proofs.DecimalLaws.{decimal-length}
-use Rattle.text.proofs.RowLaws.{spaced-most}
+use Rattle.text.proofs.DecimalLaws.{decimal_length}
+use Rattle.text.proofs.RowLaws.{spaced_most}
 use Rattle.text.proofs.BoundedLaws.{put_word, put_one}
 use borrow.Author.Rules.{rules}
 use Rattle.loop_text.proofs.write_loop.Statement.{statement}
@@ -43,10 +43,10 @@ returns c =
     let start = first.before.before.before.before.before in
     let room = start.requires.1 in
     let p₁ = put_one 10 _ first.put.ensures (omega arith) (omega (arith, room)) in
-    let most = spaced-most start.args.latencies.now 3 (omega arith) (λ i l. omega (arith, first.before.before.before.shared-slice-known.given i)) in
+    let most = spaced_most start.args.latencies.now 3 (omega arith) (λ i l. omega (arith, first.before.before.before.shared-slice-known.given i)) in
     let p₂ = put_word 1024 _ p₁ latencies.put-bytes.ensures (omega (arith, most, start.requires.0)) (omega (arith, room)) in
     let p₃ = put_word 5 _ p₂ name.put2.ensures (omega arith) (omega (arith, room)) in
-    let p₄ = put_word 10 _ p₃ sum.put-number.ensures (decimal-length start.args.sum 10 (omega arith) (omega arith)) (omega (arith, room)) in
+    let p₄ = put_word 10 _ p₃ sum.put-number.ensures (decimal_length start.args.sum 10 (omega arith) (omega arith)) (omega (arith, room)) in
     let p₅ = put_word 1 _ p₄ c.before.before.put3.ensures (omega arith) (omega (arith, room)) in
     p₅.wrote
 

@@ -3,7 +3,7 @@ use mathlib.Core.Path.{refl}
 use Prim.Native.Nat.{◌-◌, ◌+◌}
 use native.Mathlib.Nat.{mod-lt}
 use lib.ListN.{get_or}
-use Rattle.loops.proofs.PlanLaws.{plan-is}
+use Rattle.loops.proofs.PlanLaws.{plan_is}
 use native.Mathlib.Omega.{arith}
 use Rattle.loops.proofs.plan_of.Statement.{statement}
 use Rattle.loops.proofs.plan_of.Tie as tie
@@ -50,7 +50,7 @@ cast-t14 c = omega (arith, c.before.before.before.before.requires.low)
 
 -- src/lib.rt:77:1
 returns : tie.Need-returns
-returns c = plan-is _ _ _ _ _ c.before.before.before.before.requires refl c.before.turned.ensures
+returns c = plan_is _ _ _ _ _ c.before.before.before.before.requires refl c.before.turned.ensures
 
 pub plan-of-spec : {M : Type 1} → statement M
 plan-of-spec =

@@ -3,7 +3,7 @@ use mathlib.Core.Path.{refl, subst}
 use borrow.Author.Rules.{rules}
 use Rattle.mean_cycle.specs.declared.Answer.{Answer}
 use Rattle.mean_cycle.specs.Table.{TableSearched}
-use Rattle.loops.proofs.SeekLaws.{sought-many, never-no, turnable, sought-found}
+use Rattle.loops.proofs.SeekLaws.{sought_many, never_no, turnable, sought-found}
 use native.Mathlib.Omega.{arith}
 use Rattle.loops.proofs.seek.Statement.{statement}
 use Rattle.loops.proofs.seek.Tie as tie
@@ -28,7 +28,7 @@ same_length c = c.before.before.before.before.explore.ensures.size
 returns : tie.Need-returns
 returns c =
     let e = c.before.before.before.before in
-    sought-many _ _ _ _ _ _ _ e.before.before.before.before.before.requires e.before.before.rules-of.ensures e.explore.ensures c.before.if1.true c.refused.ensures.0 c.refused.ensures.1
+    sought_many _ _ _ _ _ _ _ e.before.before.before.before.before.requires e.before.before.rules-of.ensures e.explore.ensures c.before.if1.true c.refused.ensures.0 c.refused.ensures.1
 
 -- src/lib.rt:119:9
 least-table-cycle-requires : tie.Need-least-table-cycle-requires
@@ -51,7 +51,7 @@ same-length-2 : tie.Need-same-length-2
 same-length-2 c =
     let l = c.before.before.before.before.before in
     let e = l.before.before.before.before.before in
-    absurd (never-no _ _ _ _ _ _ _ e.before.before.before.before.before.requires e.before.before.rules-of.ensures e.explore.ensures l.before.before.if1.false
+    absurd (never_no _ _ _ _ _ _ _ e.before.before.before.before.before.requires e.before.before.rules-of.ensures e.explore.ensures l.before.before.if1.false
     (subst (λ (r : Answer). TableSearched e.explore.result e.before.before.rules-of.result.width e.explore.new.0 l.least-table-cycle.new.1.1.0 r) c.before.enum_told.given.1 l.least-table-cycle.ensures))
 
 -- src/lib.rt:121:9
@@ -59,7 +59,7 @@ returns-2 : tie.Need-returns-2
 returns-2 c =
     let l = c.before.before.before.before.before in
     let e = l.before.before.before.before.before in
-    absurd (never-no _ _ _ _ _ _ _ e.before.before.before.before.before.requires e.before.before.rules-of.ensures e.explore.ensures l.before.before.if1.false
+    absurd (never_no _ _ _ _ _ _ _ e.before.before.before.before.before.requires e.before.before.rules-of.ensures e.explore.ensures l.before.before.if1.false
     (subst (λ (r : Answer). TableSearched e.explore.result e.before.before.rules-of.result.width e.explore.new.0 l.least-table-cycle.new.1.1.0 r) c.before.enum_told.given.1 l.least-table-cycle.ensures))
 
 -- src/lib.rt:123:9

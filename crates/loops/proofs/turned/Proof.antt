@@ -1,7 +1,7 @@
 -- `loops::turned` meets its contract: the bytes before i stand turned. Assumes nothing.
 use Prim.Native.Nat.{◌+◌, ◌-◌}
 use native.Mathlib.Nat.{mod-lt}
-use Rattle.loops.proofs.PlanLaws.{Turning, turn-start, turn_more, turn-all}
+use Rattle.loops.proofs.PlanLaws.{Turning, turn_start, turn_more, turn_all}
 use native.Mathlib.Omega.{arith}
 use Rattle.loops.proofs.turned.Statement.{statement}
 use Rattle.loops.proofs.turned.Tie as tie
@@ -14,7 +14,7 @@ decreases-loop work count first bytes₀ i₀ bytes i = count - i
 
 -- src/lib.rt:69:5
 loop-holds : tie.Need-loop-init invariant-loop decreases-loop
-loop-holds c = turn-start _ _ _
+loop-holds c = turn_start _ _ _
 
 -- src/lib.rt:70:33
 add-bytes : tie.Need-overflow-add-bytes invariant-loop decreases-loop
@@ -58,7 +58,7 @@ loop-again c = turn_more c.before.before.loop.invariant c.before.loop-test.true 
 
 -- src/lib.rt:62:1
 returns : tie.Need-returns invariant-loop decreases-loop
-returns c = turn-all _ _ _ _ _ c.before.before.requires.0 c.before.before.requires.1 c.before.loop.invariant c.loop-test.false
+returns c = turn_all _ _ _ _ _ c.before.before.requires.0 c.before.before.requires.1 c.before.loop.invariant c.loop-test.false
 
 pub turned-spec : {M : Type 1} → statement M
 turned-spec =

@@ -2,21 +2,21 @@
 use native.Mathlib.Omega.{arith}
 use borrow.Author.Rules.{rules}
 use borrow.Author.Tests.{not-true, not-false}
-use Rattle.mean_cycle.proofs.Tables.{table-listing, table-no, table-found}
+use Rattle.mean_cycle.proofs.Tables.{table_listing, table_no, table_found}
 use Rattle.mean_cycle.proofs.least_table_cycle.Statement.{statement}
 use Rattle.mean_cycle.proofs.least_table_cycle.Tie as tie
 
 returns : tie.Need-returns
-returns c = table-no _ _ _ (λ g. omega (arith, g.room, c.if1.true))
+returns c = table_no _ _ _ (λ g. omega (arith, g.room, c.if1.true))
 
 returns-2 : tie.Need-returns-2
-returns-2 c = table-no _ _ _ (λ g. omega (arith, g.some, c.if2.true))
+returns-2 c = table_no _ _ _ (λ g. omega (arith, g.some, c.if2.true))
 
 returns-3 : tie.Need-returns-3
-returns-3 c = table-no _ _ _ (λ g. omega (arith, g.few, c.if3.true))
+returns-3 c = table_no _ _ _ (λ g. omega (arith, g.few, c.if3.true))
 
 returns-4 : tie.Need-returns-4
-returns-4 c = table-no _ _ _ (λ g. omega (arith, g.slim, c.if4.true))
+returns-4 c = table_no _ _ _ (λ g. omega (arith, g.slim, c.if4.true))
 
 narrow-words-requires : tie.Need-narrow-words-requires
 narrow-words-requires c κs = search rules
@@ -25,7 +25,7 @@ same_length : tie.Need-same-length
 same_length c = search rules
 
 returns-5 : tie.Need-returns-5
-returns-5 c = table-no _ _ _ (λ g. c.before.narrow-words.ensures.wrong (not-true _ c.if5.true) g.narrow)
+returns-5 c = table_no _ _ _ (λ g. c.before.narrow-words.ensures.wrong (not-true _ c.if5.true) g.narrow)
 
 targets-inside-requires : tie.Need-targets-inside-requires
 targets-inside-requires c κs = search rules
@@ -34,14 +34,14 @@ same-length-2 : tie.Need-same-length-2
 same-length-2 c = search rules
 
 returns-6 : tie.Need-returns-6
-returns-6 c = table-no _ _ _ (λ g. c.before.targets-inside.ensures.wrong (not-true _ c.if6.true) g.targets)
+returns-6 c = table_no _ _ _ (λ g. c.before.targets-inside.ensures.wrong (not-true _ c.if6.true) g.targets)
 
 search-listed-requires : tie.Need-search-listed-requires
 search-listed-requires c κs =
     let tested = c.before in
     let narrowed = tested.before.before.before in
     let slim = narrowed.before.before.before in
-    table-listing
+    table_listing
     record {
       some = omega (arith, slim.before.before.if2.false);
       few = omega (arith, slim.before.if3.false);
@@ -59,7 +59,7 @@ returns-7 c =
     let tested = c.before.before.before.before in
     let narrowed = tested.before.before.before in
     let slim = narrowed.before.before.before in
-    table-found _ _ _ _ _
+    table_found _ _ _ _ _
     record {
       some = omega (arith, slim.before.before.if2.false);
       few = omega (arith, slim.before.if3.false);

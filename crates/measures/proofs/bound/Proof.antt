@@ -1,10 +1,10 @@
 -- `measures::bound` meets its contract: the vector's answer. Assumes nothing.
 use mathlib.Core.Path.{sym, ap, ◌∙◌}
 use borrow.Author.Rules.{rules}
-use Rattle.clique_size.specs.Largest.{largestClique}
-use Rattle.collision.specs.Vector.{boundOf}
-use Rattle.collision.specs.Answers.{boundAnswer}
-use Rattle.collision.proofs.AnswerLaws.{number-refused, number-given, vector-refused, vector-given}
+use Rattle.clique_size.specs.Largest.{largest_clique}
+use Rattle.collision.specs.Vector.{bound_of}
+use Rattle.collision.specs.Answers.{bound_answer}
+use Rattle.collision.proofs.AnswerLaws.{number_refused, number_given, vector_refused, vector_given}
 use Rattle.measures.proofs.bound.Statement.{statement}
 use Rattle.measures.proofs.bound.Tie as tie
 
@@ -21,14 +21,14 @@ largest-requires : tie.Need-largest-requires
 largest-requires c κs = search rules
 
 returns : tie.Need-returns
-unfolding boundAnswer
-returns c = number-refused _ (vector-refused _ _ _ (sym c.before.before.before.vector.ensures ∙ c.before.asked.given.1))
+unfolding bound_answer
+returns c = number_refused _ (vector_refused _ _ _ (sym c.before.before.before.vector.ensures ∙ c.before.asked.given.1))
 
 returns-2 : tie.Need-returns-2
-unfolding boundAnswer boundOf
+unfolding bound_answer bound_of
 returns-2 c =
-    let v = vector-given _ _ _ (sym c.before.before.before.before.vector.ensures ∙ c.before.before.asked2.given.1) in
-    number-given v.done (c.largest.ensures ∙ ap largestClique (sym v.value))
+    let v = vector_given _ _ _ (sym c.before.before.before.before.vector.ensures ∙ c.before.before.asked2.given.1) in
+    number_given v.done (c.largest.ensures ∙ ap largest_clique (sym v.value))
 
 pub bound-spec : {M : Type 1} → statement M
 bound-spec =

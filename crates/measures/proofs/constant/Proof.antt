@@ -1,10 +1,10 @@
 -- `measures::constant` meets its contract: the vector's answer, and the least m that is free in its word. Assumes nothing.
 use mathlib.Core.Path.{sym, ap, ◌∙◌}
 use borrow.Author.Rules.{rules}
-use Rattle.collision.specs.Answers.{constantAnswer}
-use Rattle.collision.proofs.AnswerLaws.{number-refused, number-given, vector-refused, vector-given}
-use Rattle.measures.specs.Inner.{leastFree}
-use Rattle.measures.proofs.NumberLaws.{least-constant}
+use Rattle.collision.specs.Answers.{constant_answer}
+use Rattle.collision.proofs.AnswerLaws.{number_refused, number_given, vector_refused, vector_given}
+use Rattle.measures.specs.Inner.{least_free}
+use Rattle.measures.proofs.NumberLaws.{least_constant}
 use Rattle.measures.proofs.constant.Statement.{statement}
 use Rattle.measures.proofs.constant.Tie as tie
 
@@ -21,14 +21,14 @@ least-free-requires : tie.Need-least-free-requires
 least-free-requires c κs = search rules
 
 returns : tie.Need-returns
-unfolding constantAnswer
-returns c = number-refused _ (vector-refused _ _ _ (sym c.before.before.before.vector.ensures ∙ c.before.asked.given.1))
+unfolding constant_answer
+returns c = number_refused _ (vector_refused _ _ _ (sym c.before.before.before.vector.ensures ∙ c.before.asked.given.1))
 
 returns-2 : tie.Need-returns-2
-unfolding constantAnswer
+unfolding constant_answer
 returns-2 c =
-    let v = vector-given _ _ _ (sym c.before.before.before.before.vector.ensures ∙ c.before.before.asked2.given.1) in
-    number-given v.done (c.least-free.ensures ∙ ap leastFree (sym v.value) ∙ least-constant _ _)
+    let v = vector_given _ _ _ (sym c.before.before.before.before.vector.ensures ∙ c.before.before.asked2.given.1) in
+    number_given v.done (c.least-free.ensures ∙ ap least_free (sym v.value) ∙ least_constant _ _)
 
 pub constant-spec : {M : Type 1} → statement M
 constant-spec =

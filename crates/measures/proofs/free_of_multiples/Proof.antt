@@ -2,7 +2,7 @@
 use Prim.Native.Nat.{◌-◌}
 use mathlib.Core.Path.{sym, ◌∙◌}
 use borrow.Author.Rules.{rules}
-use Rattle.measures.proofs.NumberLaws.{FreeBefore, free-start, free_more, free-found, free-end}
+use Rattle.measures.proofs.NumberLaws.{FreeBefore, free_start, free_more, free_found, free_end}
 use Rattle.measures.proofs.free_of_multiples.Statement.{statement}
 use Rattle.measures.proofs.free_of_multiples.Tie as tie
 
@@ -13,7 +13,7 @@ abbrev decreases-loop : tie.decreases-loop
 decreases-loop vector m multiple₀ multiple = 33 - multiple
 
 loop-holds : tie.Need-loop-init invariant-loop decreases-loop
-loop-holds c = free-start c.args.vector c.args.m c.requires.0
+loop-holds c = free_start c.args.vector c.args.m c.requires.0
 
 sub-test : tie.Need-overflow-sub-test invariant-loop decreases-loop
 sub-test c = c.before.loop.invariant.least
@@ -25,7 +25,7 @@ returns : tie.Need-returns invariant-loop decreases-loop
 returns c =
     let a = c.before.before.before.before.args in
     let l = c.before.before.before.loop in
-    sym (free-found a.vector a.m l.multiple l.invariant c.before.before.loop-test.true (sym c.before.test.ensures ∙ c.if1.true))
+    sym (free_found a.vector a.m l.multiple l.invariant c.before.before.loop-test.true (sym c.before.test.ensures ∙ c.if1.true))
 
 add-multiple : tie.Need-overflow-add-multiple invariant-loop decreases-loop
 add-multiple c = search rules
@@ -42,7 +42,7 @@ loop-again c =
 returns-2 : tie.Need-returns-2 invariant-loop decreases-loop
 returns-2 c =
     let a = c.before.before.args in
-    sym (free-end a.vector a.m c.before.loop.multiple c.before.loop.invariant c.loop-test.false)
+    sym (free_end a.vector a.m c.before.loop.multiple c.before.loop.invariant c.loop-test.false)
 
 pub free-of-multiples-spec : {M : Type 1} → statement M
 free-of-multiples-spec =

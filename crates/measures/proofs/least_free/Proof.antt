@@ -4,7 +4,7 @@ use mathlib.Core.Path.{◌≡◌, sym, subst, ◌∙◌}
 use native.Mathlib.Omega.{arith}
 use borrow.Author.Count.{below_more}
 use borrow.Author.Rules.{rules}
-use Rattle.measures.proofs.NumberLaws.{Tried, least-found, least-end}
+use Rattle.measures.proofs.NumberLaws.{Tried, least_found, least_end}
 use Rattle.measures.proofs.least_free.Statement.{statement}
 use Rattle.measures.proofs.least_free.Tie as tie
 
@@ -23,7 +23,7 @@ free-of-multiples-requires c κs = search rules
 returns : tie.Need-returns invariant-loop decreases-loop
 returns c =
     let l = c.before.before.before.loop in
-    least-found _ l.m l.invariant.0 (omega (arith, c.before.before.loop-test.true)) l.invariant.2 (sym c.before.free-of-multiples.ensures ∙ c.if1.true)
+    least_found _ l.m l.invariant.0 (omega (arith, c.before.before.loop-test.true)) l.invariant.2 (sym c.before.free-of-multiples.ensures ∙ c.if1.true)
 
 add-m : tie.Need-overflow-add-m invariant-loop decreases-loop
 add-m c = search rules
@@ -41,7 +41,7 @@ returns-2 c =
     let l = c.before.loop in
     let v = c.before.before.args.vector in
     let e : l.m ≡ 33 = omega (arith, c.loop-test.false) in
-    e ∙ least-end v (subst (Tried v) e l.invariant.2)
+    e ∙ least_end v (subst (Tried v) e l.invariant.2)
 
 pub least-free-spec : {M : Type 1} → statement M
 least-free-spec =

@@ -1,9 +1,9 @@
 -- `measures::marks` meets its contract. Assumes nothing.
 use mathlib.Core.Path.{sym, ap, ◌∙◌}
-use Rattle.collision.specs.Answers.{marksAnswer}
-use Rattle.collision.proofs.AnswerLaws.{number-refused, number-given}
-use Rattle.measures.specs.Inner.{mostMarks}
-use Rattle.measures.proofs.NumberLaws.{most-marks-of}
+use Rattle.collision.specs.Answers.{marks_answer}
+use Rattle.collision.proofs.AnswerLaws.{number_refused, number_given}
+use Rattle.measures.specs.Inner.{most_marks}
+use Rattle.measures.proofs.NumberLaws.{most_marks_of}
 use Rattle.measures.proofs.marks.Statement.{statement}
 use Rattle.measures.proofs.marks.Tie as tie
 use borrow.Author.Rules.{rules}
@@ -24,14 +24,14 @@ most-marks-requires : tie.Need-most-marks-requires
 most-marks-requires c κs = search rules
 
 returns : tie.Need-returns
-unfolding marksAnswer
-returns c = number-refused _ (sym c.before.before.before.check-tag.ensures ∙ c.before.answer.given.1)
+unfolding marks_answer
+returns c = number_refused _ (sym c.before.before.before.check-tag.ensures ∙ c.before.answer.given.1)
 
 returns-2 : tie.Need-returns-2
-unfolding marksAnswer
+unfolding marks_answer
 returns-2 c =
-    number-given (sym c.before.before.before.before.check-tag.ensures ∙ c.before.before.enum_told.given.1)
-    (c.most-marks.ensures ∙ ap mostMarks c.before.columns_of.ensures ∙ most-marks-of _ _)
+    number_given (sym c.before.before.before.before.check-tag.ensures ∙ c.before.before.enum_told.given.1)
+    (c.most-marks.ensures ∙ ap most_marks c.before.columns_of.ensures ∙ most_marks_of _ _)
 
 pub marks-spec : {M : Type 1} → statement M
 marks-spec =

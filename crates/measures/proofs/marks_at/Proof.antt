@@ -4,23 +4,23 @@ use mathlib.Core.Path.{◌≡◌, refl, sym, ap, ◌∙◌}
 use mathlib.Core.Logic.{⊎_elim}
 use native.Mathlib.Omega.{arith}
 use borrow.Author.Rules.{rules}
-use Rattle.words.specs.Below.{countBelow}
+use Rattle.words.specs.Below.{count_below}
 use Rattle.words.specs.Bits.{is_set}
 use lib.ListN.{get_or}
 use Rattle.words.proofs.BelowLaws.{count_most}
-use Rattle.measures.specs.Inner.{marksAt}
-use Rattle.measures.proofs.NumberLaws.{marksBefore, marks-one, marks-zero}
+use Rattle.measures.specs.Inner.{marks_at}
+use Rattle.measures.proofs.NumberLaws.{marks_before, marks-one, marks-zero}
 use Rattle.measures.proofs.marks_at.Statement.{statement}
 use Rattle.measures.proofs.marks_at.Tie as tie
 
 abbrev invariant-loop : tie.invariant-loop
-invariant-loop bit columns marks₀ column₀ marks column = (column ≤ 32) × (marks ≡ marksBefore columns bit column)
+invariant-loop bit columns marks₀ column₀ marks column = (column ≤ 32) × (marks ≡ marks_before columns bit column)
 
 abbrev decreases-loop : tie.decreases-loop
 decreases-loop bit columns marks₀ column₀ marks column = 32 - column
 
 loop-holds : tie.Need-loop-init invariant-loop decreases-loop
-unfolding countBelow
+unfolding count_below
 loop-holds c = (search rules, refl)
 
 mul-has-mark : tie.Need-overflow-mul-has-mark invariant-loop decreases-loop
@@ -45,7 +45,7 @@ loop-less : tie.Need-loop-smaller invariant-loop decreases-loop
 loop-less c = search rules
 
 more : (c : tie.Joined1 invariant-loop decreases-loop)
-    → c.if1.marks ≡ marksBefore c.before.before.before.before.args.t1 c.before.before.before.before.args.bit (c.before.before.before.loop.column + 1)
+    → c.if1.marks ≡ marks_before c.before.before.before.before.args.t1 c.before.before.before.before.args.bit (c.before.before.before.loop.column + 1)
 more c =
     let a = c.before.before.before.before.args in
     let l = c.before.before.before.loop in
@@ -59,12 +59,12 @@ loop-again : tie.Need-loop-preserved invariant-loop decreases-loop
 loop-again c = (search rules, more c)
 
 returns : tie.Need-returns invariant-loop decreases-loop
-unfolding marksAt
+unfolding marks_at
 returns c =
     let l = c.before.loop in
     let a = c.before.before.args in
     let e : l.column ≡ 32 = omega (arith, c.loop-test.false) in
-    l.invariant.1 ∙ ap (marksBefore a.t1 a.bit) e
+    l.invariant.1 ∙ ap (marks_before a.t1 a.bit) e
 
 pub marks-at-spec : {M : Type 1} → statement M
 marks-at-spec =

@@ -5,7 +5,7 @@ use native.Mathlib.Omega.{arith}
 use borrow.Author.Count.{below_more}
 use borrow.Author.Rules.{rules}
 use lib.ListN.{length, get_or}
-use Rattle.plan_record.proofs.ListLaws.{zeros-all, zeros-not}
+use Rattle.plan_record.proofs.ListLaws.{zeros_all, zeros_not}
 use Rattle.plan_record.proofs.all_zero.Statement.{statement}
 use Rattle.plan_record.proofs.all_zero.Tie as tie
 
@@ -25,7 +25,7 @@ returns : tie.Need-returns invariant-loop decreases-loop
 returns c =
     let b = c.before.before in
     let l = b.before.loop in
-    sym (zeros-not b.before.before.args.bytes.now l.i b.loop-test.true c.if1.true)
+    sym (zeros_not b.before.before.args.bytes.now l.i b.loop-test.true c.if1.true)
 
 add-i : tie.Need-overflow-add-i invariant-loop decreases-loop
 add-i c = search rules
@@ -42,7 +42,7 @@ returns-2 : tie.Need-returns-2 invariant-loop decreases-loop
 returns-2 c =
     let l = c.before.loop in
     let a = c.before.before.args in
-    sym (zeros-all a.bytes.now (λ k h. l.invariant.1 k (omega (arith, c.loop-test.false))))
+    sym (zeros_all a.bytes.now (λ k h. l.invariant.1 k (omega (arith, c.loop-test.false))))
 
 pub all-zero-spec : {M : Type 1} → statement M
 all-zero-spec =

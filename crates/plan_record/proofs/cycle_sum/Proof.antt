@@ -6,7 +6,7 @@ use borrow.Author.Count.{below_more}
 use borrow.Author.Rules.{rules}
 use lib.ListN.{length}
 use Rattle.collision.proofs.StartLaws.{sum_more}
-use Rattle.plan_record.proofs.CycleLaws.{no-sum, Summed, summed-end}
+use Rattle.plan_record.proofs.CycleLaws.{no_sum, Summed, summed_end}
 use Rattle.plan_record.proofs.cycle_sum.Statement.{statement}
 use Rattle.plan_record.proofs.cycle_sum.Tie as tie
 
@@ -17,7 +17,7 @@ abbrev decreases-loop : tie.decreases-loop
 decreases-loop list sum₀ i₀ sum i = length list - i
 
 returns : tie.Need-returns invariant-loop decreases-loop
-returns c = no-sum _ (λ r. omega (arith, r.few, c.if1.true))
+returns c = no_sum _ (λ r. omega (arith, r.few, c.if1.true))
 
 loop-holds : tie.Need-loop-init invariant-loop decreases-loop
 loop-holds c = record { few = search rules; inside = search rules; least = λ k h. absurd (omega arith); most = λ k h. absurd (omega arith); adds = refl; low = omega arith }
@@ -28,12 +28,12 @@ shared-slice-read-latency c = search rules
 returns-2 : tie.Need-returns-2 invariant-loop decreases-loop
 returns-2 c =
     let b = c.before.before in
-    no-sum _ (λ r. omega (arith, r.least b.before.loop.i b.loop-test.true, c.if2.true))
+    no_sum _ (λ r. omega (arith, r.least b.before.loop.i b.loop-test.true, c.if2.true))
 
 returns-3 : tie.Need-returns-3 invariant-loop decreases-loop
 returns-3 c =
     let b = c.before.before.before in
-    no-sum _ (λ r. omega (arith, r.most b.before.loop.i b.loop-test.true, c.if3.true))
+    no_sum _ (λ r. omega (arith, r.most b.before.loop.i b.loop-test.true, c.if3.true))
 
 cast-sum : tie.Need-overflow-cast-sum invariant-loop decreases-loop
 cast-sum c = search rules
@@ -61,7 +61,7 @@ loop-again c =
     }
 
 returns-4 : tie.Need-returns-4 invariant-loop decreases-loop
-returns-4 c = summed-end _ c.before.loop.i _ c.loop-test.false c.before.loop.invariant
+returns-4 c = summed_end _ c.before.loop.i _ c.loop-test.false c.before.loop.invariant
 
 pub cycle-sum-spec : {M : Type 1} → statement M
 cycle-sum-spec =

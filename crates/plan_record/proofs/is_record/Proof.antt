@@ -3,13 +3,13 @@ use Prim.Native.Nat.{ℕ, ◌+◌, ◌/◌}
 use mathlib.Core.Path.{◌∙◌, sym, ap, ap₂}
 use native.Mathlib.Omega.{arith}
 use borrow.Author.Rules.{rules}
-use Rattle.plan_record.proofs.RecordLaws.{no_record}
-use Rattle.plan_record.proofs.TestLaws.{no-cycle, no-sum, part-cycle, part-short, ring-decides}
+use Rattle.plan_record.proofs.RecordLaws.{no_record_lem}
+use Rattle.plan_record.proofs.TestLaws.{no_cycle, no_sum, part-cycle, part-short, ring-decides}
 use Rattle.plan_record.proofs.is_record.Statement.{statement}
 use Rattle.plan_record.proofs.is_record.Tie as tie
 
 returns : tie.Need-returns
-returns c = sym (no_record _ (λ f. omega (arith, f.long, c.if1.true)))
+returns c = sym (no_record_lem _ (λ f. omega (arith, f.long, c.if1.true)))
 
 field-at-requires : tie.Need-field-at-requires
 field-at-requires c κs = search rules
@@ -42,7 +42,7 @@ returns-2 c =
     let list = d.before.field-at3.ensures in
     let sum = d.before.before.field-at2.ensures in
     let count = d.before.before.before.field_at.ensures in
-    sym (no_record _ (λ f. c.if2.true (list.value ∙ f.list_at)))
+    sym (no_record_lem _ (λ f. c.if2.true (list.value ∙ f.list_at)))
 
 add-if3 : tie.Need-overflow-add-if3
 add-if3 c = search rules
@@ -54,7 +54,7 @@ returns-3 c =
     let list = d.before.field-at3.ensures in
     let sum = d.before.before.field-at2.ensures in
     let count = d.before.before.before.field_at.ensures in
-    sym (no_record _ (λ f. c.if3.true (ring.value ∙ f.ring-at ∙ ap (λ k. 8 + k) (sym count.value))))
+    sym (no_record_lem _ (λ f. c.if3.true (ring.value ∙ f.ring_at ∙ ap (λ k. 8 + k) (sym count.value))))
 
 returns-4 : tie.Need-returns-4
 returns-4 c =
@@ -63,7 +63,7 @@ returns-4 c =
     let list = d.before.field-at3.ensures in
     let sum = d.before.before.field-at2.ensures in
     let count = d.before.before.before.field_at.ensures in
-    sym (no_record _ (λ f. omega (arith, ring.value, f.ring-at, f.inside, c.if4.true)))
+    sym (no_record_lem _ (λ f. omega (arith, ring.value, f.ring_at, f.inside, c.if4.true)))
 
 sub-cycle-sum : tie.Need-overflow-sub-cycle-sum
 sub-cycle-sum c = search rules
@@ -86,7 +86,7 @@ returns-5 c =
     let list = d.before.field-at3.ensures in
     let sum = d.before.before.field-at2.ensures in
     let count = d.before.before.before.field_at.ensures in
-    sym (no-cycle _ _ _ _ count.value sum.value e.if3.false _ s.cycle-sum.ensures c.if5.true)
+    sym (no_cycle _ _ _ _ count.value sum.value e.if3.false _ s.cycle-sum.ensures c.if5.true)
 
 returns-6 : tie.Need-returns-6
 returns-6 c =
@@ -97,7 +97,7 @@ returns-6 c =
     let list = d.before.field-at3.ensures in
     let sum = d.before.before.field-at2.ensures in
     let count = d.before.before.before.field_at.ensures in
-    sym (no-sum _ _ _ _ count.value sum.value e.if3.false _ s.cycle-sum.ensures c.if6.true)
+    sym (no_sum _ _ _ _ count.value sum.value e.if3.false _ s.cycle-sum.ensures c.if6.true)
 
 add-if7 : tie.Need-overflow-add-if7
 add-if7 c = search rules
@@ -114,7 +114,7 @@ returns-7 c =
     let list = d.before.field-at3.ensures in
     let sum = d.before.before.field-at2.ensures in
     let count = d.before.before.before.field_at.ensures in
-    sym (no_record _ (λ f. c.if7.true (f.size ∙ ap₂ (λ (i j : ℕ). i + (j + 7) / 8) (sym f.ring-at ∙ sym ring.value) (sym sum.value))))
+    sym (no_record_lem _ (λ f. c.if7.true (f.size ∙ ap₂ (λ (i j : ℕ). i + (j + 7) / 8) (sym f.ring_at ∙ sym ring.value) (sym sum.value))))
 
 sub-ring-matches : tie.Need-overflow-sub-ring-matches
 sub-ring-matches c = search rules
@@ -158,7 +158,7 @@ returns-8 c =
     let count = d.before.before.before.field_at.ensures in
     let b = c.before.before.before in
     ring-decides _ _ _ _ count.value sum.value e.if3.false _ s.cycle-sum.ensures b.before.before.if5.false _
-    (record { count = (count.low, count.high); sum = (sum.low, sum.high); list_at = (list.low, list.high); ring-at = (ring.low, ring.high) })
+    (record { count = (count.low, count.high); sum = (sum.low, sum.high); list_at = (list.low, list.high); ring_at = (ring.low, ring.high) })
     d.before.before.before.before.if1.false (sym list.value ∙ e.before.if2.false) (sym ring.value) s.before.before.if4.false
     b.before.if6.false b.if7.false c.ring-matches.ensures
 

@@ -4,7 +4,7 @@ use mathlib.Core.Path.{◌∙◌, sym}
 use mathlib.Core.Logic.{⊎_elim}
 use native.Mathlib.Omega.{arith}
 use borrow.Author.Rules.{rules}
-use Rattle.plan_record.proofs.TurnLaws.{Turn, turn-first, turn-start, turn-tick, turn_inside, turn_small, turn_byte, turn-reached}
+use Rattle.plan_record.proofs.TurnLaws.{Turn, turn_first, turn_start, turn-tick, turn_inside, turn_small, turn_byte, turn-reached}
 use Rattle.plan_record.proofs.ring_byte.Statement.{statement}
 use Rattle.plan_record.proofs.ring_byte.Tie as tie
 
@@ -15,7 +15,7 @@ abbrev decreases-loop : tie.decreases-loop
 decreases-loop list j index next byte₀ passed₀ start₀ bit₀ byte passed start bit = 8 - bit
 
 loop-holds : tie.Need-loop-init invariant-loop decreases-loop
-loop-holds c = (c.before.requires.0, turn-first _ _ _ _ c.before.requires.1)
+loop-holds c = (c.before.requires.0, turn_first _ _ _ _ c.before.requires.1)
 
 mul-here : tie.Need-overflow-mul-here invariant-loop decreases-loop
 mul-here c = search rules
@@ -72,7 +72,7 @@ loop-again c =
     let e = c.before.starts-here.ensures in (
       l.invariant.0,
       ⊎_elim
-          (λ w. turn-start _ _ l.bit _ l.passed l.start l.invariant.1 (omega arith) _ _ _ (sym e ∙ w.0.taken) w.2 w.3 w.4)
+          (λ w. turn_start _ _ l.bit _ l.passed l.start l.invariant.1 (omega arith) _ _ _ (sym e ∙ w.0.taken) w.2 w.3 w.4)
           (λ w. turn-tick _ _ l.bit _ l.passed l.start l.invariant.1 (omega arith) _ _ _ (sym e ∙ w.0.left) (w.2 ∙ w.1.ensures) w.3 w.4)
           c.if1.branch,
     )

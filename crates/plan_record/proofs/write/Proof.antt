@@ -2,7 +2,7 @@
 use mathlib.Core.Path.{refl}
 use borrow.Author.Rules.{rules}
 use Rattle.words.proofs.Tests.{on, off}
-use Rattle.plan_record.proofs.PlanLaws.{writable-holds, ends-bad, ends-short, ends-written, write-room}
+use Rattle.plan_record.proofs.PlanLaws.{writable-holds, ends-bad, ends_short, ends-written, write-room}
 use Rattle.plan_record.proofs.write.Statement.{statement}
 use Rattle.plan_record.proofs.write.Tie as tie
 
@@ -28,7 +28,7 @@ returns : tie.Need-returns
 returns c = ends-bad _ _ (off c.if1.true c.before.is-writable.ensures)
 
 returns-2 : tie.Need-returns-2
-returns-2 c = let b = c.before in ends-short _ _ (on b.if1.false b.before.is-writable.ensures) _ refl c.if2.true
+returns-2 c = let b = c.before in ends_short _ _ (on b.if1.false b.before.is-writable.ensures) _ refl c.if2.true
 
 write-record-requires : tie.Need-write-record-requires
 write-record-requires c κs =

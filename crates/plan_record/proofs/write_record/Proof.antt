@@ -3,7 +3,7 @@ use mathlib.Core.Path.{◌≡◌}
 use native.Mathlib.Omega.{arith}
 use borrow.Author.Rules.{rules}
 use lib.ListN.{length}
-use Rattle.plan_record.proofs.PlanLaws.{held, ring-room, plan-placed}
+use Rattle.plan_record.proofs.PlanLaws.{held, ring_room, plan_placed}
 use Rattle.plan_record.proofs.write_record.Statement.{statement}
 use Rattle.plan_record.proofs.write_record.Tie as tie
 
@@ -56,7 +56,7 @@ slice-aggregate-write-ring c = let s = c.before.before.before.before.before.befo
 write-ring-requires : tie.Need-write-ring-requires
 write-ring-requires c κs =
     let s = c.before.before.before.before.before.before.before.before.before.before.before.before.before.before.before.before.before in
-    let r = ring-room s.args.plan (length s.args.out.now) s.requires.plan s.requires.fits in
+    let r = ring_room s.args.plan (length s.args.out.now) s.requires.plan s.requires.fits in
     (r.0, omega (arith, r.1, c.before.before.before.before.put2.auto.0, c.before.before.before.before.before.before.before.before.before.put.auto.0), (held s.args.plan s.requires.plan).cycle)
 
 same_length : tie.Need-same-length
@@ -65,7 +65,7 @@ same_length c = search rules
 returns : tie.Need-returns
 returns c =
     let s = c.before.before.before.before.before.before.before.before.before.before.before.before.before.before.before.before.before.before.before.before in
-    plan-placed s.args.plan c.before.before.before.before.before.before.before.before.before.before.before.before.before.before.before.fields-of.result s.args.out.now c.before.before.before.before.before.before.before.before.before.before.before.before.put.new.0 c.before.before.before.before.before.before.before.put2.new.0 c.before.before.write-ring.new.0
+    plan_placed s.args.plan c.before.before.before.before.before.before.before.before.before.before.before.before.before.before.before.fields-of.result s.args.out.now c.before.before.before.before.before.before.before.before.before.before.before.before.put.new.0 c.before.before.before.before.before.before.before.put2.new.0 c.before.before.write-ring.new.0
     s.requires.plan s.requires.fits c.before.before.before.before.before.before.before.before.before.before.before.before.before.before.before.fields-of.ensures c.before.before.before.before.before.before.before.before.before.before.before.before.put.ensures.1 c.before.before.before.before.before.before.before.put2.ensures.1 c.before.before.write-ring.ensures
 
 pub write-record-spec : {M : Type 1} → statement M

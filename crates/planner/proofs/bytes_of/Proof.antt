@@ -5,9 +5,9 @@ use mathlib.Core.List.{List, ◌++◌}
 use native.Mathlib.Omega.{arith}
 use borrow.Author.Rules.{rules}
 use lib.ListN.{length, set, replicate}
-use Rattle.diagram.proofs.CopyLaws.{front, front-more}
+use Rattle.diagram.proofs.CopyLaws.{front, front_more}
 use Rattle.planner.specs.Inner.{found}
-use Rattle.planner.proofs.PlanLaws.{zeros, zeros-length, found-length, found_at, front-zeros}
+use Rattle.planner.proofs.PlanLaws.{zeros, zeros_length, found_length, found_at, front_zeros}
 use Rattle.planner.proofs.bytes_of.Statement.{statement}
 use Rattle.planner.proofs.bytes_of.Tie as tie
 
@@ -50,7 +50,7 @@ loop-again c =
     let n = b.args.count in
     let t = c.before.loop-test.true in
     let p = b.requires in
-    let e = front-more (found w n) zeros l.i (omega (arith, found-length w n p)) (omega (arith, p.few, zeros-length)) in
+    let e = front_more (found w n) zeros l.i (omega (arith, found_length w n p)) (omega (arith, p.few, zeros_length)) in
     (search rules, ap₂ (λ (x : List ℕ) (y : ℕ). set x l.i y) l.invariant.1 (sym (found_at w n l.i t)) ∙ e)
 
 returns : tie.Need-returns invariant-loop decreases-loop
@@ -59,9 +59,9 @@ returns c =
     let b = c.before.before in
     let w = b.args.work.now in
     let n = b.args.count in
-    let m = found-length w n b.requires in
+    let m = found_length w n b.requires in
     let e : l.i ≡ length (found w n) = omega (arith, c.loop-test.false, m) in
-    l.invariant.1 ∙ ap (front (found w n) zeros) e ∙ front-zeros (found w n) ∙ ap (λ k. found w n ++ replicate (256 - k) 0) m
+    l.invariant.1 ∙ ap (front (found w n) zeros) e ∙ front_zeros (found w n) ∙ ap (λ k. found w n ++ replicate (256 - k) 0) m
 
 pub bytes-of-spec : {M : Type 1} → statement M
 bytes-of-spec =

@@ -1,10 +1,10 @@
 -- `planner::find` meets its contract: each way that it ends is a law of the answer, the words and the plan. Assumes nothing.
 use mathlib.Core.Path.{◌≡◌, sym, subst, ◌∙◌}
-use Rattle.diagram.proofs.StatesLaws.{Vector, vector-value, vector-refused}
+use Rattle.diagram.proofs.StatesLaws.{Vector, vector_value, vector_refused}
 use Rattle.mean_cycle.specs.declared.Answer.{Answer}
 use Rattle.mean_cycle.specs.declared.Answer.TheVariants.{No, Found}
 use Rattle.mean_cycle.specs.Mean.{Searched}
-use Rattle.planner.proofs.SearchLaws.{sought-refused, sought-short, sought-many, standing, sought-found}
+use Rattle.planner.proofs.SearchLaws.{sought_refused, sought_short, sought_many, standing, sought-found}
 use borrow.Author.Rules.{rules}
 use Rattle.planner.proofs.find.Statement.{statement}
 use Rattle.planner.proofs.find.Tie as tie
@@ -29,7 +29,7 @@ known : (c : tie.After-known-told2) → Vector c.before.before.before.before.bef
 known c =
     let b = c.before.before.before in
     let a = b.before.before.args in
-    vector-value a.u a.tag.0 c.before.vector3.given.0.0 (sym b.vector.ensures ∙ c.before.vector3.given.1)
+    vector_value a.u a.tag.0 c.before.vector3.given.0.0 (sym b.vector.ensures ∙ c.before.vector3.given.1)
 
 -- the search of the diagram was made, and answered a cycle
 answered : (c : tie.After-best) → Searched 1 c.before.before.before.before.before.before.before.before.vector3.given.0.0
@@ -45,7 +45,7 @@ returns : tie.Need-returns
 returns c =
     let b = c.before.before in
     let a = b.before.before.before.before.before.args in
-    sought-short a.u a.tag.0 b.before.vector3.given.0.0 a.work.now c.refused2.result.answer c.refused2.result.plan (known b) c.before.if1.true c.refused2.ensures
+    sought_short a.u a.tag.0 b.before.vector3.given.0.0 a.work.now c.refused2.result.answer c.refused2.result.plan (known b) c.before.if1.true c.refused2.ensures
 
 least-mean-cycle-requires : tie.Need-least-mean-cycle-requires
 least-mean-cycle-requires c κs = search rules
@@ -72,8 +72,8 @@ returns-2 c =
     let b = c.before.before in
     let d = b.before.before in
     let a = d.before.before.args in
-    sought-refused a.u a.tag.0 a.work.now _ c.refused.result.answer c.refused.result.plan
-    (vector-refused a.u a.tag.0 _ (sym d.vector.ensures ∙ b.vector2.given.1)) c.refused.ensures
+    sought_refused a.u a.tag.0 a.work.now _ c.refused.result.answer c.refused.result.plan
+    (vector_refused a.u a.tag.0 _ (sym d.vector.ensures ∙ b.vector2.given.1)) c.refused.ensures
 
 same_length : tie.Need-same-length
 same_length c = search rules
@@ -86,7 +86,7 @@ returns-3 c =
     let b = e.before in
     let a = b.before.before.before.before.before.args in
     let w = b.before.vector3.given.0.0 in
-    sought-many a.u a.tag.0 w a.work.now (known b) e.if1.false m.least-mean-cycle.new.1.0 c.refused3.result.answer c.refused3.result.plan
+    sought_many a.u a.tag.0 w a.work.now (known b) e.if1.false m.least-mean-cycle.new.1.0 c.refused3.result.answer c.refused3.result.plan
     (subst (Searched 1 w a.work.now m.least-mean-cycle.new.1.0) t.enum_told.given.1 m.least-mean-cycle.ensures) c.refused3.ensures
 
 same-length-2 : tie.Need-same-length-2

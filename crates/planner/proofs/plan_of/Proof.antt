@@ -2,7 +2,7 @@
 use mathlib.Core.Path.{sym, ap, ◌∙◌}
 use native.Mathlib.Omega.{arith}
 use lib.ListN.{length}
-use Rattle.planner.proofs.PlanLaws.{found-length, bytes-front, first_below, plan-is}
+use Rattle.planner.proofs.PlanLaws.{found_length, bytes_front, first_below, plan_is}
 use borrow.Author.Rules.{rules}
 use Rattle.planner.proofs.plan_of.Statement.{statement}
 use Rattle.planner.proofs.plan_of.Tie as tie
@@ -18,7 +18,7 @@ slice-aggregate-first-rotation c =
     let s = c.before.before.before in
     let w = s.args.work.now in
     let n = s.args.cycle.count in
-    sym (ap length (bytes-front w c.before.bytes_of.result n s.requires.latencies c.before.bytes_of.ensures) ∙ found-length w n s.requires.latencies)
+    sym (ap length (bytes_front w c.before.bytes_of.result n s.requires.latencies c.before.bytes_of.ensures) ∙ found_length w n s.requires.latencies)
 
 first-rotation-requires : tie.Need-first-rotation-requires
 first-rotation-requires c κs = search rules
@@ -40,7 +40,7 @@ returns : tie.Need-returns
 returns c =
     let s = c.before.before.before.before.before.before in
     let b = c.before.before.before.before.bytes_of in
-    plan-is s.args.tag.0 s.args.work.now b.result c.before.rotated.result s.args.cycle c.before.before.first-rotation.result s.requires b.ensures
+    plan_is s.args.tag.0 s.args.work.now b.result c.before.rotated.result s.args.cycle c.before.before.first-rotation.result s.requires b.ensures
     c.before.before.first-rotation.ensures c.before.rotated.ensures
 
 pub plan-of-spec : {M : Type 1} → statement M

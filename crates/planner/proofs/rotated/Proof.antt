@@ -7,10 +7,10 @@ use native.Mathlib.Omega.{arith}
 use borrow.Author.Rules.{rules}
 use lib.ListN.{length, get_or, set, take, replicate}
 use lib.Seq.{length-take-le, get_or-take}
-use Rattle.diagram.proofs.CopyLaws.{front, front-more}
+use Rattle.diagram.proofs.CopyLaws.{front, front_more}
 use Rattle.graphs.specs.Rotation.{rotate}
-use Rattle.graphs.proofs.Rotations.{rotate-length, rotate-at}
-use Rattle.planner.proofs.PlanLaws.{zeros, zeros-length, front-zeros}
+use Rattle.graphs.proofs.Rotations.{rotate_length, rotate_at}
+use Rattle.planner.proofs.PlanLaws.{zeros, zeros_length, front_zeros}
 use Rattle.planner.proofs.rotated.Statement.{statement}
 use Rattle.planner.proofs.rotated.Tie as tie
 
@@ -59,11 +59,11 @@ loop-again c =
     let b = s.args.t1 in
     let m = taken s in
     let t = c.loop-test.true in
-    let r : length (rotate (take n b) f) ≡ length (take n b) = rotate-length (take n b) f in
+    let r : length (rotate (take n b) f) ≡ length (take n b) = rotate_length (take n b) f in
     let x : get_or (rotate (take n b) f) l.i 0 ≡ get_or b ((f + l.i) % n) 0 =
-    rotate-at (take n b) f l.i (omega (arith, m)) (omega (arith, m)) ∙ ap (λ k. get_or (take n b) ((f + l.i) % k) 0) m
+    rotate_at (take n b) f l.i (omega (arith, m)) (omega (arith, m)) ∙ ap (λ k. get_or (take n b) ((f + l.i) % k) 0) m
     ∙ get_or-take n b ((f + l.i) % n) 0 (mod-lt (f + l.i) (omega arith)) in
-    let e = front-more (rotate (take n b) f) zeros l.i (omega (arith, m, r)) (omega (arith, zeros-length)) in
+    let e = front_more (rotate (take n b) f) zeros l.i (omega (arith, m, r)) (omega (arith, zeros_length)) in
     (search rules, ap₂ (λ (y : List ℕ) (z : ℕ). set y l.i z) l.invariant.1 (sym x) ∙ e)
 
 returns : tie.Need-returns invariant-loop decreases-loop
@@ -74,9 +74,9 @@ returns c =
     let f = s.args.first in
     let b = s.args.t1 in
     let m = taken s in
-    let r : length (rotate (take n b) f) ≡ length (take n b) = rotate-length (take n b) f in
+    let r : length (rotate (take n b) f) ≡ length (take n b) = rotate_length (take n b) f in
     let e : l.i ≡ length (rotate (take n b) f) = omega (arith, c.loop-test.false, m, r) in
-    l.invariant.1 ∙ ap (front (rotate (take n b) f) zeros) e ∙ front-zeros (rotate (take n b) f) ∙ ap (λ k. rotate (take n b) f ++ replicate (256 - k) 0) (r ∙ m)
+    l.invariant.1 ∙ ap (front (rotate (take n b) f) zeros) e ∙ front_zeros (rotate (take n b) f) ∙ ap (λ k. rotate (take n b) f ++ replicate (256 - k) 0) (r ∙ m)
 
 pub rotated-spec : {M : Type 1} → statement M
 rotated-spec =

@@ -1,5 +1,5 @@
 -- `planner::search` meets its contract: the refusal is passed on, or the plan is stored. Assumes nothing.
-use Rattle.planner.proofs.SearchLaws.{search-refused, search-found}
+use Rattle.planner.proofs.SearchLaws.{search_refused, search_found}
 use borrow.Author.Rules.{rules}
 use Rattle.planner.proofs.search.Statement.{statement}
 use Rattle.planner.proofs.search.Tie as tie
@@ -19,7 +19,7 @@ same_length c = search rules
 returns : tie.Need-returns
 returns c =
     let f = c.before.before.before.before.find in
-    search-refused _ _ _ _ _ _ _ f.ensures c.enum-told2.given.1
+    search_refused _ _ _ _ _ _ _ f.ensures c.enum-told2.given.1
 
 same-length-2 : tie.Need-same-length-2
 same-length-2 c = search rules
@@ -28,7 +28,7 @@ returns-2 : tie.Need-returns-2
 returns-2 c =
     let e = c.before.before in
     let f = e.before.before.before.before.find in
-    search-found _ _ _ _ _ f.result.plan f.ensures e.enum_told.given.1
+    search_found _ _ _ _ _ f.result.plan f.ensures e.enum_told.given.1
 
 pub search-spec : {M : Type 1} → statement M
 search-spec =

@@ -4,7 +4,7 @@ use mathlib.Core.Path.{◌≡◌}
 use native.Mathlib.Omega.{arith}
 use borrow.Author.Rules.{rules}
 use lib.ListN.{length}
-use Rattle.player.proofs.PlayLaws.{Playing, playing-start, playing-more, playing-end}
+use Rattle.player.proofs.PlayLaws.{Playing, playing_start, playing-more, playing_end}
 use Rattle.player.proofs.play.Statement.{statement}
 use Rattle.player.proofs.play.Tie as tie
 
@@ -23,7 +23,7 @@ smaller-requires c κs = search rules
 loop-holds : tie.Need-loop-init invariant-loop decreases-loop
 loop-holds c =
     let a = c.before.before.before.before.before.before.args in
-    (search rules, playing-start c.before.before.fresh.result.unit a.calls.now a.out.now a.work.now)
+    (search rules, playing_start c.before.before.fresh.result.unit a.calls.now a.out.now a.work.now)
 
 mul-kind : tie.Need-overflow-mul-kind invariant-loop decreases-loop
 mul-kind c = search rules
@@ -113,7 +113,7 @@ returns c =
     let l = c.before.loop in
     let a = c.before.before.before.before.before.before.before.before.args in
     let fresh = c.before.before.before.before.fresh in
-    playing-end a.functions a.segments a.columns fresh.result a.calls.now a.out.now a.work.now l.n l.out l.work l.u
+    playing_end a.functions a.segments a.columns fresh.result a.calls.now a.out.now a.work.now l.n l.out l.work l.u
     fresh.ensures l.invariant.1 (omega arith)
 
 pub play-spec : {M : Type 1} → statement M

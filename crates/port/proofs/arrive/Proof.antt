@@ -54,12 +54,12 @@ use Rattle.queue.specs.contracts.Arrival as R
 use Rattle.queue.proofs.Arrival.TheLaws as R'
 use Rattle.queue.proofs.Slot.{val}
 use Rattle.queue.proofs.Again.{LentAgain, lends_again, comes_back}
-use Rattle.callers.specs.Calls.{arrivalOf, arrivalList}
-use Rattle.callers.specs.Parts.{arrivalIn, arrivalOnBy}
-use Rattle.port.specs.Inner.{reachOf, loadedOf, storedOf}
+use Rattle.callers.specs.Calls.{arrival_of, arrival_list}
+use Rattle.callers.specs.Parts.{arrival_in, arrival_on_by}
+use Rattle.port.specs.Inner.{reach_of, loaded_of, stored_of}
 use Rattle.callers.specs.declared.Records.{Records}
 use Rattle.callers.specs.declared.ArrivalOn.{ArrivalOn}
-use Rattle.port.proofs.LentLaws.{reach-most, reach-there, arrival-lent}
+use Rattle.port.proofs.LentLaws.{reach_most, reach_there, arrival-lent}
 use Rattle.callers.specs.contracts.Records as S
 use Rattle.callers.proofs.Records.TheLaws as S'
 use Rattle.callers.specs.contracts.ArrivalOn as O
@@ -153,12 +153,12 @@ module _ {M : Type 1} {𝓤 : Ura M} (𝓛 : Logic 𝓤) (at_mem : Memory → SP
 
   -- as many records are copied out, and these
   abbrev m : ℕ
-  m = reachOf i (length ys)
+  m = reach_of i (length ys)
 
   abbrev loaded : Records
-  loaded = of (loadedOf ys m)
+  loaded = of (loaded_of ys m)
 
-  exits : (zs : List Waiting) (r : Arrival) → r ≡ arrivalOf u C i ys count w → zs ≡ arrivalList u C i ys count w → length zs ≡ length ys → Is R.the_row r (rval r ∷ [])
+  exits : (zs : List Waiting) (r : Arrival) → r ≡ arrival_of u C i ys count w → zs ≡ arrival_list u C i ys count w → length zs ≡ length ys → Is R.the_row r (rval r ∷ [])
       → ent 𝓤 (⋆ 𝓛 (‵ (fobs γ ((coded_holeys T.the_row).code (heres T.the_row zs))) ∷ ‵ (fbor κ (Held T.the_row (length zs) b o γ)) ∷ ‵ (flft κ q) ∷ [])) (Post (rval r))
   exits zs r e₁ e₂ l is =
       qed 𝓛 (‵ (fobs γ ((coded_holeys T.the_row).code (heres T.the_row zs))) ∷ ‵ (fbor κ (Held T.the_row (length zs) b o γ)) ∷ ‵ (flft κ q) ∷ []) ∵
@@ -188,11 +188,11 @@ module _ {M : Type 1} {𝓤 : Ura M} (𝓛 : Logic 𝓤) (at_mem : Memory → SP
 
   goes_load : (ν : ℕ) (δ : GName) → m < 2 ^ 64 → ent 𝓤 (sep 𝓤 (A.lft (ν ∷ []) full_share) (sem 𝓛 ((MutSlice (named 0) (ν ∷ []) T.the_row).own_val (x δ ys) (s ∷ [])))) ((Loading 𝓛 at_mem run).pre (to-load ν δ))
   goes_load ν δ m-fits =
-      qed 𝓛 (‵ (flft (ν ∷ []) full_share) ∷ ‵ ((MutSlice (named 0) (ν ∷ []) T.the_row).own_val (x δ ys) (s ∷ [])) ∷ []) ∵ says ! (reach-most i (length ys), reach-there i (length ys)) $ nothing ! $ move ! (1 ∷ 0 ∷ []) $ join ! $ frame ! $
+      qed 𝓛 (‵ (flft (ν ∷ []) full_share) ∷ ‵ ((MutSlice (named 0) (ν ∷ []) T.the_row).own_val (x δ ys) (s ∷ [])) ∷ []) ∵ says ! (reach_most i (length ys), reach_there i (length ys)) $ nothing ! $ move ! (1 ∷ 0 ∷ []) $ join ! $ frame ! $
       nothing ! $ owned ! usize (Is usize) (uint_Makes 𝓛 w64) m _ (refl, m-fits) $ fjoin ! $ move ! (1 ∷ 0 ∷ []) $ fjoin ! $ done !
 
   abbrev Loaded : Records → List Waiting → Type 0
-  Loaded r zs = (r.list ≡ loadedOf ys m) × (zs ≡ ys)
+  Loaded r zs = (r.list ≡ loaded_of ys m) × (zs ≡ ys)
 
   abbrev to-work : (Working 𝓛 at_mem run).Ghost
   to-work = ((tt, tt, tt, (u, (C, (i, (length ys, (loaded, (count, (w, tt))))))), (uval u ∷ [], (vint w8 C ∷ [], (vint w8 i ∷ [], (vint w64 (length ys) ∷ [], (sval loaded ∷ [], (vint w64 count ∷ [], (val w ∷ [], tt)))))))), tt)
@@ -203,7 +203,7 @@ module _ {M : Type 1} {𝓤 : Ura M} (𝓛 : Logic 𝓤) (at_mem : Memory → SP
       nothing ! $ join ! $ frame ! $ done !
 
   abbrev Worked : ArrivalOn → Type 0
-  Worked r = r ≡ arrivalOnBy i loaded.list count w (arrivalIn u C i (length ys) loaded.list count w.tag)
+  Worked r = r ≡ arrival_on_by i loaded.list count w (arrival_in u C i (length ys) loaded.list count w.tag)
 
   worked : (r : ArrivalOn) → ent 𝓤 (ensured 𝓛 working.ended (working.clauses 𝓛 at_mem run) tt (u, (C, (i, (length ys, (loaded, (count, (w, tt))))))) tt r) (fact 𝓤 (Worked r))
   worked r = ex_e 𝓤 _ (λ ws. snd∗ 𝓤 (sem 𝓛 (lasts working.ended tt (u, (C, (i, (length ys, (loaded, (count, (w, tt))))))) ws)) (fact 𝓤 (Worked r)))
@@ -214,11 +214,11 @@ module _ {M : Type 1} {𝓤 : Ura M} (𝓛 : Logic 𝓤) (at_mem : Memory → SP
   goes-store : (rs : Records) → Is S.the_row rs (sval rs ∷ []) → (ν : ℕ) (δ : GName) → m < 2 ^ 64
       → ent 𝓤 (sep 𝓤 (A.lft (ν ∷ []) full_share) (sem 𝓛 ((MutSlice (named 0) (ν ∷ []) T.the_row).own_val (x δ ys) (s ∷ [])))) ((Storing 𝓛 at_mem run).pre (to-store rs ν δ))
   goes-store rs is-rs ν δ m-fits =
-      qed 𝓛 (‵ (flft (ν ∷ []) full_share) ∷ ‵ ((MutSlice (named 0) (ν ∷ []) T.the_row).own_val (x δ ys) (s ∷ [])) ∷ []) ∵ says ! (reach-most i (length ys), reach-there i (length ys)) $ nothing ! $ move ! (1 ∷ 0 ∷ []) $ join ! $ frame ! $
+      qed 𝓛 (‵ (flft (ν ∷ []) full_share) ∷ ‵ ((MutSlice (named 0) (ν ∷ []) T.the_row).own_val (x δ ys) (s ∷ [])) ∷ []) ∵ says ! (reach_most i (length ys), reach_there i (length ys)) $ nothing ! $ move ! (1 ∷ 0 ∷ []) $ join ! $ frame ! $
       nothing ! $ owned ! usize (Is usize) (uint_Makes 𝓛 w64) m _ (refl, m-fits) $ fjoin ! $ owned ! S.the_row (Is S.the_row) (LL.makes S.the_type S'.the_plain 𝓛) rs _ is-rs $ fjoin ! $ move ! (1 ∷ 0 ∷ []) $ fjoin ! $ done !
 
   abbrev Stored : Records → List Waiting → Type 0
-  Stored rs zs = zs ≡ storedOf ys rs.list m
+  Stored rs zs = zs ≡ stored_of ys rs.list m
 
   module _ (C' : Calls 𝓤 H) (Λ : Loops 𝓤 H) (fm : FmC 𝓤 H 𝓛.laws C') (known-reach : Triple 𝓤 (C' #port·reach) (Reaching 𝓛 at_mem run)) (known-load : Triple 𝓤 (C' #port·load) (Loading 𝓛 at_mem run)) (known-arrival-on : Triple 𝓤 (C' #port·arriving) (Working 𝓛 at_mem run)) (known_store : Triple 𝓤 (C' #port·store) (Storing 𝓛 at_mem run)) where
     module _ (l₀ l₁ l₂ l₃ l₄ l₅ l₆ l₇ l₈ l₉ l₁₀ l₁₁ l₁₂ l₁₃ l₁₄ l₁₅ : ℕ) where
@@ -226,7 +226,7 @@ module _ {M : Type 1} {𝓤 : Ura M} (𝓛 : Logic 𝓤) (at_mem : Memory → SP
       En = (R'.mir, l₀) ∷ (U'.mir, l₁) ∷ (ty_int w8, l₂) ∷ (ty_int w8, l₃) ∷ (slice, l₄) ∷ (word, l₅) ∷ (T'.mir, l₆) ∷ (word, l₇) ∷ (S'.mir, l₈) ∷ (O'.mir, l₉) ∷ (word, l₁₀) ∷ (ref, l₁₁) ∷ (slice_ty ref, l₁₂) ∷ (ty_unit, l₁₃) ∷ (ref, l₁₄) ∷ (slice_ty ref, l₁₅) ∷ []
 
       -- the return
-      gives : (r : ArrivalOn) → r.arrival ≡ arrivalOf u C i ys count w → Is R.the_row r.arrival (rval r.arrival ∷ []) → (zs : List Waiting) → zs ≡ arrivalList u C i ys count w → length zs ≡ length ys → (v₁₅ v₁₄ v₁₃ v₁₂ v₁₁ v₁₀ : Val) → Sq 𝓛
+      gives : (r : ArrivalOn) → r.arrival ≡ arrival_of u C i ys count w → Is R.the_row r.arrival (rval r.arrival ∷ []) → (zs : List Waiting) → zs ≡ arrival_list u C i ys count w → length zs ≡ length ys → (v₁₅ v₁₄ v₁₃ v₁₂ v₁₁ v₁₀ : Val) → Sq 𝓛
           (‵ ((MutSlice (named 0) κ T.the_row).own_val (x γ zs) (s ∷ [])) ∷ ‵ (flft κ q) ∷ ‵ (fat full_share (slice_ty ref) l₁₅ 0 v₁₅) ∷ ‵ (fdies (slice_ty ref) l₁₅) ∷ ‵ (fat full_share ref l₁₄ 0 v₁₄) ∷ ‵ (fdies ref l₁₄) ∷ ‵ (fat full_share ty_unit l₁₃ 0 v₁₃) ∷ ‵ (fdies ty_unit l₁₃) ∷ ‵ (fat full_share (slice_ty ref) l₁₂ 0 v₁₂) ∷ ‵ (fdies (slice_ty ref) l₁₂)
           ∷ ‵ (fat full_share ref l₁₁ 0 v₁₁) ∷ ‵ (fdies ref l₁₁) ∷ ‵ (fat full_share word l₁₀ 0 v₁₀) ∷ ‵ (fdies word l₁₀) ∷ ‵ (fat full_share O'.mir l₉ 0 (oval r)) ∷ ‵ (fdies O'.mir l₉) ∷ ‵ (fat full_share S'.mir l₈ 0 (sval loaded)) ∷ ‵ (fdies S'.mir l₈)
           ∷ ‵ (fat full_share word l₇ 0 (vint w64 m)) ∷ ‵ (fdies word l₇) ∷ ‵ (fat full_share T'.mir l₆ 0 (val w)) ∷ ‵ (fdies T'.mir l₆) ∷ ‵ (fat full_share word l₅ 0 (vint w64 count)) ∷ ‵ (fdies word l₅) ∷ ‵ (fat full_share slice l₄ 0 s) ∷ ‵ (fdies slice l₄)

@@ -48,15 +48,15 @@ use denote.Triple.Spec.{Meets, triple_of}
 use denote.Triple.Table.{entered, cited}
 use denote.Triple.Walked.{says, needs, Stays, stay_slice, stay_none, walk_of, AllGo, Goes-slice, Goes-none, Walks, ends_at, walked, walk_Meets}
 use denote.Exit.{yes}
-use Rattle.queue.specs.Line.{noRecord as none}
+use Rattle.queue.specs.Line.{no_record as none}
 use Rattle.queue.specs.declared.Waiting.{Waiting}
 use Rattle.queue.specs.contracts.Waiting as T
 use Rattle.queue.proofs.Waiting.TheLaws as T'
 use Rattle.queue.proofs.Slot.{val, byte_fits, next_fits}
 use Rattle.queue.proofs.Shift.{reach, one_more}
-use Rattle.port.specs.Inner.{loadedOf}
+use Rattle.port.specs.Inner.{loaded_of}
 use Rattle.callers.specs.declared.Records.{Records}
-use Rattle.port.proofs.LoadLaws.{loaded-none, loaded-more, fits-too, ended, nearer, none_yet}
+use Rattle.port.proofs.LoadLaws.{loaded_none, loaded_more, fits_too, ended, nearer, none_yet}
 use Rattle.callers.specs.contracts.Records as S
 use Rattle.callers.proofs.Records.TheLaws as S'
 use Rattle.port.specs.contracts.no_records as empty
@@ -121,7 +121,7 @@ module _ {M : Type 1} {𝓤 : Ura M} (𝓛 : Logic 𝓤) (at_mem : Memory → SP
 
   -- the first j records
   abbrev copied : ℕ → Records
-  copied j = of (loadedOf ys j)
+  copied j = of (loaded_of ys j)
 
   -- how many were copied: j, with j ≤ n, and the copy is a value
   abbrev Upto : Type 0
@@ -137,7 +137,7 @@ module _ {M : Type 1} {𝓤 : Ura M} (𝓛 : Logic 𝓤) (at_mem : Memory → SP
       → ent 𝓤 (⋆ 𝓛 (‵ (fobs γ ((coded_holeys T.the_row).code (heres T.the_row ys))) ∷ ‵ (fbor κ (Held T.the_row (length ys) b o γ)) ∷ ‵ (flft κ q) ∷ [])) (Post (sval (copied j.0)))
   exits j over =
       qed 𝓛 (‵ (fobs γ ((coded_holeys T.the_row).code (heres T.the_row ys))) ∷ ‵ (fbor κ (Held T.the_row (length ys) b o γ)) ∷ ‵ (flft κ q) ∷ []) ∵
-      suffices ! _ (ends_at 𝓛 f.ended stayed (f.clauses 𝓛 at_mem run) (((κ, tt), (q, tt), tt, a, vals), tt) (sval (copied j.0)) (copied j.0) (ys, (tt, tt)) (refl, (tt, tt))) $ says ! (ap (loadedOf ys) (ended j.1.0 over), refl) $
+      suffices ! _ (ends_at 𝓛 f.ended stayed (f.clauses 𝓛 at_mem run) (((κ, tt), (q, tt), tt, a, vals), tt) (sval (copied j.0)) (copied j.0) (ys, (tt, tt)) (refl, (tt, tt))) $ says ! (ap (loaded_of ys) (ended j.1.0 over), refl) $
       nothing ! $ move ! (3 ∷ 0 ∷ []) $ join ! $ frame ! $
       fjoin ! $ pure_i ! (mut_slice_at T.the_row x (s ∷ [])) (tt, (tt, tt)) (refl, room) $ fjoin ! $
       nothing ! $ owned ! usize (Is usize) (uint_Makes 𝓛 w64) n _ (refl, n-fits) $ fjoin ! $ move ! (1 ∷ 0 ∷ []) $ fjoin ! $
@@ -207,12 +207,12 @@ module _ {M : Type 1} {𝓤 : Ura M} (𝓛 : Logic 𝓤) (at_mem : Memory → SP
           elem_out ! T.the_row (Is T.the_row) (shows 𝓛 T.the_row) (LL.vals T.the_type T'.the_laws) (LL.tells T.the_type T'.the_laws) full_share ys j.0 none b o place (λ g.
           assigns ! (of_opd ! (load ! (from ! (hop ! (look ! 8 refl) (stop !))) (look_raw ! 0 refl))) (from ! (stop !)) (init ! 6 refl ((LL.lawful T.the_type T'.the_laws 𝓛).typed taken _ g).0) $
           elem_back ! T.the_row full_share ys j.0 none (val taken ∷ []) b o place $
-          nothing ! $ use1 𝓛 (raw ((Put 𝓛 at_mem run).pre (to-put j.0 (copied j.0) taken))) (goes-put j.0 (copied j.0) taken (fits-too j.1.0 n-fits) inside j.1.1 g) $
+          nothing ! $ use1 𝓛 (raw ((Put 𝓛 at_mem run).pre (to-put j.0 (copied j.0) taken))) (goes-put j.0 (copied j.0) taken (fits_too j.1.0 n-fits) inside j.1.1 g) $
           calls_at ! fm (Put 𝓛 at_mem run) known-put (to-put j.0 (copied j.0) taken) (and_then ! (load ! (from ! (stop !)) (look ! 15 refl)) (and_then ! (load ! (from ! (stop !)) (look ! 13 refl)) (and_then ! (load ! (from ! (stop !)) (look ! 5 refl)) (no_more !)))) (λ w.
           use1 𝓛 (later (some (λ (r : Records). (‵ ftrue ⊛ ‵ ((S.the_row).own_val r (w ∷ []))) ⊛ raw (ensured 𝓛 putting.ended (putting.clauses 𝓛 at_mem run) tt (copied j.0, (j.0, (taken, tt))) tt r)))) (id⊢ 𝓤 _) $ await ! tt $ pick ! (λ r.
           split ! $ move ! (1 ∷ []) $ use1 𝓛 (raw (fact 𝓤 (Held-then j.0 (copied j.0) taken r))) (held j.0 (copied j.0) taken r) $ heard ! (Held-then j.0 (copied j.0) taken r) (λ said. split ! $ drop ! $
           peeks ! S.the_row (Is S.the_row) (shows 𝓛 S.the_row) r (w ∷ []) (λ is.
-          let told : r ≡ copied (suc j.0) = ap of (said ∙ loaded-more ys j.0 place inside) in
+          let told : r ≡ copied (suc j.0) = ap of (said ∙ loaded_more ys j.0 place inside) in
           let same : w ≡ sval r = ap only (LL.tells S.the_type S'.the_laws r (w ∷ []) is) in
           land ! (from ! (stop !)) (store ! 15 refl ((LL.lawful S.the_type S'.the_laws 𝓛).typed r _ is).0) $ drop ! $
           rewrite ! 14 (λ (v : Val). ‵ (fat full_share S'.mir l₃ 0 v)) (same ∙ ap sval told) refl $
@@ -256,7 +256,7 @@ module _ {M : Type 1} {𝓤 : Ura M} (𝓛 : Logic 𝓤) (at_mem : Memory → SP
         use1 𝓛 (later (some (λ (r : Records). (‵ ftrue ⊛ ‵ ((S.the_row).own_val r (w ∷ []))) ⊛ raw (ensured 𝓛 empty.ended (empty.clauses 𝓛 at_mem run) tt tt tt r)))) (id⊢ 𝓤 _) $ await ! tt $ pick ! (λ r.
         split ! $ move ! (1 ∷ []) $ use1 𝓛 (raw (fact 𝓤 (Began r))) (began r) $ heard ! (Began r) (λ said. split ! $ drop ! $
         peeks ! S.the_row (Is S.the_row) (shows 𝓛 S.the_row) r (w ∷ []) (λ is.
-        let told : r ≡ copied 0 = ap of (said ∙ loaded-none ys) in
+        let told : r ≡ copied 0 = ap of (said ∙ loaded_none ys) in
         let same : w ≡ sval r = ap only (LL.tells S.the_type S'.the_laws r (w ∷ []) is) in
         land ! (from ! (stop !)) (init ! 15 refl ((LL.lawful S.the_type S'.the_laws 𝓛).typed r _ is).0) $ drop ! $
         started l₀ l₁ l₂ l₃ l₄ l₅ l₆ l₇ l₈ w (same ∙ ap sval told) (subst (λ (v : Records). Is S.the_row v (sval v ∷ [])) told (subst (λ (v : Val). Is S.the_row r (v ∷ [])) same is)) (none_yet n))))))))))))))

@@ -48,15 +48,15 @@ use denote.Triple.Spec.{Meets, triple_of}
 use denote.Triple.Table.{entered, cited}
 use denote.Triple.Walked.{says, needs, Stays, stay_slice, stay_none, walk_of, AllGo, Goes-slice, Goes-none, Walks, ends_at, walked, walk_Meets}
 use denote.Exit.{yes}
-use Rattle.queue.specs.Line.{noRecord as none}
+use Rattle.queue.specs.Line.{no_record as none}
 use Rattle.queue.specs.declared.Waiting.{Waiting}
 use Rattle.queue.specs.contracts.Waiting as T
 use Rattle.queue.proofs.Waiting.TheLaws as T'
 use Rattle.queue.proofs.Slot.{val, byte_fits, next_fits}
 use Rattle.queue.proofs.Shift.{reach, one_more}
-use Rattle.port.specs.Inner.{storedOf}
+use Rattle.port.specs.Inner.{stored_of}
 use Rattle.callers.specs.declared.Records.{Records}
-use Rattle.port.proofs.LoadLaws.{stored_more, stored-length, within, fits-too, ended, nearer, none_yet}
+use Rattle.port.proofs.LoadLaws.{stored_more, stored_length, within, fits_too, ended, nearer, none_yet}
 use Rattle.callers.specs.contracts.Records as S
 use Rattle.callers.proofs.Records.TheLaws as S'
 use Rattle.port.specs.contracts.record_at as taking
@@ -116,7 +116,7 @@ module _ {M : Type 1} {𝓤 : Ura M} (𝓛 : Logic 𝓤) (at_mem : Memory → SP
 
   -- the row when the first j were stored
   abbrev stored : ℕ → List Waiting
-  stored j = storedOf ys rs.list j
+  stored j = stored_of ys rs.list j
 
   -- how many were stored: j, with j ≤ n
   abbrev Upto : Type 0
@@ -130,7 +130,7 @@ module _ {M : Type 1} {𝓤 : Ura M} (𝓛 : Logic 𝓤) (at_mem : Memory → SP
 
   -- the row is as long as it was
   long : (j : Upto) → length (stored j.0) ≡ length ys
-  long j = stored-length ys rs.list j.0 (within j.1 high refl) (within j.1 few (thirty_two rs is-rs))
+  long j = stored_length ys rs.list j.0 (within j.1 high refl) (within j.1 few (thirty_two rs is-rs))
 
   exits : (j : Upto) → n ≤ j.0
       → ent 𝓤 (⋆ 𝓛 (‵ (fobs γ ((coded_holeys T.the_row).code (heres T.the_row (stored j.0)))) ∷ ‵ (fbor κ (Held T.the_row (length (stored j.0)) b o γ)) ∷ ‵ (flft κ q) ∷ [])) (Post vunit)
@@ -185,7 +185,7 @@ module _ {M : Type 1} {𝓤 : Ura M} (𝓛 : Logic 𝓤) (at_mem : Memory → SP
           let to-place = reach less high (long j) in
           assigns ! (bin ! (load ! (from ! (stop !)) (look ! 12 refl)) (load ! (from ! (stop !)) (look ! 14 refl)) tt) (from ! (stop !)) (init ! 10 refl (tt, tt)) $
           rewrite ! 10 (λ (t : Bool). ‵ (fat full_share ty_bool l₅ 0 (vbool t))) e refl $ stays ! (load ! (from ! (stop !)) (look ! 10 refl)) $
-          nothing ! $ use1 𝓛 (raw ((Take 𝓛 at_mem run).pre (to_take j.0))) (goes-take j.0 (fits-too j.1 n-fits) (reach less few refl)) $
+          nothing ! $ use1 𝓛 (raw ((Take 𝓛 at_mem run).pre (to_take j.0))) (goes-take j.0 (fits_too j.1 n-fits) (reach less few refl)) $
           calls_at ! fm (Take 𝓛 at_mem run) known-take (to_take j.0) (and_then ! (load ! (from ! (stop !)) (look ! 17 refl)) (and_then ! (load ! (from ! (stop !)) (look ! 13 refl)) (no_more !))) (λ w.
           use1 𝓛 (later (some (λ (r : Waiting). (‵ ftrue ⊛ ‵ ((T.the_row).own_val r (w ∷ []))) ⊛ raw (ensured 𝓛 taking.ended (taking.clauses 𝓛 at_mem run) tt (rs, (j.0, tt)) tt r)))) (id⊢ 𝓤 _) $ await ! tt $ pick ! (λ r.
           split ! $ move ! (1 ∷ []) $ use1 𝓛 (raw (fact 𝓤 (Taken j.0 r))) (taken j.0 r) $ heard ! (Taken j.0 r) (λ said. split ! $ drop ! $

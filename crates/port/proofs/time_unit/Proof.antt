@@ -52,14 +52,14 @@ use Rattle.controller.proofs.Bank.TheLaws as B'
 use Rattle.queue.specs.declared.Waiting.{Waiting}
 use Rattle.queue.specs.contracts.Waiting as T
 use Rattle.queue.proofs.Again.{LentAgain, lends_again, comes_back}
-use Rattle.callers.specs.Calls.{unit_of, unitList}
-use Rattle.callers.specs.Parts.{unitIn, unitOnBy}
-use Rattle.port.specs.Inner.{reachOf, loadedOf, storedOf}
+use Rattle.callers.specs.Calls.{unit_of, unit_list}
+use Rattle.callers.specs.Parts.{unit_in, unit_on_by}
+use Rattle.port.specs.Inner.{reach_of, loaded_of, stored_of}
 use Rattle.callers.specs.declared.Counts.{Counts}
 use Rattle.callers.specs.declared.Records.{Records}
 use Rattle.callers.specs.declared.Turned.{Turned}
 use Rattle.callers.specs.declared.UnitOn.{UnitOn}
-use Rattle.port.proofs.LentLaws.{reach-most, reach-there, unit-lent}
+use Rattle.port.proofs.LentLaws.{reach_most, reach_there, unit-lent}
 use Rattle.callers.specs.contracts.Counts as N
 use Rattle.callers.proofs.Counts.TheLaws as N'
 use Rattle.callers.specs.contracts.Records as S
@@ -163,12 +163,12 @@ module _ {M : Type 1} {𝓤 : Ura M} (𝓛 : Logic 𝓤) (at_mem : Memory → SP
 
   -- as many records are copied out, and these
   abbrev m : ℕ
-  m = reachOf C (length ys)
+  m = reach_of C (length ys)
 
   abbrev loaded : Records
-  loaded = of (loadedOf ys m)
+  loaded = of (loaded_of ys m)
 
-  exits : (zs : List Waiting) (r : Turned) → r ≡ unit_of u bank C turn ys counts.each → zs ≡ unitList u bank C turn ys counts.each → length zs ≡ length ys → Is R.the_row r (rval r ∷ [])
+  exits : (zs : List Waiting) (r : Turned) → r ≡ unit_of u bank C turn ys counts.each → zs ≡ unit_list u bank C turn ys counts.each → length zs ≡ length ys → Is R.the_row r (rval r ∷ [])
       → ent 𝓤 (⋆ 𝓛 (‵ (fobs γ ((coded_holeys T.the_row).code (heres T.the_row zs))) ∷ ‵ (fbor κ (Held T.the_row (length zs) b o γ)) ∷ ‵ (flft κ q) ∷ [])) (Post (rval r))
   exits zs r e₁ e₂ l is =
       qed 𝓛 (‵ (fobs γ ((coded_holeys T.the_row).code (heres T.the_row zs))) ∷ ‵ (fbor κ (Held T.the_row (length zs) b o γ)) ∷ ‵ (flft κ q) ∷ []) ∵
@@ -198,11 +198,11 @@ module _ {M : Type 1} {𝓤 : Ura M} (𝓛 : Logic 𝓤) (at_mem : Memory → SP
 
   goes_load : (ν : ℕ) (δ : GName) → m < 2 ^ 64 → ent 𝓤 (sep 𝓤 (A.lft (ν ∷ []) full_share) (sem 𝓛 ((MutSlice (named 0) (ν ∷ []) T.the_row).own_val (x δ ys) (s ∷ [])))) ((Loading 𝓛 at_mem run).pre (to-load ν δ))
   goes_load ν δ m-fits =
-      qed 𝓛 (‵ (flft (ν ∷ []) full_share) ∷ ‵ ((MutSlice (named 0) (ν ∷ []) T.the_row).own_val (x δ ys) (s ∷ [])) ∷ []) ∵ says ! (reach-most C (length ys), reach-there C (length ys)) $ nothing ! $ move ! (1 ∷ 0 ∷ []) $ join ! $ frame ! $
+      qed 𝓛 (‵ (flft (ν ∷ []) full_share) ∷ ‵ ((MutSlice (named 0) (ν ∷ []) T.the_row).own_val (x δ ys) (s ∷ [])) ∷ []) ∵ says ! (reach_most C (length ys), reach_there C (length ys)) $ nothing ! $ move ! (1 ∷ 0 ∷ []) $ join ! $ frame ! $
       nothing ! $ owned ! usize (Is usize) (uint_Makes 𝓛 w64) m _ (refl, m-fits) $ fjoin ! $ move ! (1 ∷ 0 ∷ []) $ fjoin ! $ done !
 
   abbrev Loaded : Records → List Waiting → Type 0
-  Loaded r zs = (r.list ≡ loadedOf ys m) × (zs ≡ ys)
+  Loaded r zs = (r.list ≡ loaded_of ys m) × (zs ≡ ys)
 
   abbrev to-work : (Working 𝓛 at_mem run).Ghost
   to-work = ((tt, tt, tt, (u, (bank, (C, (turn, (length ys, (loaded, (counts, tt))))))), (uval u ∷ [], (bval bank ∷ [], (vint w8 C ∷ [], (vint w8 turn ∷ [], (vint w64 (length ys) ∷ [], (sval loaded ∷ [], (nval counts ∷ [], tt)))))))), tt)
@@ -213,7 +213,7 @@ module _ {M : Type 1} {𝓤 : Ura M} (𝓛 : Logic 𝓤) (at_mem : Memory → SP
       nothing ! $ join ! $ frame ! $ done !
 
   abbrev Worked : UnitOn → Type 0
-  Worked r = r ≡ unitOnBy u bank C turn loaded.list counts.each (unitIn u C turn (length ys) loaded.list counts.each)
+  Worked r = r ≡ unit_on_by u bank C turn loaded.list counts.each (unit_in u C turn (length ys) loaded.list counts.each)
 
   worked : (r : UnitOn) → ent 𝓤 (ensured 𝓛 working.ended (working.clauses 𝓛 at_mem run) tt (u, (bank, (C, (turn, (length ys, (loaded, (counts, tt))))))) tt r) (fact 𝓤 (Worked r))
   worked r = ex_e 𝓤 _ (λ ws. snd∗ 𝓤 (sem 𝓛 (lasts working.ended tt (u, (bank, (C, (turn, (length ys, (loaded, (counts, tt))))))) ws)) (fact 𝓤 (Worked r)))
@@ -224,11 +224,11 @@ module _ {M : Type 1} {𝓤 : Ura M} (𝓛 : Logic 𝓤) (at_mem : Memory → SP
   goes-store : (rs : Records) → Is S.the_row rs (sval rs ∷ []) → (ν : ℕ) (δ : GName) → m < 2 ^ 64
       → ent 𝓤 (sep 𝓤 (A.lft (ν ∷ []) full_share) (sem 𝓛 ((MutSlice (named 0) (ν ∷ []) T.the_row).own_val (x δ ys) (s ∷ [])))) ((Storing 𝓛 at_mem run).pre (to-store rs ν δ))
   goes-store rs is-rs ν δ m-fits =
-      qed 𝓛 (‵ (flft (ν ∷ []) full_share) ∷ ‵ ((MutSlice (named 0) (ν ∷ []) T.the_row).own_val (x δ ys) (s ∷ [])) ∷ []) ∵ says ! (reach-most C (length ys), reach-there C (length ys)) $ nothing ! $ move ! (1 ∷ 0 ∷ []) $ join ! $ frame ! $
+      qed 𝓛 (‵ (flft (ν ∷ []) full_share) ∷ ‵ ((MutSlice (named 0) (ν ∷ []) T.the_row).own_val (x δ ys) (s ∷ [])) ∷ []) ∵ says ! (reach_most C (length ys), reach_there C (length ys)) $ nothing ! $ move ! (1 ∷ 0 ∷ []) $ join ! $ frame ! $
       nothing ! $ owned ! usize (Is usize) (uint_Makes 𝓛 w64) m _ (refl, m-fits) $ fjoin ! $ owned ! S.the_row (Is S.the_row) (LL.makes S.the_type S'.the_plain 𝓛) rs _ is-rs $ fjoin ! $ move ! (1 ∷ 0 ∷ []) $ fjoin ! $ done !
 
   abbrev Stored : Records → List Waiting → Type 0
-  Stored rs zs = zs ≡ storedOf ys rs.list m
+  Stored rs zs = zs ≡ stored_of ys rs.list m
 
   module _ (C' : Calls 𝓤 H) (Λ : Loops 𝓤 H) (fm : FmC 𝓤 H 𝓛.laws C') (known-reach : Triple 𝓤 (C' #port·reach) (Reaching 𝓛 at_mem run)) (known-load : Triple 𝓤 (C' #port·load) (Loading 𝓛 at_mem run)) (known-unit-on : Triple 𝓤 (C' #port·passing) (Working 𝓛 at_mem run)) (known_store : Triple 𝓤 (C' #port·store) (Storing 𝓛 at_mem run)) where
     module _ (l₀ l₁ l₂ l₃ l₄ l₅ l₆ l₇ l₈ l₉ l₁₀ l₁₁ l₁₂ l₁₃ l₁₄ l₁₅ : ℕ) where
@@ -236,7 +236,7 @@ module _ {M : Type 1} {𝓤 : Ura M} (𝓛 : Logic 𝓤) (at_mem : Memory → SP
       En = (R'.mir, l₀) ∷ (U'.mir, l₁) ∷ (B'.mir, l₂) ∷ (ty_int w8, l₃) ∷ (ty_int w8, l₄) ∷ (slice, l₅) ∷ (N'.mir, l₆) ∷ (word, l₇) ∷ (S'.mir, l₈) ∷ (O'.mir, l₉) ∷ (word, l₁₀) ∷ (ref, l₁₁) ∷ (slice_ty ref, l₁₂) ∷ (ty_unit, l₁₃) ∷ (ref, l₁₄) ∷ (slice_ty ref, l₁₅) ∷ []
 
       -- the return
-      gives : (r : UnitOn) → r.turned ≡ unit_of u bank C turn ys counts.each → Is R.the_row r.turned (rval r.turned ∷ []) → (zs : List Waiting) → zs ≡ unitList u bank C turn ys counts.each → length zs ≡ length ys → (v₁₅ v₁₄ v₁₃ v₁₂ v₁₁ v₁₀ : Val) → Sq 𝓛
+      gives : (r : UnitOn) → r.turned ≡ unit_of u bank C turn ys counts.each → Is R.the_row r.turned (rval r.turned ∷ []) → (zs : List Waiting) → zs ≡ unit_list u bank C turn ys counts.each → length zs ≡ length ys → (v₁₅ v₁₄ v₁₃ v₁₂ v₁₁ v₁₀ : Val) → Sq 𝓛
           (‵ ((MutSlice (named 0) κ T.the_row).own_val (x γ zs) (s ∷ [])) ∷ ‵ (flft κ q) ∷ ‵ (fat full_share (slice_ty ref) l₁₅ 0 v₁₅) ∷ ‵ (fdies (slice_ty ref) l₁₅) ∷ ‵ (fat full_share ref l₁₄ 0 v₁₄) ∷ ‵ (fdies ref l₁₄) ∷ ‵ (fat full_share ty_unit l₁₃ 0 v₁₃) ∷ ‵ (fdies ty_unit l₁₃) ∷ ‵ (fat full_share (slice_ty ref) l₁₂ 0 v₁₂) ∷ ‵ (fdies (slice_ty ref) l₁₂)
           ∷ ‵ (fat full_share ref l₁₁ 0 v₁₁) ∷ ‵ (fdies ref l₁₁) ∷ ‵ (fat full_share word l₁₀ 0 v₁₀) ∷ ‵ (fdies word l₁₀) ∷ ‵ (fat full_share O'.mir l₉ 0 (oval r)) ∷ ‵ (fdies O'.mir l₉) ∷ ‵ (fat full_share S'.mir l₈ 0 (sval loaded)) ∷ ‵ (fdies S'.mir l₈)
           ∷ ‵ (fat full_share word l₇ 0 (vint w64 m)) ∷ ‵ (fdies word l₇) ∷ ‵ (fat full_share N'.mir l₆ 0 (nval counts)) ∷ ‵ (fdies N'.mir l₆) ∷ ‵ (fat full_share slice l₅ 0 s) ∷ ‵ (fdies slice l₅) ∷ ‵ (fat full_share (ty_int w8) l₄ 0 (vint w8 turn)) ∷ ‵ (fdies (ty_int w8) l₄)

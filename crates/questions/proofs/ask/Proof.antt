@@ -2,8 +2,8 @@
 use mathlib.Core.Path.{sym, ap, ◌∙◌}
 use native.Mathlib.Nat.{zero-add}
 use lib.ListN.{length}
-use Rattle.text.specs.Text.{put_in, putEnd}
-use Rattle.questions.proofs.ReplyLaws.{line-front}
+use Rattle.text.specs.Text.{put_in, put_end}
+use Rattle.questions.proofs.ReplyLaws.{line_front}
 use borrow.Author.Rules.{rules}
 use Rattle.questions.proofs.ask.Statement.{statement}
 use Rattle.questions.proofs.ask.Tie as tie
@@ -18,7 +18,7 @@ array-share-prefix-line : tie.Need-array-share-prefix-line
 array-share-prefix-line c = search rules
 
 slice-aggregate-put : tie.Need-slice-aggregate-put
-slice-aggregate-put c = let w = c.before.before.before.put-reply.ensures in w.next ∙ zero-add _ ∙ ap length (sym (line-front w))
+slice-aggregate-put c = let w = c.before.before.before.put-reply.ensures in w.next ∙ zero-add _ ∙ ap length (sym (line_front w))
 
 put-requires : tie.Need-put-requires
 put-requires c κs = search rules
@@ -30,7 +30,7 @@ returns : tie.Need-returns
 returns c =
     let p = c.before.before.put in
     let w = c.before.before.before.before.before.before.put-reply.ensures in
-    (p.ensures.0 ∙ ap (putEnd _ _) (line-front w), p.ensures.1 ∙ ap (put_in _ _) (line-front w))
+    (p.ensures.0 ∙ ap (put_end _ _) (line_front w), p.ensures.1 ∙ ap (put_in _ _) (line_front w))
 
 pub ask-spec : {M : Type 1} → statement M
 ask-spec =

@@ -49,13 +49,13 @@ use denote.Exit.{yes}
 use Rattle.unit.specs.declared.FunctionUnit.{FunctionUnit}
 use Rattle.unit.specs.contracts.FunctionUnit as U
 use Rattle.unit.proofs.FunctionUnit.TheLaws as U'
-use Rattle.queue.specs.Line.{noRecord as none}
-use Rattle.queue.specs.Calls.{arrivalBy, arrivalOf, arrivalList}
-use Rattle.queue.specs.Inner.{arrivedBy, seenOf, shownOf}
+use Rattle.queue.specs.Line.{no_record as none}
+use Rattle.queue.specs.Calls.{arrival_by, arrival_of, arrival_list}
+use Rattle.queue.specs.Inner.{arrived_by, seen_of, shown_of}
 use Rattle.queue.specs.declared.Waiting.{Waiting}
 use Rattle.queue.specs.declared.Seen.{Seen}
 use Rattle.queue.specs.declared.Arrival.{Arrival}
-use Rattle.queue.proofs.ShownLaws.{shown-most, arrival-found, arrival-place, arrival-stored, arrival-kept}
+use Rattle.queue.proofs.ShownLaws.{shown_most, arrival-found, arrival-place, arrival-stored, arrival-kept}
 use Rattle.queue.specs.contracts.Waiting as T
 use Rattle.queue.proofs.Waiting.TheLaws as T'
 use Rattle.queue.specs.contracts.Seen as S
@@ -140,12 +140,12 @@ module _ {M : Type 1} {𝓤 : Ura M} (𝓛 : Logic 𝓤) (at_mem : Memory → SP
 
   -- as many records are looked at, and this is what they show
   abbrev m : ℕ
-  m = shownOf 32 (length ys) i
+  m = shown_of 32 (length ys) i
 
   abbrev seen : Seen
-  seen = seenOf u.functions (take m ys)
+  seen = seen_of u.functions (take m ys)
 
-  exits : (zs : List Waiting) (r : Arrival) → r ≡ arrivalOf 32 u ys i w → zs ≡ arrivalList 32 u ys i w → length zs ≡ length ys → Is R.the_row r (rval r ∷ [])
+  exits : (zs : List Waiting) (r : Arrival) → r ≡ arrival_of 32 u ys i w → zs ≡ arrival_list 32 u ys i w → length zs ≡ length ys → Is R.the_row r (rval r ∷ [])
       → ent 𝓤 (⋆ 𝓛 (‵ (fobs γ ((coded_holeys T.the_row).code (heres T.the_row zs))) ∷ ‵ (fbor κ (Held T.the_row (length zs) b o γ)) ∷ ‵ (flft κ q) ∷ [])) (Post (rval r))
   exits zs r e₁ e₂ l is =
       qed 𝓛 (‵ (fobs γ ((coded_holeys T.the_row).code (heres T.the_row zs))) ∷ ‵ (fbor κ (Held T.the_row (length zs) b o γ)) ∷ ‵ (flft κ q) ∷ []) ∵
@@ -178,7 +178,7 @@ module _ {M : Type 1} {𝓤 : Ura M} (𝓛 : Logic 𝓤) (at_mem : Memory → SP
 
   goes_over : (ν : ℕ) (δ : GName) → m < 2 ^ 64 → u.functions < 2 ^ 8 → ent 𝓤 (sep 𝓤 (A.lft (ν ∷ []) full_share) (sem 𝓛 ((MutSlice (named 0) (ν ∷ []) T.the_row).own_val (x δ ys) (s ∷ [])))) ((Over 𝓛 at_mem run).pre (to-over ν δ))
   goes_over ν δ m-fits u-fits =
-      qed 𝓛 (‵ (flft (ν ∷ []) full_share) ∷ ‵ ((MutSlice (named 0) (ν ∷ []) T.the_row).own_val (x δ ys) (s ∷ [])) ∷ []) ∵ says ! (shown-most 32 (length ys) i) $ nothing ! $ move ! (1 ∷ 0 ∷ []) $ join ! $ frame ! $
+      qed 𝓛 (‵ (flft (ν ∷ []) full_share) ∷ ‵ ((MutSlice (named 0) (ν ∷ []) T.the_row).own_val (x δ ys) (s ∷ [])) ∷ []) ∵ says ! (shown_most 32 (length ys) i) $ nothing ! $ move ! (1 ∷ 0 ∷ []) $ join ! $ frame ! $
       nothing ! $ owned ! u8 (Is u8) (uint_Makes 𝓛 w8) u.functions _ (refl, u-fits) $ fjoin ! $ owned ! usize (Is usize) (uint_Makes 𝓛 w64) m _ (refl, m-fits) $ fjoin ! $ move ! (1 ∷ 0 ∷ []) $ fjoin ! $ done !
 
   abbrev Overseen : Seen → List Waiting → Type 0
@@ -194,7 +194,7 @@ module _ {M : Type 1} {𝓤 : Ura M} (𝓛 : Logic 𝓤) (at_mem : Memory → SP
       owned ! U.the_row (Is U.the_row) (LL.makes U.the_type U'.the_plain 𝓛) u _ is-u $ fjoin ! $ owned ! usize (Is usize) (uint_Makes 𝓛 w64) 32 _ (refl, lit< tt) $ fjoin ! $ nothing ! $ join ! $ frame ! $ done !
 
   abbrev Arrived : Arrival → Type 0
-  Arrived r = r ≡ arrivedBy (arrivalBy 32 u (length ys) i w.tag seen.fit) i
+  Arrived r = r ≡ arrived_by (arrival_by 32 u (length ys) i w.tag seen.fit) i
 
   arrived : (r : Arrival) → ent 𝓤 (ensured 𝓛 arriving.ended (arriving.clauses 𝓛 at_mem run) tt (32, (u, (length ys, (i, (w.tag, (seen.fit, tt)))))) tt r) (fact 𝓤 (Arrived r))
   arrived r = ex_e 𝓤 _ (λ ws. snd∗ 𝓤 (sem 𝓛 (lasts arriving.ended tt (32, (u, (length ys, (i, (w.tag, (seen.fit, tt)))))) ws)) (fact 𝓤 (Arrived r)))
@@ -205,7 +205,7 @@ module _ {M : Type 1} {𝓤 : Ura M} (𝓛 : Logic 𝓤) (at_mem : Memory → SP
       En = (R'.mir, l₀) ∷ (U'.mir, l₁) ∷ (slice, l₂) ∷ (word, l₃) ∷ (T'.mir, l₄) ∷ (word, l₅) ∷ (S'.mir, l₆) ∷ (R'.mir, l₇) ∷ (word, l₈) ∷ (ref, l₉) ∷ (slice_ty ref, l₁₀) ∷ (ty_bool, l₁₁) ∷ (word, l₁₂) ∷ (ty_ptr, l₁₃) ∷ []
 
       -- the store, if one more waits, and the return
-      ends : (r : Arrival) → r ≡ arrivalOf 32 u ys i w → Is R.the_row r (rval r ∷ []) → Sq 𝓛
+      ends : (r : Arrival) → r ≡ arrival_of 32 u ys i w → Is R.the_row r (rval r ∷ []) → Sq 𝓛
           (‵ ((MutSlice (named 0) κ T.the_row).own_val (x γ ys) (s ∷ [])) ∷ ‵ (flft κ q) ∷ ‵ (froom ty_ptr l₁₃ 0) ∷ ‵ (fdies ty_ptr l₁₃) ∷ ‵ (froom word l₁₂ 0) ∷ ‵ (fdies word l₁₂) ∷ ‵ (froom ty_bool l₁₁ 0) ∷ ‵ (fdies ty_bool l₁₁) ∷ ‵ (fat full_share (slice_ty ref) l₁₀ 0 s) ∷ ‵ (fdies (slice_ty ref) l₁₀) ∷ ‵ (fat full_share ref l₉ 0 (vptr b o)) ∷ ‵ (fdies ref l₉) ∷ ‵ (fat full_share word l₈ 0 (vint w64 (length ys))) ∷ ‵ (fdies word l₈) ∷ ‵ (fat full_share R'.mir l₇ 0 (rval r)) ∷ ‵ (fdies R'.mir l₇) ∷ ‵ (fat full_share S'.mir l₆ 0 (sval seen)) ∷ ‵ (fdies S'.mir l₆) ∷ ‵ (fat full_share word l₅ 0 (vint w64 m)) ∷ ‵ (fdies word l₅) ∷ ‵ (fat full_share T'.mir l₄ 0 (val w)) ∷ ‵ (fdies T'.mir l₄) ∷ ‵ (fat full_share word l₃ 0 (vint w64 i)) ∷ ‵ (fdies word l₃) ∷ ‵ (fat full_share slice l₂ 0 s) ∷ ‵ (fdies slice l₂) ∷ ‵ (fat full_share U'.mir l₁ 0 (uval u)) ∷ ‵ (fdies U'.mir l₁) ∷ ‵ (froom R'.mir l₀ 0) ∷ ‵ (fdies R'.mir l₀) ∷ [])
           (runs C Λ En steps.t-8 (at_ret En Post))
       ends r e is =

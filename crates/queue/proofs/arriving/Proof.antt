@@ -2,8 +2,8 @@
 use mathlib.Core.Path.{sym, ap, ◌∙◌}
 use native.Mathlib.Omega.{arith}
 use Rattle.unit.specs.declared.Answer.{Answer}
-use Rattle.queue.specs.Inner.{arrivedBy}
-use Rattle.queue.proofs.AcceptedLaws.{arrival-by}
+use Rattle.queue.specs.Inner.{arrived_by}
+use Rattle.queue.proofs.AcceptedLaws.{arrival_by_lem}
 use borrow.Author.Rules.{rules}
 use Rattle.queue.proofs.arriving.Statement.{statement}
 use Rattle.queue.proofs.arriving.Tie as tie
@@ -20,17 +20,17 @@ enum_told c = search rules
 add-t12 : tie.Need-overflow-add-t12
 add-t12 c =
     let a = c.before.before.before.args in
-    omega (arith, (arrival-by a.room a.u a.length a.count a.tag a.fit (sym c.before.before.check-arrival.ensures ∙ c.enum_told.given.1)).few)
+    omega (arith, (arrival_by_lem a.room a.u a.length a.count a.tag a.fit (sym c.before.before.check-arrival.ensures ∙ c.enum_told.given.1)).few)
 
 returns : tie.Need-returns
 returns c =
     let a = c.before.before.before.before.args in
-    ap (λ (x : Answer). arrivedBy x a.count) (sym c.before.answer.given.1 ∙ c.before.before.before.check-arrival.ensures)
+    ap (λ (x : Answer). arrived_by x a.count) (sym c.before.answer.given.1 ∙ c.before.before.before.check-arrival.ensures)
 
 returns-2 : tie.Need-returns-2
 returns-2 c =
     let a = c.before.before.before.args in
-    ap (λ (x : Answer). arrivedBy x a.count) (sym c.enum_told.given.1 ∙ c.before.before.check-arrival.ensures)
+    ap (λ (x : Answer). arrived_by x a.count) (sym c.enum_told.given.1 ∙ c.before.before.check-arrival.ensures)
 
 pub arriving-spec : {M : Type 1} → statement M
 arriving-spec =

@@ -4,9 +4,9 @@ use mathlib.Core.Bool.{Bool}
 use lib.Dec.{leb, ltb}
 use Rattle.unit.specs.declared.Refusal.TheVariants.{NotSound, ShortOutput, NoSuchTag, TooManyWait}
 use Rattle.unit.specs.declared.Answer.{Answer}
-use Rattle.unit.specs.Unit.{inside, soundOf}
-use Rattle.unit.specs.Calls.{testedBy}
-use Rattle.unit.proofs.TestLaws.{five-tests}
+use Rattle.unit.specs.Unit.{inside, sound_of}
+use Rattle.unit.specs.Calls.{tested_by}
+use Rattle.unit.proofs.TestLaws.{five_tests}
 use borrow.Author.Rules.{rules}
 use Rattle.queue.proofs.check_arrival.Statement.{statement}
 use Rattle.queue.proofs.check_arrival.Tie as tie
@@ -31,11 +31,11 @@ returns c =
     let tag = c.before.before in
     let a = tag.before.before.before.args in
     c.tested3.ensures
-    ∙ ap (λ (x : Answer). testedBy x a.fit NoSuchTag)
+    ∙ ap (λ (x : Answer). tested_by x a.fit NoSuchTag)
     (c.before.tested2.ensures
-    ∙ ap (λ (x : Answer). testedBy x (ltb a.count a.room) TooManyWait)
-    (tag.tested.ensures ∙ ap₂ (λ (x : Answer) (y : Bool). testedBy x y NoSuchTag) tag.before.check-list.ensures tag.before.before.is-inside.ensures))
-    ∙ five-tests (soundOf a.u) (leb a.room a.length) (inside a.tag a.u.functions) (ltb a.count a.room) a.fit NotSound ShortOutput NoSuchTag TooManyWait NoSuchTag
+    ∙ ap (λ (x : Answer). tested_by x (ltb a.count a.room) TooManyWait)
+    (tag.tested.ensures ∙ ap₂ (λ (x : Answer) (y : Bool). tested_by x y NoSuchTag) tag.before.check-list.ensures tag.before.before.is-inside.ensures))
+    ∙ five_tests (sound_of a.u) (leb a.room a.length) (inside a.tag a.u.functions) (ltb a.count a.room) a.fit NotSound ShortOutput NoSuchTag TooManyWait NoSuchTag
 
 pub check-arrival-spec : {M : Type 1} → statement M
 check-arrival-spec =

@@ -1,7 +1,7 @@
 -- `queue::join` meets its contract. Assumes nothing.
 use native.Mathlib.Omega.{arith}
 use borrow.Author.Rules.{rules}
-use Rattle.queue.proofs.ShownLaws.{shown-most}
+use Rattle.queue.proofs.ShownLaws.{shown_most}
 use Rattle.queue.proofs.ValueLaws.{place, stored, kept}
 use Rattle.queue.proofs.join.Statement.{statement}
 use Rattle.queue.proofs.join.Tie as tie
@@ -10,7 +10,7 @@ shown-requires : tie.Need-shown-requires
 shown-requires c κs = search rules
 
 look-through-requires : tie.Need-look-through-requires
-look-through-requires c κs = omega (arith, c.shown.ensures, shown-most 32 32 c.before.before.args.queue.count)
+look-through-requires c κs = omega (arith, c.shown.ensures, shown_most 32 32 c.before.before.args.queue.count)
 
 arriving-requires : tie.Need-arriving-requires
 arriving-requires c κs = search rules

@@ -49,8 +49,8 @@ use denote.Triple.Spec.{Meets, triple_of}
 use denote.Triple.Table.{entered, cited}
 use denote.Triple.Walked.{says, needs, Stays, stay_slice, stay_none, walk_of, AllGo, Goes-slice, Goes-none, Walks, ends_at, walked, walk_Meets}
 use denote.Exit.{yes}
-use Rattle.queue.specs.Line.{noRecord as none}
-use Rattle.queue.specs.Inner.{seenOf, look_of}
+use Rattle.queue.specs.Line.{no_record as none}
+use Rattle.queue.specs.Inner.{seen_of, look_of}
 use Rattle.queue.specs.declared.Waiting.{Waiting}
 use Rattle.queue.specs.declared.Seen.{Seen}
 use Rattle.queue.proofs.LineLaws.{seen_none, seen_more}
@@ -128,7 +128,7 @@ module _ {M : Type 1} {𝓤 : Ura M} (𝓛 : Logic 𝓤) (at_mem : Memory → SP
 
   -- what the first j records show
   abbrev shows-up : ℕ → Seen
-  shows-up j = seenOf fs (take j ys)
+  shows-up j = seen_of fs (take j ys)
 
   -- how many were looked at: j, with j ≤ n, and what they show is a value
   abbrev Upto : Type 0
@@ -158,7 +158,7 @@ module _ {M : Type 1} {𝓤 : Ura M} (𝓛 : Logic 𝓤) (at_mem : Memory → SP
   goes-unseen = qed 𝓛 (‵ ftrue ∷ []) ∵ nothing ! $ join ! $ frame ! $ done !
 
   abbrev Began : Seen → Type 0
-  Began r = r ≡ seenOf 0 []
+  Began r = r ≡ seen_of 0 []
 
   began : (r : Seen) → ent 𝓤 (ensured 𝓛 unseen.ended (unseen.clauses 𝓛 at_mem run) tt tt tt r) (fact 𝓤 (Began r))
   began r = ex_e 𝓤 _ (λ ws. snd∗ 𝓤 (sem 𝓛 (lasts unseen.ended tt tt ws)) (fact 𝓤 (Began r)))

@@ -5,8 +5,8 @@ use native.Mathlib.Omega.{arith}
 use borrow.Author.Rules.{rules}
 use lib.ListN.{length, take, get_or}
 use Rattle.queue.specs.declared.Seen.{Seen}
-use Rattle.queue.specs.Line.{noRecord}
-use Rattle.queue.specs.Inner.{seenOf, look_of}
+use Rattle.queue.specs.Line.{no_record}
+use Rattle.queue.specs.Inner.{seen_of, look_of}
 use Rattle.queue.proofs.LineLaws.{seen_none, seen_more}
 use Rattle.queue.proofs.look_through.Statement.{statement}
 use Rattle.queue.proofs.look_through.Tie as tie
@@ -16,7 +16,7 @@ use Rattle.queue.proofs.look.Reads as look-reads
 use Rattle.queue.proofs.unseen.Reads as unseen-reads
 
 abbrev invariant-loop : tie.invariant-loop
-invariant-loop count functions list s₀ place₀ s place = (s ≡ seenOf functions (take place list)) × (place ≤ count)
+invariant-loop count functions list s₀ place₀ s place = (s ≡ seen_of functions (take place list)) × (place ≤ count)
 
 abbrev decreases-loop : tie.decreases-loop
 decreases-loop count functions list s₀ place₀ s place = count - place
@@ -50,9 +50,9 @@ loop-again c =
     let e : suc l.place ≡ l.place + 1 = omega arith in
     let h : l.place < length a.t1 = omega (arith, n, c.before.before.loop-test.true) in (
       c.look.ensures
-          ∙ ap (λ (x : Seen). look_of a.functions x l.place (get_or a.t1 l.place noRecord)) l.invariant.0
+          ∙ ap (λ (x : Seen). look_of a.functions x l.place (get_or a.t1 l.place no_record)) l.invariant.0
           ∙ seen_more a.functions a.t1 l.place h
-          ∙ ap (λ k. seenOf a.functions (take k a.t1)) e,
+          ∙ ap (λ k. seen_of a.functions (take k a.t1)) e,
       search rules,
     )
 
@@ -61,7 +61,7 @@ returns c =
     let l = c.before.loop in
     let a = c.before.before.before.args in
     let e : l.place ≡ a.count = omega (arith, c.loop-test.false, l.invariant.1) in
-    (l.invariant.0 ∙ ap (λ k. seenOf a.functions (take k a.t1)) e, search rules)
+    (l.invariant.0 ∙ ap (λ k. seen_of a.functions (take k a.t1)) e, search rules)
 
 pub look-through-spec : {M : Type 1} → statement M
 look-through-spec =

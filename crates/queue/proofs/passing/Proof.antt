@@ -2,10 +2,10 @@
 use mathlib.Core.Path.{sym, ap, ◌∙◌}
 use native.Mathlib.Omega.{arith}
 use Rattle.unit.specs.declared.Answer.{Answer}
-use Rattle.queue.specs.Calls.{passedThen}
-use Rattle.queue.specs.Inner.{oldestBy, passBy}
-use Rattle.queue.proofs.AcceptedLaws.{unit-by}
-use Rattle.queue.proofs.CoreLaws.{oldest-none}
+use Rattle.queue.specs.Calls.{passed_then}
+use Rattle.queue.specs.Inner.{oldest_by, pass_by}
+use Rattle.queue.proofs.AcceptedLaws.{unit_by_lem}
+use Rattle.queue.proofs.CoreLaws.{oldest_none}
 use borrow.Author.Rules.{rules}
 use Rattle.queue.proofs.passing.Statement.{statement}
 use Rattle.queue.proofs.passing.Tie as tie
@@ -27,9 +27,9 @@ returns c =
     let t = c.before.before in
     let a = t.before.before.before.args in
     c.idled.ensures
-    ∙ ap (passBy a.u a.bank a.count)
-    (oldest-none a.bank a.count a.first c.before.if1.true
-    ∙ ap (λ (x : Answer). passedThen x (oldestBy a.bank a.count a.first)) (sym t.enum_told.given.1 ∙ t.before.before.check-unit.ensures))
+    ∙ ap (pass_by a.u a.bank a.count)
+    (oldest_none a.bank a.count a.first c.before.if1.true
+    ∙ ap (λ (x : Answer). passed_then x (oldest_by a.bank a.count a.first)) (sym t.enum_told.given.1 ∙ t.before.before.check-unit.ensures))
 
 tried-requires : tie.Need-tried-requires
 tried-requires c κs =
@@ -39,7 +39,7 @@ tried-requires c κs =
     let e = sym t.before.before.check-unit.ensures ∙ t.enum_told.given.1 in
     let some = c.if1.false in
     record {
-      sound = (unit-by a.room a.u a.length a.count a.fit e).sound;
+      sound = (unit_by_lem a.room a.u a.length a.count a.fit e).sound;
       some = omega arith;
       tag = s.requires e (omega arith);
     }
@@ -47,7 +47,7 @@ tried-requires c κs =
 returns-2 : tie.Need-returns-2
 returns-2 c =
     let a = c.before.before.before.before.args in
-    ap (λ (x : Answer). passBy a.u a.bank a.count (passedThen x (oldestBy a.bank a.count a.first)))
+    ap (λ (x : Answer). pass_by a.u a.bank a.count (passed_then x (oldest_by a.bank a.count a.first)))
     (sym c.before.answer.given.1 ∙ c.before.before.before.check-unit.ensures)
 
 returns-3 : tie.Need-returns-3
@@ -55,7 +55,7 @@ returns-3 c =
     let t = c.before.before in
     let a = t.before.before.before.args in
     c.tried.ensures
-    ∙ ap (λ (x : Answer). passBy a.u a.bank a.count (passedThen x (oldestBy a.bank a.count a.first)))
+    ∙ ap (λ (x : Answer). pass_by a.u a.bank a.count (passed_then x (oldest_by a.bank a.count a.first)))
     (sym t.enum_told.given.1 ∙ t.before.before.check-unit.ensures)
 
 pub passing-spec : {M : Type 1} → statement M

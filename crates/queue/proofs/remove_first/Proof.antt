@@ -47,12 +47,12 @@ use denote.Triple.Spec.{Meets, triple_of}
 use denote.Triple.Table.{entered}
 use denote.Triple.Walked.{says, needs, Stays, stay_slice, stay_none, walk_of, AllGo, Goes-slice, Goes-none, Walks, ends_at, walked, walk_Meets}
 use denote.Exit.{yes}
-use Rattle.queue.specs.Line.{noRecord as none, forward}
+use Rattle.queue.specs.Line.{no_record as none, forward}
 use Rattle.queue.specs.declared.Waiting.{Waiting}
 use Rattle.queue.specs.contracts.Waiting as T
 use Rattle.queue.proofs.Waiting.TheLaws as T'
 use Rattle.queue.proofs.Slot.{val, byte_fits, next_fits}
-use Rattle.queue.proofs.Shift.{shift, shift-length, shift-step, reach, lower, one_more, one_less, nearer, last, some-less, less-fits}
+use Rattle.queue.proofs.Shift.{shift, shift-length, shift-step, reach, lower, one_more, one_less, nearer, last, some_less, less_fits}
 use Rattle.queue.specs.contracts.remove_first.Key.{name as #queue·remove-first}
 use Rattle.queue.specs.contracts.remove_first as f
 use Rattle.queue.proofs.remove_first.Statement as stated
@@ -161,7 +161,7 @@ module _ {M : Type 1} {𝓤 : Ura M} (𝓛 : Logic 𝓤) (at_mem : Memory → SP
           assigns ! (of_opd ! (load ! (from ! (hop ! (look ! 14 refl) (stop !))) (look_raw ! 0 refl))) (from ! (stop !)) (init ! 12 refl ((LL.lawful T.the_type T'.the_laws 𝓛).typed taken _ g).0) $
           elem_back ! T.the_row full_share (shift ys j.0) (suc j.0) none (val taken ∷ []) b o from_place $
           -- list[i - 1] is stored over
-          assigns ! (bin ! (load ! (from ! (stop !)) (look ! 22 refl)) (lit ! tt) (some-less j.0)) (from ! (stop !)) (init ! 8 refl (tt, record { fits = less-fits room.0 next })) $
+          assigns ! (bin ! (load ! (from ! (stop !)) (look ! 22 refl)) (lit ! tt) (some_less j.0)) (from ! (stop !)) (init ! 8 refl (tt, record { fits = less_fits room.0 next })) $
           rewrite ! 8 (λ (m : ℕ). ‵ (fat full_share word l₁₁ 0 (vint w64 m))) (one_less j.0) refl $
           assigns ! (bin ! (load ! (from ! (stop !)) (look ! 8 refl)) (lit ! tt) (record { fits = byte_fits room.1 (lower next) })) (from ! (stop !)) (init ! 6 refl (tt, record { fits = byte_fits room.1 (lower next) })) $
           assigns ! (bin ! (load ! (from ! (fld ! refl (stop !))) (look_in ! 28 (sub ! 0 refl (whole !)))) (load ! (from ! (stop !)) (look ! 6 refl)) tt) (from ! (stop !)) (init ! 4 refl (tt, tt)) $

@@ -52,13 +52,13 @@ use Rattle.unit.proofs.FunctionUnit.TheLaws as U'
 use Rattle.controller.specs.declared.Bank.{Bank}
 use Rattle.controller.specs.contracts.Bank as B
 use Rattle.controller.proofs.Bank.TheLaws as B'
-use Rattle.queue.specs.Line.{noRecord, forward}
-use Rattle.queue.specs.Calls.{unit_by, passedThen, passOf, passList}
-use Rattle.queue.specs.Inner.{oldestBy, passBy, seenOf, shownOf}
+use Rattle.queue.specs.Line.{no_record, forward}
+use Rattle.queue.specs.Calls.{unit_by, passed_then, pass_of, pass_list}
+use Rattle.queue.specs.Inner.{oldest_by, pass_by, seen_of, shown_of}
 use Rattle.queue.specs.declared.Waiting.{Waiting}
 use Rattle.queue.specs.declared.Seen.{Seen}
 use Rattle.queue.specs.declared.Pass.{Pass}
-use Rattle.queue.proofs.ShownLaws.{shown-most, first_fits, pass-found, pass-removes, pass-stays}
+use Rattle.queue.proofs.ShownLaws.{shown_most, first_fits, pass-found, pass_removes, pass_stays}
 use Rattle.queue.specs.contracts.Waiting as T
 use Rattle.queue.proofs.Waiting.TheLaws as T'
 use Rattle.queue.specs.contracts.Seen as S
@@ -153,12 +153,12 @@ module _ {M : Type 1} {𝓤 : Ura M} (𝓛 : Logic 𝓤) (at_mem : Memory → SP
 
   -- as many records are looked at, and this is what they show
   abbrev m : ℕ
-  m = shownOf 32 (length ys) i
+  m = shown_of 32 (length ys) i
 
   abbrev seen : Seen
-  seen = seenOf u.functions (take m ys)
+  seen = seen_of u.functions (take m ys)
 
-  exits : (zs : List Waiting) (r : Pass) → r ≡ passOf 32 u bank ys i → zs ≡ passList 32 u bank ys i → length zs ≡ length ys → Is R.the_row r (rval r ∷ [])
+  exits : (zs : List Waiting) (r : Pass) → r ≡ pass_of 32 u bank ys i → zs ≡ pass_list 32 u bank ys i → length zs ≡ length ys → Is R.the_row r (rval r ∷ [])
       → ent 𝓤 (⋆ 𝓛 (‵ (fobs γ ((coded_holeys T.the_row).code (heres T.the_row zs))) ∷ ‵ (fbor κ (Held T.the_row (length zs) b o γ)) ∷ ‵ (flft κ q) ∷ [])) (Post (rval r))
   exits zs r e₁ e₂ l is =
       qed 𝓛 (‵ (fobs γ ((coded_holeys T.the_row).code (heres T.the_row zs))) ∷ ‵ (fbor κ (Held T.the_row (length zs) b o γ)) ∷ ‵ (flft κ q) ∷ []) ∵
@@ -192,7 +192,7 @@ module _ {M : Type 1} {𝓤 : Ura M} (𝓛 : Logic 𝓤) (at_mem : Memory → SP
 
   goes_over : (ν : ℕ) (δ : GName) → m < 2 ^ 64 → u.functions < 2 ^ 8 → ent 𝓤 (sep 𝓤 (A.lft (ν ∷ []) full_share) (sem 𝓛 ((MutSlice (named 0) (ν ∷ []) T.the_row).own_val (x δ ys) (s ∷ [])))) ((Over 𝓛 at_mem run).pre (to-over ν δ))
   goes_over ν δ m-fits u-fits =
-      qed 𝓛 (‵ (flft (ν ∷ []) full_share) ∷ ‵ ((MutSlice (named 0) (ν ∷ []) T.the_row).own_val (x δ ys) (s ∷ [])) ∷ []) ∵ says ! (shown-most 32 (length ys) i) $ nothing ! $ move ! (1 ∷ 0 ∷ []) $ join ! $ frame ! $
+      qed 𝓛 (‵ (flft (ν ∷ []) full_share) ∷ ‵ ((MutSlice (named 0) (ν ∷ []) T.the_row).own_val (x δ ys) (s ∷ [])) ∷ []) ∵ says ! (shown_most 32 (length ys) i) $ nothing ! $ move ! (1 ∷ 0 ∷ []) $ join ! $ frame ! $
       nothing ! $ owned ! u8 (Is u8) (uint_Makes 𝓛 w8) u.functions _ (refl, u-fits) $ fjoin ! $ owned ! usize (Is usize) (uint_Makes 𝓛 w64) m _ (refl, m-fits) $ fjoin ! $ move ! (1 ∷ 0 ∷ []) $ fjoin ! $ done !
 
   abbrev Overseen : Seen → List Waiting → Type 0
@@ -209,7 +209,7 @@ module _ {M : Type 1} {𝓤 : Ura M} (𝓛 : Logic 𝓤) (at_mem : Memory → SP
       owned ! U.the_row (Is U.the_row) (LL.makes U.the_type U'.the_plain 𝓛) u _ is-u $ fjoin ! $ owned ! usize (Is usize) (uint_Makes 𝓛 w64) 32 _ (refl, lit< tt) $ fjoin ! $ nothing ! $ frame ! $ done !
 
   abbrev PassedOn : Pass → Type 0
-  PassedOn r = r ≡ passBy u bank i (passedThen (unit_by 32 u (length ys) i seen.fit) (oldestBy bank i seen.first))
+  PassedOn r = r ≡ pass_by u bank i (passed_then (unit_by 32 u (length ys) i seen.fit) (oldest_by bank i seen.first))
 
   passed_on : (r : Pass) → ent 𝓤 (ensured 𝓛 passing.ended (passing.clauses 𝓛 at_mem run) tt (32, (u, (bank, (length ys, (i, (seen.first, (seen.fit, tt))))))) tt r) (fact 𝓤 (PassedOn r))
   passed_on r = ex_e 𝓤 _ (λ ws. snd∗ 𝓤 (sem 𝓛 (lasts passing.ended tt (32, (u, (bank, (length ys, (i, (seen.first, (seen.fit, tt))))))) ws)) (fact 𝓤 (PassedOn r)))
@@ -223,7 +223,7 @@ module _ {M : Type 1} {𝓤 : Ura M} (𝓛 : Logic 𝓤) (at_mem : Memory → SP
       nothing ! $ owned ! usize (Is usize) (uint_Makes 𝓛 w64) i _ (refl, i-fits) $ fjoin ! $ move ! (1 ∷ 0 ∷ []) $ fjoin ! $ done !
 
   abbrev Removed : Waiting → List Waiting → Type 0
-  Removed r zs = (r ≡ get_or ys 0 noRecord) × (zs ≡ forward ys i)
+  Removed r zs = (r ≡ get_or ys 0 no_record) × (zs ≡ forward ys i)
 
   module _ (C : Calls 𝓤 H) (Λ : Loops 𝓤 H) (fm : FmC 𝓤 H 𝓛.laws C) (known-shown : Triple 𝓤 (C #queue·shown) (Shown 𝓛 at_mem run)) (Known-over : Triple 𝓤 (C #queue·look-over) (Over 𝓛 at_mem run))
       (known-passing : Triple 𝓤 (C #queue·passing) (Passing 𝓛 at_mem run)) (known-removing : Triple 𝓤 (C #queue·remove-first) (Removing 𝓛 at_mem run)) where
@@ -232,7 +232,7 @@ module _ {M : Type 1} {𝓤 : Ura M} (𝓛 : Logic 𝓤) (at_mem : Memory → SP
       En = (R'.mir, l₀) ∷ (U'.mir, l₁) ∷ (B'.mir, l₂) ∷ (slice, l₃) ∷ (word, l₄) ∷ (word, l₅) ∷ (S'.mir, l₆) ∷ (R'.mir, l₇) ∷ (word, l₈) ∷ (ref, l₉) ∷ (slice_ty ref, l₁₀) ∷ (ty_bool, l₁₁) ∷ (T'.mir, l₁₂) ∷ (ref, l₁₃) ∷ (slice_ty ref, l₁₄) ∷ []
 
       -- the return
-      gives : (r : Pass) → r ≡ passOf 32 u bank ys i → Is R.the_row r (rval r ∷ []) → (zs : List Waiting) → zs ≡ passList 32 u bank ys i → length zs ≡ length ys → (v₁₄ v₁₃ v₁₂ v₁₁ : Val) → Sq 𝓛
+      gives : (r : Pass) → r ≡ pass_of 32 u bank ys i → Is R.the_row r (rval r ∷ []) → (zs : List Waiting) → zs ≡ pass_list 32 u bank ys i → length zs ≡ length ys → (v₁₄ v₁₃ v₁₂ v₁₁ : Val) → Sq 𝓛
           (‵ ((MutSlice (named 0) κ T.the_row).own_val (x γ zs) (s ∷ [])) ∷ ‵ (flft κ q) ∷ ‵ (fat full_share (slice_ty ref) l₁₄ 0 v₁₄) ∷ ‵ (fdies (slice_ty ref) l₁₄) ∷ ‵ (fat full_share ref l₁₃ 0 v₁₃) ∷ ‵ (fdies ref l₁₃) ∷ ‵ (fat full_share T'.mir l₁₂ 0 v₁₂) ∷ ‵ (fdies T'.mir l₁₂) ∷ ‵ (fat full_share ty_bool l₁₁ 0 v₁₁) ∷ ‵ (fdies ty_bool l₁₁) ∷ ‵ (fat full_share (slice_ty ref) l₁₀ 0 s) ∷ ‵ (fdies (slice_ty ref) l₁₀) ∷ ‵ (fat full_share ref l₉ 0 (vptr b o)) ∷ ‵ (fdies ref l₉) ∷ ‵ (fat full_share word l₈ 0 (vint w64 (length ys))) ∷ ‵ (fdies word l₈) ∷ ‵ (fat full_share R'.mir l₇ 0 (rval r)) ∷ ‵ (fdies R'.mir l₇) ∷ ‵ (fat full_share S'.mir l₆ 0 (sval seen)) ∷ ‵ (fdies S'.mir l₆) ∷ ‵ (fat full_share word l₅ 0 (vint w64 m)) ∷ ‵ (fdies word l₅) ∷ ‵ (fat full_share word l₄ 0 (vint w64 i)) ∷ ‵ (fdies word l₄) ∷ ‵ (fat full_share slice l₃ 0 s) ∷ ‵ (fdies slice l₃) ∷ ‵ (fat full_share B'.mir l₂ 0 (bval bank)) ∷ ‵ (fdies B'.mir l₂) ∷ ‵ (fat full_share U'.mir l₁ 0 (uval u)) ∷ ‵ (fdies U'.mir l₁) ∷ ‵ (froom R'.mir l₀ 0) ∷ ‵ (fdies R'.mir l₀) ∷ [])
           (runs C Λ En steps.t-10 (at_ret En Post))
       gives r e is zs e₂ l v₁₄ v₁₃ v₁₂ v₁₁ =
@@ -244,13 +244,13 @@ module _ {M : Type 1} {𝓤 : Ura M} (𝓛 : Logic 𝓤) (at_mem : Memory → SP
           by ! (exits zs r e e₂ l is)
 
       -- one record less waits, or the list stays
-      ends : (r : Pass) → r ≡ passOf 32 u bank ys i → Is R.the_row r (rval r ∷ []) → Sq 𝓛
+      ends : (r : Pass) → r ≡ pass_of 32 u bank ys i → Is R.the_row r (rval r ∷ []) → Sq 𝓛
           (‵ ((MutSlice (named 0) κ T.the_row).own_val (x γ ys) (s ∷ [])) ∷ ‵ (flft κ q) ∷ ‵ (froom (slice_ty ref) l₁₄ 0) ∷ ‵ (fdies (slice_ty ref) l₁₄) ∷ ‵ (froom ref l₁₃ 0) ∷ ‵ (fdies ref l₁₃) ∷ ‵ (froom T'.mir l₁₂ 0) ∷ ‵ (fdies T'.mir l₁₂) ∷ ‵ (froom ty_bool l₁₁ 0) ∷ ‵ (fdies ty_bool l₁₁) ∷ ‵ (fat full_share (slice_ty ref) l₁₀ 0 s) ∷ ‵ (fdies (slice_ty ref) l₁₀) ∷ ‵ (fat full_share ref l₉ 0 (vptr b o)) ∷ ‵ (fdies ref l₉) ∷ ‵ (fat full_share word l₈ 0 (vint w64 (length ys))) ∷ ‵ (fdies word l₈) ∷ ‵ (fat full_share R'.mir l₇ 0 (rval r)) ∷ ‵ (fdies R'.mir l₇) ∷ ‵ (fat full_share S'.mir l₆ 0 (sval seen)) ∷ ‵ (fdies S'.mir l₆) ∷ ‵ (fat full_share word l₅ 0 (vint w64 m)) ∷ ‵ (fdies word l₅) ∷ ‵ (fat full_share word l₄ 0 (vint w64 i)) ∷ ‵ (fdies word l₄) ∷ ‵ (fat full_share slice l₃ 0 s) ∷ ‵ (fdies slice l₃) ∷ ‵ (fat full_share B'.mir l₂ 0 (bval bank)) ∷ ‵ (fdies B'.mir l₂) ∷ ‵ (fat full_share U'.mir l₁ 0 (uval u)) ∷ ‵ (fdies U'.mir l₁) ∷ ‵ (froom R'.mir l₀ 0) ∷ ‵ (fdies R'.mir l₀) ∷ [])
           (runs C Λ En steps.t-8 (at_ret En Post))
       ends r e is =
           assigns ! (bin ! (load ! (from ! (fld ! refl (stop !))) (look_in ! 16 (sub ! 2 refl (whole !)))) (load ! (from ! (stop !)) (look ! 22 refl)) tt) (from ! (stop !)) (init ! 8 refl (tt, tt)) $
           first ! $ branches ! (load ! (from ! (stop !)) (look ! 8 refl))
-          (λ less. let gone = pass-removes 32 u bank ys i r e (ltb→lt r.count i less) in
+          (λ less. let gone = pass_removes 32 u bank ys i r e (ltb→lt r.count i less) in
           assigns ! (addr ! (from ! (fld ! refl (hop ! (look_in ! 24 (sub ! 0 refl (whole !))) (stop !))))) (from ! (stop !)) (init ! 4 refl (tt, tt)) $
           assigns ! (agg ! (and_then ! (load ! (from ! (stop !)) (look ! 4 refl)) (and_then ! (load ! (from ! (fld ! refl (stop !))) (look_in ! 24 (sub ! 1 refl (whole !)))) (no_more !)))) (from ! (stop !)) (init ! 2 refl (tt, (tt, (record { fits = room.0 }, tt)))) $
           lft_new ! tt (λ ν. move ! (1 ∷ 2 ∷ []) $
@@ -267,7 +267,7 @@ module _ {M : Type 1} {𝓤 : Ura M} (𝓛 : Logic 𝓤) (at_mem : Memory → SP
           use3 𝓛 (later (‵ ((MutSlice (named 0) κ T.the_row).own_val (x γ zs.0) (s ∷ [])) ⊛ ‵ (flft κ q))) (comes_back T.the_row κ (ν ∷ []) q γ b o 𝓛 (named 0) (named 0) ys δ zs.0 room l) $ await ! tt $ split ! $
           move ! (2 ∷ 3 ∷ 4 ∷ []) $ drop ! $ drop ! $ drop ! $
           gives r e is zs.0 (d.1 ∙ gone.moved) l _ _ _ _)))))))))
-          (λ kept. let stays = pass-stays 32 u bank ys i r e (nltb→le r.count i kept) in
+          (λ kept. let stays = pass_stays 32 u bank ys i r e (nltb→le r.count i kept) in
           skips ! $ exec ! C Λ En steps.t-10 (at_ret En Post) $
           fsplit ! $ move ! (1 ∷ []) $ fsplit ! $ move ! (0 ∷ 1 ∷ 3 ∷ []) $ move ! (3 ∷ []) $ drop ! $
           assigns ! (of_opd ! (load ! (from ! (stop !)) (look ! 17 refl))) (from ! (stop !)) (init ! 31 refl ((LL.lawful R.the_type R'.the_laws 𝓛).typed r _ is).0) $

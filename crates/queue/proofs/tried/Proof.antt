@@ -7,7 +7,7 @@ use Rattle.controller.specs.declared.Bank.{Bank}
 use Rattle.unit.specs.declared.Answer.{Answer}
 use Rattle.queue.specs.declared.Passed.{Passed}
 use Rattle.queue.specs.declared.Passed.TheVariants as Passed
-use Rattle.queue.specs.Inner.{passBy, oldestBy}
+use Rattle.queue.specs.Inner.{pass_by, oldest_by}
 use Rattle.queue.proofs.CoreLaws.{tried-granted, tried-refused}
 use borrow.Author.Rules.{rules}
 use Rattle.queue.proofs.tried.Statement.{statement}
@@ -34,7 +34,7 @@ returns c =
     let s = c.before.before.before.before in
     let a = s.args in
     c.idled.ensures
-    ∙ ap (passBy a.u a.bank a.count)
+    ∙ ap (pass_by a.u a.bank a.count)
     (tried-refused a.u a.bank a.count a.first s.requires _
     (sym (ap (λ (x : Stepped). x.answer) c.before.before.before.step.ensures) ∙ c.before.enum_told.given.1))
 
@@ -44,7 +44,7 @@ returns-2 c =
     let s = c.before.before.before.before in
     let a = s.args in
     ap (λ (x : Stepped). record { answer = Passed.Started a.first; bank = x.bank; count = a.count - 1 }) c.before.before.before.step.ensures
-    ∙ ap (passBy a.u a.bank a.count)
+    ∙ ap (pass_by a.u a.bank a.count)
     (tried-granted a.u a.bank a.count a.first s.requires
     (sym (ap (λ (x : Stepped). x.answer) c.before.before.before.step.ensures) ∙ c.before.enum-told2.given.1))
 

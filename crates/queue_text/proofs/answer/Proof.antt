@@ -1,5 +1,5 @@
 -- `queue_text::answer` meets its contract: by what is done. Assumes nothing.
-use Rattle.queue_text.proofs.TellLaws.{issued-by}
+use Rattle.queue_text.proofs.TellLaws.{issued_by}
 use borrow.Author.Rules.{rules}
 use Rattle.queue_text.proofs.answer.Statement.{statement}
 use Rattle.queue_text.proofs.answer.Tie as tie
@@ -28,7 +28,7 @@ same_length c = search rules
 returns : tie.Need-returns
 returns c =
     let a = c.before.before.before.before.before.before.before.args in
-    issued-by a.session a.request c.before.before.before.before.enum_told.given.1 c.before.before.arrive.ensures
+    issued_by a.session a.request c.before.before.before.before.enum_told.given.1 c.before.before.arrive.ensures
 
 same-length-2 : tie.Need-same-length-2
 same-length-2 c = search rules
@@ -36,7 +36,7 @@ same-length-2 c = search rules
 returns-2 : tie.Need-returns-2
 returns-2 c =
     let a = c.before.before.before.before.before.before.before.args in
-    issued-by a.session a.request c.before.before.before.before.enum-told2.given.1 c.before.before.pass.ensures
+    issued_by a.session a.request c.before.before.before.before.enum-told2.given.1 c.before.before.pass.ensures
 
 same-length-3 : tie.Need-same-length-3
 same-length-3 c = search rules
@@ -44,7 +44,7 @@ same-length-3 c = search rules
 returns-3 : tie.Need-returns-3
 returns-3 c =
     let a = c.before.before.before.before.before.before.before.args in
-    issued-by a.session a.request c.before.before.before.before.enum-told3.given.1 c.before.before.tell.ensures
+    issued_by a.session a.request c.before.before.before.before.enum-told3.given.1 c.before.before.tell.ensures
 
 pub answer-spec : {M : Type 1} → statement M
 answer-spec =

@@ -1,5 +1,5 @@
 -- `queue_text::arrive` meets its contract. Assumes nothing.
-use Rattle.queue_text.proofs.TellLaws.{arrived-as}
+use Rattle.queue_text.proofs.TellLaws.{arrived_as}
 use borrow.Author.Rules.{rules}
 use Rattle.queue_text.proofs.arrive.Statement.{statement}
 use Rattle.queue_text.proofs.arrive.Tie as tie
@@ -25,7 +25,7 @@ returns c =
     let joins = told.before.before in
     let byte = joins.before in
     let a = byte.before.before.before.before.before.args in
-    arrived-as a.session a.request byte.byte.ensures joins.join.ensures told.put-answer.ensures c.with-port.ensures
+    arrived_as a.session a.request byte.byte.ensures joins.join.ensures told.put-answer.ensures c.with-port.ensures
 
 pub arrive-spec : {M : Type 1} → statement M
 arrive-spec =

@@ -1,5 +1,5 @@
 -- `queue_text::pass` meets its contract. Assumes nothing.
-use Rattle.queue_text.proofs.TellLaws.{passed-as}
+use Rattle.queue_text.proofs.TellLaws.{passed_as}
 use borrow.Author.Rules.{rules}
 use Rattle.queue_text.proofs.pass.Statement.{statement}
 use Rattle.queue_text.proofs.pass.Tie as tie
@@ -21,7 +21,7 @@ returns c =
     let told = c.before.before.before.before.before.before in
     let passes = told.before.before in
     let a = passes.before.before.before.before.before.args in
-    passed-as a.session a.request passes.advance.ensures told.put-passed.ensures c.with-port.ensures
+    passed_as a.session a.request passes.advance.ensures told.put-passed.ensures c.with-port.ensures
 
 pub pass_spec : {M : Type 1} → statement M
 pass_spec = tie.close (tie.spec advance-requires put-passed-requires with-port-requires same_length returns)

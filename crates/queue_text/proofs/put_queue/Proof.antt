@@ -4,8 +4,8 @@ use Prim.Native.Nat.{◌*◌}
 use native.Mathlib.Omega.{arith}
 use lib.Seq.{length-take-le}
 use Rattle.text.proofs.RowLaws.{wrote_as}
-use Rattle.session.proofs.LineLaws.{line-length, line-put}
-use Rattle.queue_text.proofs.TellLaws.{queue-told}
+use Rattle.session.proofs.LineLaws.{line_length_lem, line_put}
+use Rattle.queue_text.proofs.TellLaws.{queue_told}
 use borrow.Author.Rules.{rules}
 use Rattle.queue_text.proofs.put_queue.Statement.{statement}
 use Rattle.queue_text.proofs.put_queue.Tie as tie
@@ -42,7 +42,7 @@ array-share-prefix-line : tie.Need-array-share-prefix-line
 array-share-prefix-line c = search rules
 
 slice-aggregate-put : tie.Need-slice-aggregate-put
-slice-aggregate-put c = line-length c.before.before.before.write-queue.ensures
+slice-aggregate-put c = line_length_lem c.before.before.before.write-queue.ensures
 
 put-requires : tie.Need-put-requires
 put-requires c κs = search rules
@@ -55,8 +55,8 @@ returns c =
     let wrote = c.before.before.before.before.before.before in
     let made = wrote.before.before.before in
     let start = made.before.before.before.before in
-    let told = queue-told start.args.queue _ made.Numbers-of.result made.before.waiting-of.ensures made.Numbers-of.ensures.0 made.Numbers-of.ensures.2 in
-    line-put start.args.out.now (wrote_as wrote.write-queue.ensures told) c.before.before.put.ensures
+    let told = queue_told start.args.queue _ made.Numbers-of.result made.before.waiting-of.ensures made.Numbers-of.ensures.0 made.Numbers-of.ensures.2 in
+    line_put start.args.out.now (wrote_as wrote.write-queue.ensures told) c.before.before.put.ensures
 
 pub put-queue-spec : {M : Type 1} → statement M
 put-queue-spec =

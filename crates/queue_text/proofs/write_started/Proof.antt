@@ -1,6 +1,6 @@
 -- `queue_text::write_started` meets its contract. Assumes nothing.
 use native.Mathlib.Omega.{arith}
-use Rattle.text.proofs.DecimalLaws.{decimal-length}
+use Rattle.text.proofs.DecimalLaws.{decimal_length}
 use Rattle.text.proofs.BoundedLaws.{put_word, put_one}
 use borrow.Author.Rules.{rules}
 use Rattle.queue_text.proofs.write_started.Statement.{statement}
@@ -45,9 +45,9 @@ returns c =
     let start = first.before.before.before.before in
     let room = start.requires in
     let p₁ = put_one 8 _ first.put.ensures (omega arith) (omega (arith, room)) in
-    let p₂ = put_word 10 _ p₁ tag.put-number.ensures (decimal-length start.args.started.tag 10 (omega arith) (omega arith)) (omega (arith, room)) in
+    let p₂ = put_word 10 _ p₁ tag.put-number.ensures (decimal_length start.args.started.tag 10 (omega arith) (omega arith)) (omega (arith, room)) in
     let p₃ = put_word 1 _ p₂ space.put2.ensures (omega arith) (omega (arith, room)) in
-    let p₄ = put_word 10 _ p₃ ticket.put-number2.ensures (decimal-length start.args.started.ticket 10 (omega arith) (omega arith)) (omega (arith, room)) in
+    let p₄ = put_word 10 _ p₃ ticket.put-number2.ensures (decimal_length start.args.started.ticket 10 (omega arith) (omega arith)) (omega (arith, room)) in
     let p₅ = put_word 1 _ p₄ c.before.before.put3.ensures (omega arith) (omega (arith, room)) in
     p₅.wrote
 

@@ -3,7 +3,7 @@ use native.Mathlib.Omega.{arith}
 use Prim.Native.Nat.{◌/◌}
 use mathlib.Core.Path.{sym, ◌∙◌}
 use borrow.Author.Rules.{rules}
-use Rattle.record_text.proofs.LineLaws.{bit-one, bit-none}
+use Rattle.record_text.proofs.LineLaws.{bit_one, bit_none}
 use Rattle.record_text.proofs.bit_text.Statement.{statement}
 use Rattle.record_text.proofs.bit_text.Tie as tie
 
@@ -20,10 +20,10 @@ test-requires : tie.Need-test-requires
 test-requires c κs = search rules
 
 returns : tie.Need-returns
-returns c = let a = c.before.before.before.before.args in bit-one a.ring.now a.i (sym c.before.test.ensures ∙ c.if1.true)
+returns c = let a = c.before.before.before.before.args in bit_one a.ring.now a.i (sym c.before.test.ensures ∙ c.if1.true)
 
 returns-2 : tie.Need-returns-2
-returns-2 c = let a = c.before.before.before.before.args in bit-none a.ring.now a.i (sym c.before.test.ensures ∙ c.if1.false)
+returns-2 c = let a = c.before.before.before.before.args in bit_none a.ring.now a.i (sym c.before.test.ensures ∙ c.if1.false)
 
 pub bit-text-spec : {M : Type 1} → statement M
 bit-text-spec =

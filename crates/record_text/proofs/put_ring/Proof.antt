@@ -1,6 +1,6 @@
 -- `record_text::put_ring` meets its contract. Assumes nothing.
 use borrow.Author.Rules.{rules}
-use Rattle.session.proofs.LineLaws.{line-length, line-put}
+use Rattle.session.proofs.LineLaws.{line_length_lem, line_put}
 use Rattle.record_text.proofs.put_ring.Statement.{statement}
 use Rattle.record_text.proofs.put_ring.Tie as tie
 
@@ -14,7 +14,7 @@ array-share-prefix-line : tie.Need-array-share-prefix-line
 array-share-prefix-line c = search rules
 
 slice-aggregate-put : tie.Need-slice-aggregate-put
-slice-aggregate-put c = line-length c.before.before.before.write-ring.ensures
+slice-aggregate-put c = line_length_lem c.before.before.before.write-ring.ensures
 
 put-requires : tie.Need-put-requires
 put-requires c κs = search rules
@@ -25,7 +25,7 @@ same_length c = search rules
 returns : tie.Need-returns
 returns c =
     let wrote = c.before.before.before.before.before.before in
-    line-put wrote.before.before.before.before.args.out.now wrote.write-ring.ensures c.before.before.put.ensures
+    line_put wrote.before.before.before.before.args.out.now wrote.write-ring.ensures c.before.before.put.ensures
 
 pub put-ring-spec : {M : Type 1} → statement M
 put-ring-spec =

@@ -3,9 +3,9 @@ use mathlib.Core.Path.{sym, ap, ◌∙◌}
 use native.Mathlib.Omega.{arith}
 use lib.ListN.{length}
 use Rattle.session.proofs.LineLaws.{line_as}
-use Rattle.record_text.specs.Lines.{listLine}
+use Rattle.record_text.specs.Lines.{list_line}
 use borrow.Author.Rules.{rules}
-use Rattle.record_text.proofs.LineLaws.{list-few, report-refused, report-shown}
+use Rattle.record_text.proofs.LineLaws.{list_few, report-refused, report-shown}
 use Rattle.record_text.proofs.report.Statement.{statement}
 use Rattle.record_text.proofs.report.Tie as tie
 
@@ -30,7 +30,7 @@ cast-put-list c = search rules
 put-list-requires : tie.Need-put-list-requires
 put-list-requires c κs =
     let l = c.before in
-    omega (arith, ap length l.report-list.ensures, list-few _ _ (sym l.before.before.before.before.report.ensures ∙ l.before.before.shown2.given.1))
+    omega (arith, ap length l.report-list.ensures, list_few _ _ (sym l.before.before.before.before.report.ensures ∙ l.before.before.shown2.given.1))
 
 same_length : tie.Need-same-length
 same_length c = search rules
@@ -42,7 +42,7 @@ same-length-2 : tie.Need-same-length-2
 same-length-2 c = search rules
 
 returns-2 : tie.Need-returns-2
-returns-2 c = let b = c.before.before in report-shown _ _ _ _ _ (sym b.before.before.before.before.before.before.report.ensures ∙ b.before.before.before.before.shown2.given.1) (line_as (ap (listLine _) b.before.before.report-list.ensures) b.put-list.ensures)
+returns-2 c = let b = c.before.before in report-shown _ _ _ _ _ (sym b.before.before.before.before.before.before.report.ensures ∙ b.before.before.before.before.shown2.given.1) (line_as (ap (list_line _) b.before.before.report-list.ensures) b.put-list.ensures)
 
 pub report-spec : {M : Type 1} → statement M
 report-spec =

@@ -4,8 +4,8 @@ use native.Mathlib.Omega.{arith}
 use borrow.Author.Rules.{rules}
 use lib.ListN.{length}
 use Rattle.session.proofs.LineLaws.{line_as}
-use Rattle.record_text.specs.Lines.{ringLine}
-use Rattle.record_text.proofs.LineLaws.{ring-fits, load-refused, load-shown}
+use Rattle.record_text.specs.Lines.{ring_line}
+use Rattle.record_text.proofs.LineLaws.{ring_fits, load-refused, load-shown}
 use Rattle.record_text.proofs.ring.Statement.{statement}
 use Rattle.record_text.proofs.ring.Tie as tie
 
@@ -27,7 +27,7 @@ load-ring-requires c κs = search rules
 put-ring-requires : tie.Need-put-ring-requires
 put-ring-requires c κs =
     let l = c.before in
-    let f = ring-fits _ _ (sym l.before.before.before.before.load.ensures ∙ l.before.before.shown2.given.1) in
+    let f = ring_fits _ _ (sym l.before.before.before.before.load.ensures ∙ l.before.before.shown2.given.1) in
     (f.0, omega (arith, ap length l.load-ring.ensures, f.1))
 
 same_length : tie.Need-same-length
@@ -40,7 +40,7 @@ same-length-2 : tie.Need-same-length-2
 same-length-2 c = search rules
 
 returns-2 : tie.Need-returns-2
-returns-2 c = let b = c.before.before in load-shown _ _ _ _ _ (sym b.before.before.before.before.before.before.load.ensures ∙ b.before.before.before.before.shown2.given.1) (line_as (ap (ringLine _) b.before.before.load-ring.ensures) b.put-ring.ensures)
+returns-2 c = let b = c.before.before in load-shown _ _ _ _ _ (sym b.before.before.before.before.before.before.load.ensures ∙ b.before.before.before.before.shown2.given.1) (line_as (ap (ring_line _) b.before.before.load-ring.ensures) b.put-ring.ensures)
 
 pub ring-spec : {M : Type 1} → statement M
 ring-spec =

@@ -5,16 +5,16 @@ use mathlib.Core.List.{List}
 use native.Mathlib.Omega.{arith}
 use borrow.Author.Rules.{rules}
 use lib.ListN.{length, set, length-set}
-use Rattle.words.specs.Below.{listBelow}
+use Rattle.words.specs.Below.{list_below}
 use Rattle.text.specs.Text.{placed}
-use Rattle.plan_record.proofs.ListLaws.{list-none, list-more}
-use Rattle.record_text.specs.Lines.{bitText}
-use Rattle.record_text.proofs.LineLaws.{bits-wrote}
+use Rattle.plan_record.proofs.ListLaws.{list_none, list_more}
+use Rattle.record_text.specs.Lines.{bit_text}
+use Rattle.record_text.proofs.LineLaws.{bits_wrote}
 use Rattle.record_text.proofs.write_bits.Statement.{statement}
 use Rattle.record_text.proofs.write_bits.Tie as tie
 
 abbrev invariant-loop : tie.invariant-loop
-invariant-loop line₀ at ring count i₀ line i = (i ≤ count) × (count ≤ 8 * length ring) × (at + count ≤ length line₀) × (length line ≡ length line₀) × (line ≡ placed line₀ at (listBelow i (bitText ring)))
+invariant-loop line₀ at ring count i₀ line i = (i ≤ count) × (count ≤ 8 * length ring) × (at + count ≤ length line₀) × (length line ≡ length line₀) × (line ≡ placed line₀ at (list_below i (bit_text ring)))
 
 abbrev decreases-loop : tie.decreases-loop
 decreases-loop line₀ at ring count i₀ line i = count - i
@@ -22,7 +22,7 @@ decreases-loop line₀ at ring count i₀ line i = count - i
 loop-holds : tie.Need-loop-init invariant-loop decreases-loop
 loop-holds c =
     let s = c.before.before in
-    (omega arith, s.requires.0, s.requires.1, refl, list-none s.args.line.now s.args.at _)
+    (omega arith, s.requires.0, s.requires.1, refl, list_none s.args.line.now s.args.at _)
 
 bit-text-requires : tie.Need-bit-text-requires invariant-loop decreases-loop
 bit-text-requires c κs = let l = c.before.loop in omega (arith, l.invariant.1, l.invariant.0)
@@ -47,7 +47,7 @@ loop-again c =
       l.invariant.1,
       l.invariant.2,
       length-set l.line (a.at + l.i) _ ∙ l.invariant.3,
-      ap₂ (λ (x : List ℕ) (y : ℕ). set x (a.at + l.i) y) l.invariant.4 c.bit-text.ensures ∙ list-more a.line.now a.at l.i (bitText a.ring.now) (omega (arith, l.invariant.2)),
+      ap₂ (λ (x : List ℕ) (y : ℕ). set x (a.at + l.i) y) l.invariant.4 c.bit-text.ensures ∙ list_more a.line.now a.at l.i (bit_text a.ring.now) (omega (arith, l.invariant.2)),
     )
 
 add-result : tie.Need-overflow-add-result invariant-loop decreases-loop
@@ -61,7 +61,7 @@ returns c =
     let l = c.before.loop in
     let a = c.before.before.before.before.args in
     let e : l.i ≡ a.count = omega (arith, c.loop-test.false, l.invariant.0) in
-    bits-wrote _ _ _ _ _ l.invariant.2 (l.invariant.4 ∙ ap (λ k. placed a.line.now a.at (listBelow k (bitText a.ring.now))) e)
+    bits_wrote _ _ _ _ _ l.invariant.2 (l.invariant.4 ∙ ap (λ k. placed a.line.now a.at (list_below k (bit_text a.ring.now))) e)
 
 pub write-bits-spec : {M : Type 1} → statement M
 write-bits-spec =

@@ -1,6 +1,6 @@
 -- `record_text::write_plan` meets its contract. Assumes nothing.
 use borrow.Author.Rules.{rules}
-use Rattle.record_text.proofs.RecordLaws.{plan-refused, plan-written}
+use Rattle.record_text.proofs.RecordLaws.{plan_refused, plan-written}
 use Rattle.record_text.proofs.write_plan.Statement.{statement}
 use Rattle.record_text.proofs.write_plan.Tie as tie
 
@@ -17,7 +17,7 @@ write-requires : tie.Need-write-requires
 write-requires c κs = search rules
 
 returns : tie.Need-returns
-returns c = let o = c.before.before.before.read-for in plan-refused _ _ o.result o.ensures _ _ c.before.answer.given.1
+returns c = let o = c.before.before.before.read-for in plan_refused _ _ o.result o.ensures _ _ c.before.answer.given.1
 
 same_length : tie.Need-same-length
 same_length c = search rules

@@ -1,9 +1,9 @@
 -- `record_text::write_ring` meets its contract. Assumes nothing.
 use native.Mathlib.Omega.{arith}
 use borrow.Author.Rules.{rules}
-use Rattle.text.proofs.DecimalLaws.{decimal-length}
-use Rattle.text.proofs.BoundedLaws.{put_one, put_word, put-more, put-room}
-use Rattle.record_text.proofs.LineLaws.{bits-length}
+use Rattle.text.proofs.DecimalLaws.{decimal_length}
+use Rattle.text.proofs.BoundedLaws.{put_one, put_word, put_more, put_room}
+use Rattle.record_text.proofs.LineLaws.{bits_length}
 use Rattle.record_text.proofs.write_ring.Statement.{statement}
 use Rattle.record_text.proofs.write_ring.Tie as tie
 
@@ -30,9 +30,9 @@ write-bits-requires c κs =
     let start = first.before.before.before.before.before in
     let room = start.requires.2 in
     let p₁ = put_one 4 _ first.put.ensures (omega arith) (omega (arith, room)) in
-    let p₂ = put_word 10 _ p₁ sum.put-number.ensures (decimal-length start.args.sum 10 (omega (arith, start.requires.0)) (omega arith)) (omega (arith, room)) in
+    let p₂ = put_word 10 _ p₁ sum.put-number.ensures (decimal_length start.args.sum 10 (omega (arith, start.requires.0)) (omega arith)) (omega (arith, room)) in
     let p₃ = put_word 6 _ p₂ name.put2.ensures (omega arith) (omega (arith, room)) in
-    (start.requires.1, omega (arith, put-room 8192 p₃ (omega (arith, room)), start.requires.0))
+    (start.requires.1, omega (arith, put_room 8192 p₃ (omega (arith, room)), start.requires.0))
 
 slice-aggregate-put-3 : tie.Need-slice-aggregate-put-3
 slice-aggregate-put-3 c = search rules
@@ -52,9 +52,9 @@ returns c =
     let start = first.before.before.before.before.before in
     let room = start.requires.2 in
     let p₁ = put_one 4 _ first.put.ensures (omega arith) (omega (arith, room)) in
-    let p₂ = put_word 10 _ p₁ sum.put-number.ensures (decimal-length start.args.sum 10 (omega (arith, start.requires.0)) (omega arith)) (omega (arith, room)) in
+    let p₂ = put_word 10 _ p₁ sum.put-number.ensures (decimal_length start.args.sum 10 (omega (arith, start.requires.0)) (omega arith)) (omega (arith, room)) in
     let p₃ = put_word 6 _ p₂ name.put2.ensures (omega arith) (omega (arith, room)) in
-    let p₄ = put-more {n = 8192} p₃ (record { wrote = bits.write-bits.ensures; few = omega (arith, bits.write-bits.ensures.next, bits-length start.args.sum start.args.ring.now, start.requires.0) }) in
+    let p₄ = put_more {n = 8192} p₃ (record { wrote = bits.write-bits.ensures; few = omega (arith, bits.write-bits.ensures.next, bits_length start.args.sum start.args.ring.now, start.requires.0) }) in
     let p₅ = put_word 1 _ p₄ c.before.before.put3.ensures (omega arith) (omega (arith, room)) in
     p₅.wrote
 

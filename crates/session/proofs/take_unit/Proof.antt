@@ -1,5 +1,5 @@
 -- `session::take_unit` meets its contract: by the answer. Assumes nothing.
-use Rattle.session.proofs.SessionLaws.{taken_refused, taken-done}
+use Rattle.session.proofs.SessionLaws.{taken_refused, taken_done}
 use borrow.Author.Rules.{rules}
 use Rattle.session.proofs.take_unit.Statement.{statement}
 use Rattle.session.proofs.take_unit.Tie as tie
@@ -32,7 +32,7 @@ returns-2 : tie.Need-returns-2
 returns-2 c =
     let told = c.before.before.before.before in
     let a = told.before.before.before.before.before.before.before.args in
-    taken-done a.session a.made.unit told.enum-told2.given.1 c.before.before.empty-queue.ensures c.empty-shared.ensures told.before.before.before.before.put-answer.ensures
+    taken_done a.session a.made.unit told.enum-told2.given.1 c.before.before.empty-queue.ensures c.empty-shared.ensures told.before.before.before.before.put-answer.ensures
 
 pub take-unit-spec : {M : Type 1} → statement M
 take-unit-spec =

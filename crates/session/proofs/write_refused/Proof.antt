@@ -1,7 +1,7 @@
 -- `session::write_refused` meets its contract. Assumes nothing.
 use native.Mathlib.Omega.{arith}
 use Rattle.text.specs.Text.{ascii}
-use Rattle.session.proofs.LineLaws.{value-wrote, refused-wrote}
+use Rattle.session.proofs.LineLaws.{value_wrote, refused_wrote}
 use borrow.Author.Rules.{rules}
 use Rattle.session.proofs.write_refused.Statement.{statement}
 use Rattle.session.proofs.write_refused.Tie as tie
@@ -36,7 +36,7 @@ returns c =
     let word = value.before.before.before.before.before in
     let start = word.before.before.before.before in
     let room = start.requires in
-    refused-wrote start.args.why value.before.number_in.ensures room (value-wrote (ascii "refused ") _ (omega arith) word.put.ensures value.put-number.ensures)
+    refused_wrote start.args.why value.before.number_in.ensures room (value_wrote (ascii "refused ") _ (omega arith) word.put.ensures value.put-number.ensures)
     c.before.before.put2.ensures
 
 pub write-refused-spec : {M : Type 1} → statement M

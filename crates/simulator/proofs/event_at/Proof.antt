@@ -4,7 +4,7 @@ use native.Mathlib.Omega.{arith}
 use borrow.Author.Rules.{rules}
 use lib.ListN.{length}
 use Rattle.plan_record.proofs.PlanLaws.{held}
-use Rattle.simulator.proofs.StepLaws.{event-start, event-tick}
+use Rattle.simulator.proofs.StepLaws.{event_start, event_tick}
 use Rattle.simulator.proofs.event_at.Statement.{statement}
 use Rattle.simulator.proofs.event_at.Tie as tie
 
@@ -29,10 +29,10 @@ starts-at-requires c κs =
     (h.cycle, omega (arith, s.requires.before, h.holds.sum))
 
 returns : tie.Need-returns
-returns c = let s = c.before.before.before.before.before in event-start s.args.plan s.args.position s.requires (sym c.before.starts-at.ensures ∙ c.if1.true)
+returns c = let s = c.before.before.before.before.before in event_start s.args.plan s.args.position s.requires (sym c.before.starts-at.ensures ∙ c.if1.true)
 
 returns-2 : tie.Need-returns-2
-returns-2 c = let s = c.before.before.before.before.before in event-tick s.args.plan s.args.position s.requires (sym c.before.starts-at.ensures ∙ c.if1.false)
+returns-2 c = let s = c.before.before.before.before.before in event_tick s.args.plan s.args.position s.requires (sym c.before.starts-at.ensures ∙ c.if1.false)
 
 pub event-at-spec : {M : Type 1} → statement M
 event-at-spec =

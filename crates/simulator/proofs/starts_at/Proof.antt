@@ -2,8 +2,8 @@
 use Prim.Native.Nat.{◌-◌}
 use mathlib.Core.Path.{refl, sym}
 use native.Mathlib.Omega.{arith}
-use Rattle.plan_record.proofs.CycleLaws.{total-most}
-use Rattle.simulator.proofs.PositionLaws.{Passed, passed-inside, passed-more, passed-end}
+use Rattle.plan_record.proofs.CycleLaws.{total_most}
+use Rattle.simulator.proofs.PositionLaws.{Passed, passed-inside, passed_more, passed_end}
 use Rattle.simulator.proofs.starts_at.Statement.{statement}
 use Rattle.simulator.proofs.starts_at.Tie as tie
 
@@ -35,7 +35,7 @@ add-next c =
     let l = c.before.before.loop in
     let a = c.before.before.before.args in
     let i = passed-inside a.list.now a.position l.index l.next l.invariant (omega arith) in
-    omega (arith, l.invariant.cycle.most l.index i, l.invariant.before, total-most _ l.invariant.cycle)
+    omega (arith, l.invariant.cycle.most l.index i, l.invariant.before, total_most _ l.invariant.cycle)
 
 add-index : tie.Need-overflow-add-index invariant-loop decreases-loop
 add-index c =
@@ -56,10 +56,10 @@ loop-again c =
     let l = c.before.before.loop in
     let a = c.before.before.before.args in
     let i = passed-inside a.list.now a.position l.index l.next l.invariant (omega arith) in
-    passed-more _ _ l.index l.next l.invariant (omega arith)
+    passed_more _ _ l.index l.next l.invariant (omega arith)
 
 returns : tie.Need-returns invariant-loop decreases-loop
-returns c = let l = c.before.loop in sym (passed-end _ _ l.index l.next l.invariant c.loop-test.false)
+returns c = let l = c.before.loop in sym (passed_end _ _ l.index l.next l.invariant c.loop-test.false)
 
 pub starts-at-spec : {M : Type 1} → statement M
 starts-at-spec =

@@ -1,8 +1,8 @@
 -- `simulator::step` meets its contract. Assumes nothing.
 use mathlib.Core.Path.{sym, ap₂, ◌∙◌}
 use borrow.Author.Rules.{rules}
-use Rattle.unit.specs.Calls.{andThen}
-use Rattle.simulator.proofs.StepLaws.{step-refused, step-ready}
+use Rattle.unit.specs.Calls.{and_then}
+use Rattle.simulator.proofs.StepLaws.{step_refused, step-ready}
 use Rattle.simulator.proofs.step.Statement.{statement}
 use Rattle.simulator.proofs.step.Tie as tie
 
@@ -25,10 +25,10 @@ enum_told : tie.Need-enum-told
 enum_told c = search rules
 
 play-requires : tie.Need-play-requires
-play-requires c κs = step-ready _ _ _ c.before.before.before.before.before.args.bank (ap₂ andThen (sym c.before.before.before.before.check-tag.ensures) (sym c.before.before.before.check-ring.ensures) ∙ sym c.before.before.and_then.ensures ∙ c.enum_told.given.1)
+play-requires c κs = step-ready _ _ _ c.before.before.before.before.before.args.bank (ap₂ and_then (sym c.before.before.before.before.check-tag.ensures) (sym c.before.before.before.check-ring.ensures) ∙ sym c.before.before.and_then.ensures ∙ c.enum_told.given.1)
 
 returns : tie.Need-returns
-returns c = c.refused.ensures ∙ step-refused _ _ _ _ _ (ap₂ andThen (sym c.before.before.before.before.before.before.check-tag.ensures) (sym c.before.before.before.before.before.check-ring.ensures) ∙ sym c.before.before.before.before.and_then.ensures ∙ c.before.before.ready.given.1)
+returns c = c.refused.ensures ∙ step_refused _ _ _ _ _ (ap₂ and_then (sym c.before.before.before.before.before.before.check-tag.ensures) (sym c.before.before.before.before.before.check-ring.ensures) ∙ sym c.before.before.before.before.and_then.ensures ∙ c.before.before.ready.given.1)
 
 returns-2 : tie.Need-returns-2
 returns-2 c = search rules

@@ -1,6 +1,6 @@
 -- `small_text::tell` meets its contract: the totals of the size that was asked for. Assumes nothing.
 use mathlib.Core.Path.{refl}
-use Rattle.small_text.proofs.ToldLaws.{told-as}
+use Rattle.small_text.proofs.ToldLaws.{told_as}
 use borrow.Author.Rules.{rules}
 use Rattle.small_text.proofs.tell.Statement.{statement}
 use Rattle.small_text.proofs.tell.Tie as tie
@@ -28,7 +28,7 @@ returns c =
     let found = c.before.before.before.before.before in
     let second = found.before.before in
     let first = second.before in
-    told-as first.before.before.args.session first.before.before.args.request first.byte.ensures second.byte2.ensures refl found.totals.ensures c.before.before.put-totals.ensures
+    told_as first.before.before.args.session first.before.before.args.request first.byte.ensures second.byte2.ensures refl found.totals.ensures c.before.before.put-totals.ensures
 
 pub tell-spec : {M : Type 1} → statement M
 tell-spec =

@@ -1,6 +1,6 @@
 -- `small_text::write_totals` meets its contract. Assumes nothing.
 use native.Mathlib.Omega.{arith}
-use Rattle.text.proofs.BoundedLaws.{put-more, put_word}
+use Rattle.text.proofs.BoundedLaws.{put_more, put_word}
 use borrow.Author.Rules.{rules}
 use Rattle.small_text.proofs.write_totals.Statement.{statement}
 use Rattle.small_text.proofs.write_totals.Tie as tie
@@ -52,9 +52,9 @@ returns c =
     let reaching = numerator.before.before.before.before.before in
     let tables = reaching.before.before.before.before.before in
     let room = tables.before.before.before.before.requires in
-    let counts = put-more tables.put-labelled.ensures reaching.put-labelled2.ensures in
-    let largest = put-more (put-more counts numerator.put-labelled3.ensures) denominator.put-labelled4.ensures in
-    (put_word 1 _ (put-more largest first.put-labelled5.ensures) c.before.before.put.ensures (omega arith) (omega (arith, room))).wrote
+    let counts = put_more tables.put-labelled.ensures reaching.put-labelled2.ensures in
+    let largest = put_more (put_more counts numerator.put-labelled3.ensures) denominator.put-labelled4.ensures in
+    (put_word 1 _ (put_more largest first.put-labelled5.ensures) c.before.before.put.ensures (omega arith) (omega (arith, room))).wrote
 
 pub write-totals-spec : {M : Type 1} → statement M
 write-totals-spec =

@@ -4,7 +4,7 @@ use mathlib.Core.Path.{◌≡◌, refl, ap, ◌∙◌}
 use native.Mathlib.Omega.{arith}
 use borrow.Author.Rules.{rules}
 use lib.ListN.{length, set, get_or}
-use Rattle.diagram.proofs.CopyLaws.{front, front_length, front-more}
+use Rattle.diagram.proofs.CopyLaws.{front, front_length, front_more}
 use Rattle.state_list.proofs.copy_front.Statement.{statement}
 use Rattle.state_list.proofs.copy_front.Tie as tie
 
@@ -50,7 +50,7 @@ loop-again c =
     let a = c.before.before.before.args in
     let p = c.before.before.before.requires in
     let t = c.before.loop-test.true in
-    let e : set (front a.from.now a.out.now l.i) l.i (get_or a.from.now l.i 0) ≡ front a.from.now a.out.now (l.i + 1) = front-more a.from.now a.out.now l.i (omega arith) (omega arith) in
+    let e : set (front a.from.now a.out.now l.i) l.i (get_or a.from.now l.i 0) ≡ front a.from.now a.out.now (l.i + 1) = front_more a.from.now a.out.now l.i (omega arith) (omega arith) in
     (search rules, ap (λ x. set x l.i (get_or a.from.now l.i 0)) l.invariant.1 ∙ e)
 
 same_length : tie.Need-same-length invariant-loop decreases-loop

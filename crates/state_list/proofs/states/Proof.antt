@@ -2,7 +2,7 @@
 use mathlib.Core.Path.{◌≡◌, sym, ap, ◌∙◌}
 use native.Mathlib.Omega.{arith}
 use Rattle.diagram.proofs.CopyLaws.{front}
-use Rattle.diagram.proofs.StatesLaws.{Vector, vector-value, vector-refused, enlist-few, enlist-most, enlist-many, ends-refused, ends-short, ends-many, ends-listed}
+use Rattle.diagram.proofs.StatesLaws.{Vector, vector_value, vector_refused, enlist_few, enlist_most, enlist_many, ends_refused, ends_short, ends_many, ends_listed}
 use borrow.Author.Rules.{rules}
 use Rattle.state_list.proofs.states.Statement.{statement}
 use Rattle.state_list.proofs.states.Tie as tie
@@ -21,13 +21,13 @@ known : (c : tie.After-known-told2) → Vector c.before.before.before.before.bef
 known c =
     let b = c.before.before.before in
     let a = b.before.before.args in
-    vector-value a.u a.tag.0 c.before.vector3.given.0.0 (sym b.vector.ensures ∙ c.before.vector3.given.1)
+    vector_value a.u a.tag.0 c.before.vector3.given.0.0 (sym b.vector.ensures ∙ c.before.vector3.given.1)
 
 returns : tie.Need-returns
 returns c =
     let b = c.before in
     let a = b.before.before.before.before.before.args in
-    ends-short a.u a.tag.0 b.before.vector3.given.0.0 a.out.now (known b) c.if1.true
+    ends_short a.u a.tag.0 b.before.vector3.given.0.0 a.out.now (known b) c.if1.true
 
 slice-aggregate-enlist : tie.Need-slice-aggregate-enlist
 slice-aggregate-enlist c = search rules
@@ -41,7 +41,7 @@ slice-aggregate-copy-front c = search rules
 copy-front-requires : tie.Need-copy-front-requires
 copy-front-requires c κs =
     let d = c.before.before.before in
-    let m = enlist-most 768 1 d.before.before.before.before.vector3.given.0.0 d.enlist.result d.enlist.ensures.answer in
+    let m = enlist_most 768 1 d.before.before.before.before.vector3.given.0.0 d.enlist.result d.enlist.ensures.answer in
     (omega (arith, m, d.enlist.ensures.size), omega (arith, m, d.before.before.if1.false))
 
 same_length : tie.Need-same-length
@@ -54,20 +54,20 @@ returns-2 c =
     let b = d.before.before.before in
     let a = b.before.before.before.before.before.args in
     let w = b.before.vector3.given.0.0 in
-    let r = ends-many a.u a.tag.0 w a.out.now (known b) d.before.before.if1.false
-    (enlist-many 768 1 w d.enlist.result (omega arith) d.enlist.ensures.answer c.if2.true) in
+    let r = ends_many a.u a.tag.0 w a.out.now (known b) d.before.before.if1.false
+    (enlist_many 768 1 w d.enlist.result (omega arith) d.enlist.ensures.answer c.if2.true) in
     (r.0, e.copy-front.ensures ∙ ap (front d.enlist.new.1.0 a.out.now) c.if2.true ∙ r.1)
 
 cast-t21 : tie.Need-overflow-cast-t21
 cast-t21 c =
     let d = c.before.before.before.before.before.before.before in
-    omega (arith, enlist-most 768 1 d.before.before.before.before.vector3.given.0.0 d.enlist.result d.enlist.ensures.answer)
+    omega (arith, enlist_most 768 1 d.before.before.before.before.vector3.given.0.0 d.enlist.result d.enlist.ensures.answer)
 
 returns-3 : tie.Need-returns-3
 returns-3 c =
     let b = c.before.before.before in
     let a = b.before.before.args in
-    ends-refused a.u a.tag.0 a.out.now _ (vector-refused a.u a.tag.0 _ (sym b.vector.ensures ∙ c.before.vector2.given.1))
+    ends_refused a.u a.tag.0 a.out.now _ (vector_refused a.u a.tag.0 _ (sym b.vector.ensures ∙ c.before.vector2.given.1))
 
 same-length-2 : tie.Need-same-length-2
 same-length-2 c = search rules
@@ -80,8 +80,8 @@ returns-4 c =
     let a = b.before.before.before.before.before.args in
     let w = b.before.vector3.given.0.0 in
     let x = d.enlist.ensures in
-    let f = enlist-few 768 1 w d.enlist.result x.answer c.if2.false in
-    let r = ends-listed a.u a.tag.0 w d.enlist.result a.out.now d.enlist.new.1.0 (known b) d.before.before.if1.false f
+    let f = enlist_few 768 1 w d.enlist.result x.answer c.if2.false in
+    let r = ends_listed a.u a.tag.0 w d.enlist.result a.out.now d.enlist.new.1.0 (known b) d.before.before.if1.false f
     (x.listed (omega (arith, c.if2.false))) in
     (r.0, e.copy-front.ensures ∙ r.1)
 

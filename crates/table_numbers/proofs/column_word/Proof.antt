@@ -5,20 +5,20 @@ use mathlib.Core.Path.{◌≡◌, sym, ap, ◌∙◌}
 use mathlib.Core.Logic.{⊎_elim}
 use native.Mathlib.Omega.{arith}
 use native.Mathlib.Nat.{mul-le-mul}
-use Rattle.words.specs.Bits.{setBit}
-use Rattle.table_numbers.specs.Inner.{columnWord}
-use Rattle.table_numbers.proofs.FillLaws.{column-start, column-set, column-unset, column-small}
+use Rattle.words.specs.Bits.{set_bit}
+use Rattle.table_numbers.specs.Inner.{column_word}
+use Rattle.table_numbers.proofs.FillLaws.{column_start, column_set, column_unset, column_small}
 use Rattle.table_numbers.proofs.column_word.Statement.{statement}
 use Rattle.table_numbers.proofs.column_word.Tie as tie
 
 abbrev invariant-loop : tie.invariant-loop
-invariant-loop segments columns number column marks₀ i₀ marks i = (i ≤ segments) × (marks ≡ columnWord i columns number column)
+invariant-loop segments columns number column marks₀ i₀ marks i = (i ≤ segments) × (marks ≡ column_word i columns number column)
 
 abbrev decreases-loop : tie.decreases-loop
 decreases-loop segments columns number column marks₀ i₀ marks i = segments - i
 
 loop-holds : tie.Need-loop-init invariant-loop decreases-loop
-loop-holds c = let a = c.args in (search rules, column-start a.columns a.number a.column)
+loop-holds c = let a = c.args in (search rules, column_start a.columns a.number a.column)
 
 cast-place : tie.Need-overflow-cast-place invariant-loop decreases-loop
 cast-place c = search rules
@@ -58,8 +58,8 @@ loop-again c =
     let t = sym c.before.test.ensures in (
       search rules,
       ⊎_elim
-          (λ w. w.2 ∙ w.1.ensures ∙ ap (λ m. setBit m l.i) l.invariant.1 ∙ column-set a.columns a.number a.column l.i (omega arith) (t ∙ w.0.taken))
-          (λ w. w.1 ∙ l.invariant.1 ∙ column-unset a.columns a.number a.column l.i (t ∙ w.0.left))
+          (λ w. w.2 ∙ w.1.ensures ∙ ap (λ m. set_bit m l.i) l.invariant.1 ∙ column_set a.columns a.number a.column l.i (omega arith) (t ∙ w.0.taken))
+          (λ w. w.1 ∙ l.invariant.1 ∙ column_unset a.columns a.number a.column l.i (t ∙ w.0.left))
           c.if1.branch,
     )
 
@@ -67,14 +67,14 @@ cast-result : tie.Need-overflow-cast-result invariant-loop decreases-loop
 cast-result c =
     let l = c.before.loop in
     let a = c.before.before.args in
-    record { fits = rw l.invariant.1 (column-small l.i a.columns a.number a.column (omega arith)) }
+    record { fits = rw l.invariant.1 (column_small l.i a.columns a.number a.column (omega arith)) }
 
 returns : tie.Need-returns invariant-loop decreases-loop
 returns c =
     let l = c.before.loop in
     let a = c.before.before.args in
     let e : l.i ≡ a.segments = omega (arith, c.loop-test.false) in
-    l.invariant.1 ∙ ap (λ i. columnWord i a.columns a.number a.column) e
+    l.invariant.1 ∙ ap (λ i. column_word i a.columns a.number a.column) e
 
 pub column-word-spec : {M : Type 1} → statement M
 column-word-spec =

@@ -5,14 +5,14 @@ use mathlib.Core.Path.{◌≡◌, ap, ap₂, ◌∙◌}
 use native.Mathlib.Omega.{arith}
 use Rattle.unit.specs.declared.FunctionUnit.{FunctionUnit}
 use Rattle.unit.specs.declared.Outcome.{Outcome}
-use Rattle.unit.specs.Calls.{fresh_of, columnOf}
-use Rattle.table_numbers.specs.Inner.{unitBefore}
-use Rattle.table_numbers.proofs.FillLaws.{unit-start, unit-more, unit-end}
+use Rattle.unit.specs.Calls.{fresh_of, column_of}
+use Rattle.table_numbers.specs.Inner.{unit_before}
+use Rattle.table_numbers.proofs.FillLaws.{unit_start, unit-more, unit_end}
 use Rattle.table_numbers.proofs.fill.Statement.{statement}
 use Rattle.table_numbers.proofs.fill.Tie as tie
 
 abbrev invariant-loop : tie.invariant-loop
-invariant-loop segments columns number unit₀ column₀ unit column = (1 ≤ column) × (column ≤ columns + 1) × (unit ≡ unitBefore segments columns number column)
+invariant-loop segments columns number unit₀ column₀ unit column = (1 ≤ column) × (column ≤ columns + 1) × (unit ≡ unit_before segments columns number column)
 
 abbrev decreases-loop : tie.decreases-loop
 decreases-loop segments columns number unit₀ column₀ unit column = columns + 1 - column
@@ -24,7 +24,7 @@ loop-holds : tie.Need-loop-init invariant-loop decreases-loop
 unfolding fresh_of
 loop-holds c =
     let b = c.before.before in
-    (search rules, search rules, ap (λ (o : Outcome). o.unit) c.before.fresh.ensures ∙ unit-start b.requires b.args.number)
+    (search rules, search rules, ap (λ (o : Outcome). o.unit) c.before.fresh.ensures ∙ unit_start b.requires b.args.number)
 
 column-word-requires : tie.Need-column-word-requires invariant-loop decreases-loop
 column-word-requires c κs = search rules
@@ -46,7 +46,7 @@ loop-again c =
       search rules,
       search rules,
       ap (λ (o : Outcome). o.unit) c.before.with-column.ensures
-          ∙ ap₂ (λ (u : FunctionUnit) (w : ℕ). (columnOf u 1 k w).unit) h.loop.invariant.2 c.before.before.column-word.ensures
+          ∙ ap₂ (λ (u : FunctionUnit) (w : ℕ). (column_of u 1 k w).unit) h.loop.invariant.2 c.before.before.column-word.ensures
           ∙ unit-more b.requires b.args.number k h.loop.invariant.0 (omega arith),
     )
 
@@ -56,7 +56,7 @@ returns c =
     let b = h.before.before.before in
     let a = b.args in
     let e : h.loop.column ≡ a.columns + 1 = omega (arith, c.loop-test.false) in
-    h.loop.invariant.2 ∙ ap (unitBefore a.segments a.columns a.number) e ∙ unit-end b.requires a.number
+    h.loop.invariant.2 ∙ ap (unit_before a.segments a.columns a.number) e ∙ unit_end b.requires a.number
 
 pub fill_spec : {M : Type 1} → statement M
 fill_spec =

@@ -3,8 +3,8 @@ use mathlib.Core.Path.{◌≡◌, sym, ◌∙◌}
 use borrow.Author.Rules.{rules}
 use Rattle.unit.specs.declared.Answer.TheVariants.{Done}
 use Rattle.unit.specs.Calls.{fresh_of}
-use Rattle.table_numbers.specs.Tables.{smallTableAnswer, smallTableOf}
-use Rattle.table_numbers.proofs.TableLaws.{table-accepted}
+use Rattle.table_numbers.specs.Tables.{small_table_answer, small_table_of}
+use Rattle.table_numbers.proofs.TableLaws.{table_accepted}
 use Rattle.table_numbers.proofs.table.Statement.{statement}
 use Rattle.table_numbers.proofs.table.Tie as tie
 
@@ -20,20 +20,20 @@ fresh-requires c κs = search rules
 enum_told : tie.Need-enum-told
 enum_told c = search rules
 
-accepting : (c : tie.After-enum-told) → smallTableAnswer c.before.before.before.args.segments c.before.before.before.args.columns c.before.before.before.args.number ≡ Done
+accepting : (c : tie.After-enum-told) → small_table_answer c.before.before.before.args.segments c.before.before.before.args.columns c.before.before.before.args.number ≡ Done
 accepting c = sym c.before.before.check-number.ensures ∙ c.enum_told.given.1
 
 fill-requires : tie.Need-fill-requires
-fill-requires c κs = (table-accepted _ _ _ (accepting c)).size
+fill-requires c κs = (table_accepted _ _ _ (accepting c)).size
 
 returns : tie.Need-returns
-unfolding smallTableOf fresh_of
+unfolding small_table_of fresh_of
 returns c =
     let b = c.before.before in
     simp (c.before.fresh.ensures, sym b.before.before.before.check-number.ensures ∙ b.before.answer.given.1)
 
 returns-2 : tie.Need-returns-2
-unfolding smallTableOf
+unfolding small_table_of
 returns-2 c = simp (accepting c.before, c.fill.ensures)
 
 pub table-spec : {M : Type 1} → statement M

@@ -5,20 +5,20 @@ use mir.Syntax.{w32}
 use mir.Val.{Fits}
 use native.Mathlib.Omega.{arith}
 use borrow.Author.Rules.{rules}
-use Rattle.table_totals.proofs.FractionLaws.{cross-fits}
+use Rattle.table_totals.proofs.FractionLaws.{cross_fits}
 use Rattle.table_totals.proofs.add_table.Statement.{statement}
 use Rattle.table_totals.proofs.add_table.Tie as tie
 
 mul-if1 : tie.Need-overflow-mul-if1
 mul-if1 c =
     let b = c.before.before in
-    let f : b.args.t.sum * b.args.a.count ≤ 16777216 = cross-fits b.requires.tally b.requires.average in
+    let f : b.args.t.sum * b.args.a.count ≤ 16777216 = cross_fits b.requires.tally b.requires.average in
     omega arith
 
 mul-if1-2 : tie.Need-overflow-mul-if1-2
 mul-if1-2 c =
     let b = c.before.before.before.before in
-    let f : b.args.a.sum * b.args.t.count ≤ 16777216 = cross-fits b.requires.average b.requires.tally in
+    let f : b.args.a.sum * b.args.t.count ≤ 16777216 = cross_fits b.requires.average b.requires.tally in
     let g : Fits w32 (b.args.a.sum * b.args.t.count) = omega arith in
     g
 

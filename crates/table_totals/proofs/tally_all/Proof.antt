@@ -3,43 +3,43 @@ use Prim.Native.Nat.{◌+◌, ◌-◌, ◌≤◌, ◌<◌}
 use mathlib.Core.Path.{◌≡◌, refl, subst}
 use native.Mathlib.Omega.{arith}
 use borrow.Author.Rules.{rules}
-use Rattle.table_numbers.specs.Tables.{allTables}
+use Rattle.table_numbers.specs.Tables.{all_tables}
 use Rattle.table_totals.specs.Inner.{Used, Tallied}
-use Rattle.table_totals.proofs.TallyLaws.{tally-start, tally-more, used-then, some-tables, ready-after, few-reach, one-reaches}
+use Rattle.table_totals.proofs.TallyLaws.{tally_start, tally-more, used_then, some_tables, ready_after, few_reach, one_reaches}
 use Rattle.table_totals.proofs.tally_all.Statement.{statement}
 use Rattle.table_totals.proofs.tally_all.Tie as tie
 
 abbrev invariant-loop : tie.invariant-loop
-invariant-loop segments columns tables work₀ tally₀ last number₀ work tally number = (number ≤ last) × Tallied (allTables segments columns) (number + 1) tally × Used work₀ work
+invariant-loop segments columns tables work₀ tally₀ last number₀ work tally number = (number ≤ last) × Tallied (all_tables segments columns) (number + 1) tally × Used work₀ work
 
 abbrev decreases-loop : tie.decreases-loop
 decreases-loop segments columns tables work₀ tally₀ last number₀ work tally number = last - number
 
 measure-requires : tie.Need-measure-requires invariant-loop decreases-loop
-measure-requires c κs = let b = c.before.before in (b.requires, omega (arith, (some-tables b.requires).0))
+measure-requires c κs = let b = c.before.before in (b.requires, omega (arith, (some_tables b.requires).0))
 
 sub-last : tie.Need-overflow-sub-last invariant-loop decreases-loop
-sub-last c = omega (arith, (some-tables c.before.before.before.before.before.requires).0)
+sub-last c = omega (arith, (some_tables c.before.before.before.before.before.requires).0)
 
 loop-holds : tie.Need-loop-init invariant-loop decreases-loop
-loop-holds c = let m = c.before.before.measure in (omega arith, tally-start m.result m.ensures, record { size = refl; beyond = λ i h. refl })
+loop-holds c = let m = c.before.before.measure in (omega arith, tally_start m.result m.ensures, record { size = refl; beyond = λ i h. refl })
 
 add-number : tie.Need-overflow-add-number invariant-loop decreases-loop
-add-number c = omega (arith, c.loop-test.true, (some-tables c.before.before.before.before.before.before.before.requires).1)
+add-number c = omega (arith, c.loop-test.true, (some_tables c.before.before.before.before.before.before.before.requires).1)
 
 measure-requires-2 : tie.Need-measure-requires-2 invariant-loop decreases-loop
 measure-requires-2 c κs =
     let b = c.before.before.before.before.before.before.before.before in
     let l = c.before.before.loop in
-    (ready-after b.args.work.now l.work b.requires (used-then c.before.before.before.before.before.measure.ensures.used l.invariant.2), omega (arith, c.before.loop-test.true))
+    (ready_after b.args.work.now l.work b.requires (used_then c.before.before.before.before.before.measure.ensures.used l.invariant.2), omega (arith, c.before.loop-test.true))
 
 add-table-requires : tie.Need-add-table-requires invariant-loop decreases-loop
 add-table-requires c κs =
     let b = c.before.before.before.before.before.before.before.before.before.before.before in
     let l = c.before.before.before.before.before.loop in
     let m = c.before.before.measure2.ensures in
-    let few : l.tally.reaching < 4096 = omega (arith, few-reach l.invariant.1, c.before.before.before.before.loop-test.true, (some-tables b.requires).1) in
-    record { tally = l.invariant.1.by.fitting; average = m.fitting; few = few; one = one-reaches m }
+    let few : l.tally.reaching < 4096 = omega (arith, few_reach l.invariant.1, c.before.before.before.before.loop-test.true, (some_tables b.requires).1) in
+    record { tally = l.invariant.1.by.fitting; average = m.fitting; few = few; one = one_reaches m }
 
 loop-less : tie.Need-loop-smaller invariant-loop decreases-loop
 loop-less c = omega (arith, c.before.before.before.before.before.loop-test.true)
@@ -48,7 +48,7 @@ loop-again : tie.Need-loop-preserved invariant-loop decreases-loop
 loop-again c =
     let l = c.before.before.before.before.before.before.loop in
     let m = c.before.before.before.measure2.ensures in
-    (omega (arith, c.before.before.before.before.before.loop-test.true), tally-more l.invariant.1 m c.add-table.result c.add-table.ensures, used-then l.invariant.2 m.used)
+    (omega (arith, c.before.before.before.before.before.loop-test.true), tally-more l.invariant.1 m c.add-table.result c.add-table.ensures, used_then l.invariant.2 m.used)
 
 same_length : tie.Need-same-length invariant-loop decreases-loop
 same_length c = search rules
@@ -57,8 +57,8 @@ returns : tie.Need-returns invariant-loop decreases-loop
 returns c =
     let b = c.before.before.before.before.before.before.before in
     let l = c.before.loop in
-    let e : l.number + 1 ≡ b.args.tables = omega (arith, c.loop-test.false, l.invariant.0, (some-tables b.requires).0) in
-    (subst (λ n. Tallied (allTables b.args.segments b.args.columns) n l.tally) e l.invariant.1, used-then c.before.before.before.before.measure.ensures.used l.invariant.2)
+    let e : l.number + 1 ≡ b.args.tables = omega (arith, c.loop-test.false, l.invariant.0, (some_tables b.requires).0) in
+    (subst (λ n. Tallied (all_tables b.args.segments b.args.columns) n l.tally) e l.invariant.1, used_then c.before.before.before.before.measure.ensures.used l.invariant.2)
 
 pub tally-all-spec : {M : Type 1} → statement M
 tally-all-spec =

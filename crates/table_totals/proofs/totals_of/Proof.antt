@@ -1,8 +1,8 @@
 -- `table_totals::totals_of` meets its contract: the tally, and its largest average in lowest terms. Assumes nothing.
 use mathlib.Core.Path.{sym, ◌∙◌}
 use borrow.Author.Rules.{rules}
-use Rattle.table_numbers.proofs.ListLaws.{tables-length}
-use Rattle.table_totals.proofs.TallyLaws.{tally-end}
+use Rattle.table_numbers.proofs.ListLaws.{tables_length}
+use Rattle.table_totals.proofs.TallyLaws.{tally_end}
 use Rattle.table_totals.proofs.totals_of.Statement.{statement}
 use Rattle.table_totals.proofs.totals_of.Tie as tie
 
@@ -20,7 +20,7 @@ returns c =
     let b = c.before.before.before.before.before.before in
     let a = c.before.before.before.tally-all in
     record {
-      totals = tally-end b.args.tables a.result _ _ (b.requires.count ∙ sym (tables-length b.args.segments b.args.columns)) a.ensures.0 c.reduce.ensures;
+      totals = tally_end b.args.tables a.result _ _ (b.requires.count ∙ sym (tables_length b.args.segments b.args.columns)) a.ensures.0 c.reduce.ensures;
       used = a.ensures.1;
     }
 

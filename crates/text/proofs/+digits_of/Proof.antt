@@ -3,7 +3,7 @@ use mathlib.Core.Path.{sym, ap}
 use Prim.Native.Nat.{ℕ, ◌/◌, ◌<◌}
 use native.Mathlib.Omega.{arith}
 use lib.ListN.{length}
-use Rattle.text.proofs.DecimalLaws.{decimal-small, decimal-length, decimal-longer}
+use Rattle.text.proofs.DecimalLaws.{decimal_small, decimal_length, decimal_longer}
 use borrow.Fn.Kinds.{In}
 use borrow.Fn.PlainCycle.{Measures, is, falls, and}
 use Rattle.text.proofs.digits_of.Reads as digits-of
@@ -25,7 +25,7 @@ digits-of-below t =
 digits-of-returns :
     (t : ℕ) →
     digits-of-lts.Need-returns (digits-of-below t, digits-of.Post) (digits-of-at t) digits-of.Post
-digits-of-returns t c = sym (ap length (decimal-small c.before.args.number (omega arith)))
+digits-of-returns t c = sym (ap length (decimal_small c.before.args.number (omega arith)))
 
 digits-of-digits-of-requires : (t : ℕ) → digits-of-lts.Need-digits-of-requires (
   digits-of-below t,
@@ -40,7 +40,7 @@ digits-of-add-result :
     (digits-of-at t)
     digits-of.Post
 digits-of-add-result t c =
-    omega (arith, decimal-length (c.before.before.args.number / 10) 10 (omega arith) (omega arith))
+    omega (arith, decimal_length (c.before.before.args.number / 10) 10 (omega arith) (omega arith))
 
 digits-of-returns-2 :
     (t : ℕ) →
@@ -48,7 +48,7 @@ digits-of-returns-2 :
     (digits-of-below t, digits-of.Post)
     (digits-of-at t)
     digits-of.Post
-digits-of-returns-2 t c = omega (arith, decimal-longer c.before.before.args.number (omega arith) (omega arith))
+digits-of-returns-2 t c = omega (arith, decimal_longer c.before.before.args.number (omega arith) (omega arith))
 
 pub +digits-of-spec : {M : Type 1} → statement M
 +digits-of-spec =

@@ -7,10 +7,10 @@ use Prim.Native.Nat.{ℕ, ◌+◌, ◌%◌, ◌≤◌, ◌<◌}
 use native.Mathlib.Omega.{arith}
 use lib.ListN.{length, set, length-set}
 use Rattle.text.specs.Text.{digit, decimal}
-use Rattle.text.proofs.DecimalLaws.{decimal-longer}
+use Rattle.text.proofs.DecimalLaws.{decimal_longer}
 use Rattle.text.specs.Wrote.{Wrote}
-use Rattle.text.proofs.WroteLaws.{wrote-length}
-use Rattle.text.proofs.HigherLaws.{higher, higher-start, higher-tenth, higher-last}
+use Rattle.text.proofs.WroteLaws.{wrote_length}
+use Rattle.text.proofs.HigherLaws.{higher, higher_start, higher_tenth, higher_last}
 use borrow.Fn.Kinds.{In}
 use borrow.Fn.PlainCycle.{Measures, is, falls, and}
 use Rattle.text.proofs.put_digits.Reads as put-digits
@@ -44,12 +44,12 @@ before_last t c =
     let fits : a.at + length (decimal a.number) ≤ length a.out.now = c.before.before.requires.1 in
     ⊎_elim
     (λ w.
-    higher-tenth a.number (omega arith) record {
+    higher_tenth a.number (omega arith) record {
       bytes = w.5 ∙ w.2.ensures.1;
       next = w.6 ∙ w.2.ensures.0;
-      room = omega (arith, decimal-longer a.number (omega arith) (omega arith));
+      room = omega (arith, decimal_longer a.number (omega arith) (omega arith));
     })
-    (λ w. higher-start a.number (omega arith) (omega arith) w.1 w.2)
+    (λ w. higher_start a.number (omega arith) (omega arith) w.1 w.2)
     c.if1.branch
 
 all-written :
@@ -58,14 +58,14 @@ all-written :
     (decimal c.before.before.args.number)
     (set c.if1.out c.if1.new (digit (c.before.before.args.number % 10)))
     (c.if1.new + 1)
-all-written t c = higher-last c.before.before.args.number (omega arith) c.before.before.requires.1 (before_last t c)
+all-written t c = higher_last c.before.before.args.number (omega arith) c.before.before.requires.1 (before_last t c)
 
 put-digits-put-digits-requires : (t : ℕ) → put-digits-lts.Need-put-digits-requires (
   put-digits-below t,
   put-digits.Post,
 ) (put-digits-at t) put-digits.Post
 put-digits-put-digits-requires t c κs =
-    let longer = decimal-longer c.before.before.before.args.number (omega arith) (omega arith) in
+    let longer = decimal_longer c.before.before.before.args.number (omega arith) (omega arith) in
     (omega arith, omega arith)
 
 put-digits-cast-out :
@@ -88,7 +88,7 @@ put-digits-slice-write-out : (t : ℕ) → put-digits-lts.Need-slice-write-out (
   put-digits-below t,
   put-digits.Post,
 ) (put-digits-at t) put-digits.Post
-put-digits-slice-write-out t c = let w = all-written t c in omega (arith, w.next, w.room, wrote-length (before_last t c))
+put-digits-slice-write-out t c = let w = all-written t c in omega (arith, w.next, w.room, wrote_length (before_last t c))
 
 put-digits-add-result : (t : ℕ) → put-digits-lts.Need-overflow-add-result (
   put-digits-below t,
@@ -100,7 +100,7 @@ put-digits-same-length : (t : ℕ) → put-digits-lts.Need-same-length (
   put-digits-below t,
   put-digits.Post,
 ) (put-digits-at t) put-digits.Post
-put-digits-same-length t c = length-set c.before.if1.out c.before.if1.new _ ∙ wrote-length (before_last t c.before)
+put-digits-same-length t c = length-set c.before.if1.out c.before.if1.new _ ∙ wrote_length (before_last t c.before)
 
 put-digits-returns :
     (t : ℕ) →

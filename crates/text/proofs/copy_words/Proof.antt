@@ -4,7 +4,7 @@ use mathlib.Core.Path.{◌≡◌, ap, ◌∙◌}
 use native.Mathlib.Omega.{arith}
 use borrow.Author.Rules.{rules}
 use lib.ListN.{length, set, get_or}
-use Rattle.text.proofs.CopyLaws.{copied, copied-start, copied-length, copied_more, copied-end}
+use Rattle.text.proofs.CopyLaws.{copied, copied_start, copied-length, copied_more, copied_end}
 use Rattle.text.proofs.copy_words.Statement.{statement}
 use Rattle.text.proofs.copy_words.Tie as tie
 
@@ -20,7 +20,7 @@ kept c =
     ap length c.loop.invariant.1 ∙ copied-length a.out.now a.at a.words.now c.before.requires c.loop.i c.loop.invariant.0
 
 loop-holds : tie.Need-loop-init invariant-loop decreases-loop
-loop-holds c = let a = c.args in (omega arith, copied-start a.out.now a.at a.words.now)
+loop-holds c = let a = c.args in (omega arith, copied_start a.out.now a.at a.words.now)
 
 shared-slice-read-out : tie.Need-shared-slice-read-out invariant-loop decreases-loop
 shared-slice-read-out c = search rules
@@ -52,7 +52,7 @@ returns c =
     let l = c.before.loop in
     let a = c.before.before.args in
     let e : l.i ≡ length a.words.now = omega arith in
-    l.invariant.1 ∙ ap (copied a.out.now a.at a.words.now) e ∙ copied-end a.out.now a.at a.words.now
+    l.invariant.1 ∙ ap (copied a.out.now a.at a.words.now) e ∙ copied_end a.out.now a.at a.words.now
 
 pub copy-words-spec : {M : Type 1} → statement M
 copy-words-spec =

@@ -3,19 +3,19 @@ use Prim.Native.Nat.{◌+◌, ◌-◌, ◌≤◌}
 use mathlib.Core.Path.{◌≡◌}
 use native.Mathlib.Omega.{arith}
 use lib.ListN.{length}
-use Rattle.text.proofs.RowLaws.{firstSpaced, left-start, left-short, left-more, left_end}
+use Rattle.text.proofs.RowLaws.{first_spaced, left_start, left_short, left_more, left_end}
 use borrow.Author.Rules.{rules}
 use Rattle.text.proofs.words_fit.Statement.{statement}
 use Rattle.text.proofs.words_fit.Tie as tie
 
 abbrev invariant-loop : tie.invariant-loop
-invariant-loop numbers room left₀ i₀ left i = (i ≤ length numbers) × (left + length (firstSpaced numbers i) ≡ room)
+invariant-loop numbers room left₀ i₀ left i = (i ≤ length numbers) × (left + length (first_spaced numbers i) ≡ room)
 
 abbrev decreases-loop : tie.decreases-loop
 decreases-loop numbers room left₀ i₀ left i = length numbers - i
 
 loop-holds : tie.Need-loop-init invariant-loop decreases-loop
-loop-holds c = let a = c.before.args in (omega arith, left-start a.numbers.now a.room)
+loop-holds c = let a = c.before.args in (omega arith, left_start a.numbers.now a.room)
 
 mul-digits-of : tie.Need-overflow-mul-digits-of invariant-loop decreases-loop
 mul-digits-of c = search rules
@@ -30,7 +30,7 @@ returns : tie.Need-returns invariant-loop decreases-loop
 returns c =
     let l = c.before.before.before.before.loop in
     let a = c.before.before.before.before.before.before.args in
-    left-short a.numbers.now a.room l.left l.i (omega arith) l.invariant.1 (omega arith)
+    left_short a.numbers.now a.room l.left l.i (omega arith) l.invariant.1 (omega arith)
 
 sub-left : tie.Need-overflow-sub-left invariant-loop decreases-loop
 sub-left c = search rules
@@ -48,7 +48,7 @@ loop-again : tie.Need-loop-preserved invariant-loop decreases-loop
 loop-again c =
     let l = c.before.before.before.before.loop in
     let a = c.before.before.before.before.before.before.args in
-    (search rules, left-more a.numbers.now a.room l.left l.i _ l.invariant.1 c.before.digits_of.ensures (omega arith))
+    (search rules, left_more a.numbers.now a.room l.left l.i _ l.invariant.1 c.before.digits_of.ensures (omega arith))
 
 returns-2 : tie.Need-returns-2 invariant-loop decreases-loop
 returns-2 c =

@@ -3,20 +3,20 @@ use Prim.Native.Nat.{◌-◌, ◌≤◌}
 use native.Mathlib.Omega.{arith}
 use lib.ListN.{length}
 use Rattle.text.specs.Wrote.{Wrote}
-use Rattle.text.proofs.WroteLaws.{wrote-length}
-use Rattle.text.proofs.RowLaws.{firstSpaced, row-start, row_room, row_more, row-end}
+use Rattle.text.proofs.WroteLaws.{wrote_length}
+use Rattle.text.proofs.RowLaws.{first_spaced, row_start, row_room, row_more, row_end}
 use borrow.Author.Rules.{rules}
 use Rattle.text.proofs.write_bytes.Statement.{statement}
 use Rattle.text.proofs.write_bytes.Tie as tie
 
 abbrev invariant-loop : tie.invariant-loop
-invariant-loop out₀ at numbers end₀ i₀ out end i = (i ≤ length numbers) × Wrote out₀ at (firstSpaced numbers i) out end
+invariant-loop out₀ at numbers end₀ i₀ out end i = (i ≤ length numbers) × Wrote out₀ at (first_spaced numbers i) out end
 
 abbrev decreases-loop : tie.decreases-loop
 decreases-loop out₀ at numbers end₀ i₀ out end i = length numbers - i
 
 loop-holds : tie.Need-loop-init invariant-loop decreases-loop
-loop-holds c = let a = c.before.before.args in (omega arith, row-start a.out.now a.at a.numbers.now (omega arith))
+loop-holds c = let a = c.before.before.args in (omega arith, row_start a.out.now a.at a.numbers.now (omega arith))
 
 shared-slice-read-write-spaced : tie.Need-shared-slice-read-write-spaced invariant-loop decreases-loop
 shared-slice-read-write-spaced c = search rules
@@ -43,13 +43,13 @@ loop-again c =
     (search rules, row_more a.numbers.now l.i l.invariant.1 c.before.before.write-spaced.ensures)
 
 same_length : tie.Need-same-length invariant-loop decreases-loop
-same_length c = wrote-length c.before.loop.invariant.1
+same_length c = wrote_length c.before.loop.invariant.1
 
 returns : tie.Need-returns invariant-loop decreases-loop
 returns c =
     let l = c.before.loop in
     let a = c.before.before.before.before.args in
-    row-end a.numbers.now l.i (omega arith) l.invariant.1
+    row_end a.numbers.now l.i (omega arith) l.invariant.1
 
 pub write-bytes-spec : {M : Type 1} → statement M
 write-bytes-spec =

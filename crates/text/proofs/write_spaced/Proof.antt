@@ -1,7 +1,7 @@
 -- `text::write_spaced` meets its contract. Assumes nothing.
 use native.Mathlib.Omega.{arith}
 use lib.ListN.{length-set}
-use Rattle.text.proofs.RowLaws.{spaced-one}
+use Rattle.text.proofs.RowLaws.{spaced_one}
 use borrow.Author.Rules.{rules}
 use Rattle.text.proofs.write_spaced.Statement.{statement}
 use Rattle.text.proofs.write_spaced.Tie as tie
@@ -23,7 +23,7 @@ same_length c =
 returns : tie.Need-returns
 returns c =
     let start = c.before.before.before.before.before in
-    spaced-one start.args.number start.requires c.before.before.put-digits.ensures
+    spaced_one start.args.number start.requires c.before.before.put-digits.ensures
 
 pub write-spaced-spec : {M : Type 1} → statement M
 write-spaced-spec =

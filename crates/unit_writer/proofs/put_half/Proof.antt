@@ -1,6 +1,6 @@
 -- `unit_writer::put_half` meets its contract. Assumes nothing.
 use Prim.Native.Nat.{◌/◌, ◌%◌}
-use Rattle.unit_file.proofs.FrontLaws.{front-two}
+use Rattle.unit_file.proofs.FrontLaws.{front_two}
 use borrow.Author.Rules.{rules}
 use Rattle.unit_writer.proofs.put_half.Statement.{statement}
 use Rattle.unit_writer.proofs.put_half.Tie as tie
@@ -21,7 +21,7 @@ same_length : tie.Need-same-length
 same_length c = search rules
 
 returns : tie.Need-returns
-returns c = let a = c.args in front-two a.out.now (a.half % 256) (a.half / 256 % 256) (search rules)
+returns c = let a = c.args in front_two a.out.now (a.half % 256) (a.half / 256 % 256) (search rules)
 
 pub put-half-spec : {M : Type 1} → statement M
 put-half-spec =

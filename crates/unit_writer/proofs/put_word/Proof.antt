@@ -2,7 +2,7 @@
 use Prim.Native.Nat.{◌/◌, ◌%◌}
 use native.Mathlib.Omega.{arith}
 use lib.ListN.{length-set}
-use Rattle.unit_file.proofs.FrontLaws.{front-four}
+use Rattle.unit_file.proofs.FrontLaws.{front_four}
 use borrow.Author.Rules.{rules}
 use Rattle.unit_writer.proofs.put_word.Statement.{statement}
 use Rattle.unit_writer.proofs.put_word.Tie as tie
@@ -37,7 +37,7 @@ same_length c = search rules
 returns : tie.Need-returns
 returns c =
     let a = c.args in
-    front-four a.out.now (a.word % 256) (a.word / 256 % 256) (a.word / 65536 % 256) (a.word / 16777216 % 256) (search rules)
+    front_four a.out.now (a.word % 256) (a.word / 256 % 256) (a.word / 65536 % 256) (a.word / 16777216 % 256) (search rules)
 
 pub put-word-spec : {M : Type 1} → statement M
 put-word-spec =

@@ -4,21 +4,21 @@ use mathlib.Core.Path.{◌≡◌, refl, sym, ap, ◌∙◌}
 use mathlib.Core.Logic.{⊎_elim}
 use native.Mathlib.Omega.{arith}
 use borrow.Author.Rules.{rules}
-use Rattle.words.specs.Bits.{setBit}
-use Rattle.words.specs.Below.{wordBelow}
-use Rattle.words.proofs.BelowLaws.{word-one, word_none}
-use Rattle.unit_file.specs.InnerWrite.{columnMark}
+use Rattle.words.specs.Bits.{set_bit}
+use Rattle.words.specs.Below.{word_below}
+use Rattle.words.proofs.BelowLaws.{word_one, word_none}
+use Rattle.unit_file.specs.InnerWrite.{column_mark}
 use Rattle.unit_writer.proofs.segment_word.Statement.{statement}
 use Rattle.unit_writer.proofs.segment_word.Tie as tie
 
 abbrev invariant-loop : tie.invariant-loop
-invariant-loop segment columns word₀ column₀ word column = (column ≤ 32) × (word ≡ wordBelow column (columnMark columns segment))
+invariant-loop segment columns word₀ column₀ word column = (column ≤ 32) × (word ≡ word_below column (column_mark columns segment))
 
 abbrev decreases-loop : tie.decreases-loop
 decreases-loop segment columns word₀ column₀ word column = 32 - column
 
 loop-holds : tie.Need-loop-init invariant-loop decreases-loop
-unfolding wordBelow
+unfolding word_below
 loop-holds c = (search rules, refl)
 
 mul-has-mark : tie.Need-overflow-mul-has-mark invariant-loop decreases-loop
@@ -43,16 +43,16 @@ loop-less : tie.Need-loop-smaller invariant-loop decreases-loop
 loop-less c = search rules
 
 more : (c : tie.Joined1 invariant-loop decreases-loop)
-    → c.if1.word ≡ wordBelow (c.before.before.before.loop.column + 1)
-    (columnMark c.before.before.before.before.args.t1 c.before.before.before.before.args.segment)
+    → c.if1.word ≡ word_below (c.before.before.before.loop.column + 1)
+    (column_mark c.before.before.before.before.args.t1 c.before.before.before.before.args.segment)
 more c =
     let l = c.before.before.before.loop in
     let a = c.before.before.before.before.args in
-    let f = columnMark a.t1 a.segment in
+    let f = column_mark a.t1 a.segment in
     let t = c.before.before.loop-test.true in
     let told = c.before.has-mark.ensures in
     ⊎_elim
-    (λ w. w.2 ∙ w.1.ensures ∙ ap (λ v. setBit v l.column) l.invariant.1 ∙ word-one l.column f t (sym told ∙ w.0.taken))
+    (λ w. w.2 ∙ w.1.ensures ∙ ap (λ v. set_bit v l.column) l.invariant.1 ∙ word_one l.column f t (sym told ∙ w.0.taken))
     (λ w. w.1 ∙ l.invariant.1 ∙ word_none l.column f (sym told ∙ w.0.left))
     c.if1.branch
 
@@ -64,7 +64,7 @@ returns c =
     let l = c.before.loop in
     let a = c.before.before.args in
     let e : l.column ≡ 32 = omega (arith, c.loop-test.false) in
-    l.invariant.1 ∙ ap (λ n. wordBelow n (columnMark a.t1 a.segment)) e
+    l.invariant.1 ∙ ap (λ n. word_below n (column_mark a.t1 a.segment)) e
 
 pub segment-word-spec : {M : Type 1} → statement M
 segment-word-spec =

@@ -1,13 +1,13 @@
 -- `unit_writer::table_start` meets its contract: the sums are small. Assumes nothing.
 use Prim.Native.Nat.{◌*◌, ◌≤◌}
 use native.Mathlib.Omega.{arith}
-use Rattle.unit_file.proofs.FileLaws.{tables-small}
+use Rattle.unit_file.proofs.FileLaws.{tables_small}
 use borrow.Author.Rules.{rules}
 use Rattle.unit_writer.proofs.table_start.Statement.{statement}
 use Rattle.unit_writer.proofs.table_start.Tie as tie
 
 small : (c : tie.Start) → 4 * c.args.segments * c.args.before ≤ 256
-small c = tables-small c.args.segments c.args.before c.requires.0.segments c.requires.1
+small c = tables_small c.args.segments c.args.before c.requires.0.segments c.requires.1
 
 mul-result : tie.Need-overflow-mul-result
 mul-result c = search rules

@@ -6,10 +6,10 @@ use native.Mathlib.Omega.{arith}
 use borrow.Rule.Slice.PartMut.{put_mid, mid_len}
 use lib.ListN.{length}
 use Rattle.words.proofs.Tests.{on, off}
-use Rattle.unit.specs.Unit.{soundOf}
+use Rattle.unit.specs.Unit.{sound_of}
 use Rattle.unit_file.specs.InnerWrite.{Counts}
-use Rattle.unit_file.proofs.FileLaws.{tables-small}
-use Rattle.unit_file.proofs.WriteLaws.{written, sound-counts, ends-unsound, ends-short, ends-written}
+use Rattle.unit_file.proofs.FileLaws.{tables_small}
+use Rattle.unit_file.proofs.WriteLaws.{written, sound_counts, ends-unsound, ends_short, ends-written}
 use borrow.Author.Rules.{rules}
 use Rattle.unit_writer.proofs.write.Statement.{statement}
 use Rattle.unit_writer.proofs.write.Tie as tie
@@ -23,11 +23,11 @@ returns c =
     ends-unsound a.u a.out.now (off c.if1.true c.before.sound.ensures)
 
 -- the unit is sound
-passed : (c : tie.Else1) → soundOf c.before.before.before.args.u ≡ true
+passed : (c : tie.Else1) → sound_of c.before.before.before.args.u ≡ true
 passed c = on c.if1.false c.before.sound.ensures
 
 counts : (c : tie.Else1) → Counts c.before.before.before.args.u.functions c.before.before.before.args.u.segments
-counts c = sound-counts c.before.before.before.args.u (passed c)
+counts c = sound_counts c.before.before.before.args.u (passed c)
 
 table-start-requires : tie.Need-table-start-requires
 table-start-requires c κs = (counts c, (counts c).functions)
@@ -36,7 +36,7 @@ returns-2 : tie.Need-returns-2
 returns-2 c =
     let e = c.before.before in
     let a = e.before.before.before.args in
-    ends-short a.u a.out.now (passed e) (omega (arith, c.before.table-start.ensures, c.if2.true))
+    ends_short a.u a.out.now (passed e) (omega (arith, c.before.table-start.ensures, c.if2.true))
 
 write-header-requires : tie.Need-write-header-requires
 write-header-requires c κs = search rules
@@ -71,7 +71,7 @@ cast-t17 c =
     let b = c.before.before.before.before.before.before.before.before.before.before.before.before.before in
     let u = b.before.before.before.before.args.u in
     let k = counts b.before in
-    omega (arith, b.table-start.ensures, tables-small u.segments u.functions k.segments k.functions)
+    omega (arith, b.table-start.ensures, tables_small u.segments u.functions k.segments k.functions)
 
 same_length : tie.Need-same-length
 same_length c = search rules

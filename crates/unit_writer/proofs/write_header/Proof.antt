@@ -1,7 +1,7 @@
 -- `unit_writer::write_header` meets its contract. Assumes nothing.
 use native.Mathlib.Omega.{arith}
 use lib.ListN.{length-set}
-use Rattle.unit_file.proofs.FrontLaws.{front-four}
+use Rattle.unit_file.proofs.FrontLaws.{front_four}
 use borrow.Author.Rules.{rules}
 use Rattle.unit_writer.proofs.write_header.Statement.{statement}
 use Rattle.unit_writer.proofs.write_header.Tie as tie
@@ -22,7 +22,7 @@ same_length : tie.Need-same-length
 same_length c = search rules
 
 returns : tie.Need-returns
-returns c = let a = c.args in front-four a.out.now a.functions a.segments a.columns 0 (search rules)
+returns c = let a = c.args in front_four a.out.now a.functions a.segments a.columns 0 (search rules)
 
 pub write-header-spec : {M : Type 1} → statement M
 write-header-spec =

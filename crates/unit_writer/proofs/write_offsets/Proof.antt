@@ -5,22 +5,22 @@ use native.Mathlib.Omega.{arith}
 use borrow.Author.Rules.{rules}
 use borrow.Rule.Slice.PartMut.{mid_of}
 use lib.ListN.{length}
-use Rattle.unit_file.specs.File.{bytes16, offsetBytes}
-use Rattle.unit_file.specs.InnerWrite.{inFront}
-use Rattle.unit_file.proofs.FrontLaws.{Joined, joined-start, joined-more, joined_end}
-use Rattle.unit_file.proofs.FileLaws.{tables-small}
-use Rattle.unit_file.proofs.WriteLaws.{offsetAt, start-offset}
+use Rattle.unit_file.specs.File.{bytes16, offset_bytes}
+use Rattle.unit_file.specs.InnerWrite.{in_front}
+use Rattle.unit_file.proofs.FrontLaws.{Joined, joined_start, joined_more, joined_end}
+use Rattle.unit_file.proofs.FileLaws.{tables_small}
+use Rattle.unit_file.proofs.WriteLaws.{offset_at, start_offset}
 use Rattle.unit_writer.proofs.write_offsets.Statement.{statement}
 use Rattle.unit_writer.proofs.write_offsets.Tie as tie
 
 abbrev invariant-loop : tie.invariant-loop
-invariant-loop out₀ functions segments before₀ out before = (before ≤ functions) × Joined 0 (offsetAt functions segments) out₀ before out
+invariant-loop out₀ functions segments before₀ out before = (before ≤ functions) × Joined 0 (offset_at functions segments) out₀ before out
 
 abbrev decreases-loop : tie.decreases-loop
 decreases-loop out₀ functions segments before₀ out before = functions - before
 
 loop-holds : tie.Need-loop-init invariant-loop decreases-loop
-loop-holds c = let a = c.before.args in (search rules, joined-start 0 (offsetAt a.functions a.segments) a.out.now)
+loop-holds c = let a = c.before.args in (search rules, joined_start 0 (offset_at a.functions a.segments) a.out.now)
 
 table-start-requires : tie.Need-table-start-requires invariant-loop decreases-loop
 table-start-requires c κs = search rules
@@ -29,7 +29,7 @@ cast-offset : tie.Need-overflow-cast-offset invariant-loop decreases-loop
 cast-offset c =
     let l = c.before.before.loop in
     let b = c.before.before.before.before in
-    omega (arith, tables-small b.args.segments l.before b.requires.0.segments (omega (arith, b.requires.0.functions)), b.requires.0.functions)
+    omega (arith, tables_small b.args.segments l.before b.requires.0.segments (omega (arith, b.requires.0.functions)), b.requires.0.functions)
 
 cast-at : tie.Need-overflow-cast-at invariant-loop decreases-loop
 cast-at c = search rules
@@ -62,10 +62,10 @@ loop-again c =
     let l = c.before.before.before.before.before.before.loop in
     let a = c.before.before.before.before.before.before.before.before.args in
     let at = 2 * l.before in
-    let e = put.ensures ∙ ap (λ w. inFront (bytes16 w) (mid_of at (length l.out - at) l.out))
-    (start.ensures ∙ start-offset a.functions a.segments l.before) in (
+    let e = put.ensures ∙ ap (λ w. in_front (bytes16 w) (mid_of at (length l.out - at) l.out))
+    (start.ensures ∙ start_offset a.functions a.segments l.before) in (
       search rules,
-      joined-more 0 2 (offsetAt a.functions a.segments) a.out.now l.before at l.out put.new.0 (λ i. refl)
+      joined_more 0 2 (offset_at a.functions a.segments) a.out.now l.before at l.out put.new.0 (λ i. refl)
           (omega arith) (omega arith) l.invariant.1 e,
     )
 
@@ -73,11 +73,11 @@ same_length : tie.Need-same-length invariant-loop decreases-loop
 same_length c = search rules
 
 returns : tie.Need-returns invariant-loop decreases-loop
-unfolding offsetBytes
+unfolding offset_bytes
 returns c =
     let l = c.before.loop in
     let a = c.before.before.before.args in
-    joined_end 0 (offsetAt a.functions a.segments) a.out.now l.before a.functions l.out (omega (arith, c.loop-test.false)) l.invariant.1
+    joined_end 0 (offset_at a.functions a.segments) a.out.now l.before a.functions l.out (omega (arith, c.loop-test.false)) l.invariant.1
 
 pub write-offsets-spec : {M : Type 1} → statement M
 write-offsets-spec =

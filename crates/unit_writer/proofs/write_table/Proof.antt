@@ -6,20 +6,20 @@ use borrow.Author.Rules.{rules}
 use borrow.Rule.Slice.PartMut.{mid_of}
 use lib.ListN.{length}
 use Rattle.unit_file.specs.File.{bytes32}
-use Rattle.unit_file.specs.InnerWrite.{inFront, columnsBytes}
-use Rattle.unit_file.proofs.FrontLaws.{Joined, joined-start, joined-more, joined_end}
-use Rattle.unit_file.proofs.WriteLaws.{segmentBytes}
+use Rattle.unit_file.specs.InnerWrite.{in_front, columns_bytes}
+use Rattle.unit_file.proofs.FrontLaws.{Joined, joined_start, joined_more, joined_end}
+use Rattle.unit_file.proofs.WriteLaws.{segment_bytes}
 use Rattle.unit_writer.proofs.write_table.Statement.{statement}
 use Rattle.unit_writer.proofs.write_table.Tie as tie
 
 abbrev invariant-loop : tie.invariant-loop
-invariant-loop out₀ columns segments segment₀ out segment = (segment ≤ segments) × Joined 0 (segmentBytes columns) out₀ segment out
+invariant-loop out₀ columns segments segment₀ out segment = (segment ≤ segments) × Joined 0 (segment_bytes columns) out₀ segment out
 
 abbrev decreases-loop : tie.decreases-loop
 decreases-loop out₀ columns segments segment₀ out segment = segments - segment
 
 loop-holds : tie.Need-loop-init invariant-loop decreases-loop
-loop-holds c = (search rules, joined-start 0 (segmentBytes c.before.args.columns) c.before.args.out.now)
+loop-holds c = (search rules, joined_start 0 (segment_bytes c.before.args.columns) c.before.args.out.now)
 
 segment-word-requires : tie.Need-segment-word-requires invariant-loop decreases-loop
 segment-word-requires c κs = search rules
@@ -55,9 +55,9 @@ loop-again c =
     let l = c.before.before.before.before.before.before.loop in
     let a = c.before.before.before.before.before.before.before.before.args in
     let at = 4 * l.segment in
-    let e = put.ensures ∙ ap (λ w. inFront (bytes32 w) (mid_of at (length l.out - at) l.out)) word.ensures in (
+    let e = put.ensures ∙ ap (λ w. in_front (bytes32 w) (mid_of at (length l.out - at) l.out)) word.ensures in (
       search rules,
-      joined-more 0 4 (segmentBytes a.columns) a.out.now l.segment at l.out put.new.0 (λ i. refl)
+      joined_more 0 4 (segment_bytes a.columns) a.out.now l.segment at l.out put.new.0 (λ i. refl)
           (omega arith) (omega arith) l.invariant.1 e,
     )
 
@@ -65,11 +65,11 @@ same_length : tie.Need-same-length invariant-loop decreases-loop
 same_length c = search rules
 
 returns : tie.Need-returns invariant-loop decreases-loop
-unfolding columnsBytes
+unfolding columns_bytes
 returns c =
     let l = c.before.loop in
     let a = c.before.before.before.args in
-    joined_end 0 (segmentBytes a.columns) a.out.now l.segment a.segments l.out (omega (arith, c.loop-test.false)) l.invariant.1
+    joined_end 0 (segment_bytes a.columns) a.out.now l.segment a.segments l.out (omega (arith, c.loop-test.false)) l.invariant.1
 
 pub write-table-spec : {M : Type 1} → statement M
 write-table-spec =

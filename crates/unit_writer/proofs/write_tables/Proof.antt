@@ -6,10 +6,10 @@ use borrow.Author.Rules.{rules}
 use Rattle.unit.specs.Unit.{marked}
 use borrow.Rule.Slice.PartMut.{mid_of, mid_len}
 use lib.ListN.{length}
-use Rattle.unit_file.specs.InnerWrite.{inFront, columnsBytes, tablesBytes}
-use Rattle.unit_file.proofs.FrontLaws.{Joined, joined-start, joined-more, joined_end}
-use Rattle.unit_file.proofs.WriteLaws.{table_at, table-room, columns-table}
-use Rattle.unit_file.proofs.FileLaws.{table-size}
+use Rattle.unit_file.specs.InnerWrite.{in_front, columns_bytes, tables_bytes}
+use Rattle.unit_file.proofs.FrontLaws.{Joined, joined_start, joined_more, joined_end}
+use Rattle.unit_file.proofs.WriteLaws.{table_at, table_room, columns_table}
+use Rattle.unit_file.proofs.FileLaws.{table_size}
 use Rattle.unit_writer.proofs.write_tables.Statement.{statement}
 use Rattle.unit_writer.proofs.write_tables.Tie as tie
 
@@ -20,7 +20,7 @@ abbrev decreases-loop : tie.decreases-loop
 decreases-loop out₀ u functions segments before₀ out before = functions - before
 
 loop-holds : tie.Need-loop-init invariant-loop decreases-loop
-loop-holds c = let a = c.before.args in (search rules, joined-start (4 + 2 * a.u.functions) (table_at (marked a.u) a.u.segments) a.out.now)
+loop-holds c = let a = c.before.args in (search rules, joined_start (4 + 2 * a.u.functions) (table_at (marked a.u) a.u.segments) a.out.now)
 
 add-t9 : tie.Need-overflow-add-t9 invariant-loop decreases-loop
 add-t9 c = search rules
@@ -37,7 +37,7 @@ room : (c : tie.After-table-start invariant-loop decreases-loop)
 room c =
     let b = c.before.before.before.before.before in
     let l = c.before.before.before.loop in
-    let t = table-room b.args.u.functions b.args.u.segments l.before (length b.args.out.now) b.requires.1 c.before.before.loop-test.true in
+    let t = table_room b.args.u.functions b.args.u.segments l.before (length b.args.out.now) b.requires.1 c.before.before.loop-test.true in
     omega (arith, c.table-start.ensures, l.invariant.1.size)
 
 sub-write-table : tie.Need-overflow-sub-write-table invariant-loop decreases-loop
@@ -72,20 +72,20 @@ loop-again c =
     let s = b.before.before.before.before.before in
     let a = s.args in
     let at = b.table-start.result in
-    let room-left = table-room a.u.functions a.u.segments l.before (length a.out.now) s.requires.1 b.before.before.loop-test.true in
-    let e = put.ensures ∙ ap (λ w. inFront w (mid_of at (length l.out - at) l.out))
-    (ap (λ k. columnsBytes k a.u.segments) columns.ensures
-    ∙ columns-table a.u (l.before + 1) a.u.segments (omega arith) (omega (arith, s.requires.0.functions)) s.requires.0.segments) in (
+    let room_left = table_room a.u.functions a.u.segments l.before (length a.out.now) s.requires.1 b.before.before.loop-test.true in
+    let e = put.ensures ∙ ap (λ w. in_front w (mid_of at (length l.out - at) l.out))
+    (ap (λ k. columns_bytes k a.u.segments) columns.ensures
+    ∙ columns_table a.u (l.before + 1) a.u.segments (omega arith) (omega (arith, s.requires.0.functions)) s.requires.0.segments) in (
       search rules,
-      joined-more (4 + 2 * a.u.functions) (4 * a.u.segments) (table_at (marked a.u) a.u.segments) a.out.now l.before at l.out
-          put.new.0 (λ i. table-size (marked a.u) a.u.segments (i + 1)) room-left b.table-start.ensures l.invariant.1 e,
+      joined_more (4 + 2 * a.u.functions) (4 * a.u.segments) (table_at (marked a.u) a.u.segments) a.out.now l.before at l.out
+          put.new.0 (λ i. table_size (marked a.u) a.u.segments (i + 1)) room_left b.table-start.ensures l.invariant.1 e,
     )
 
 same_length : tie.Need-same-length invariant-loop decreases-loop
 same_length c = search rules
 
 returns : tie.Need-returns invariant-loop decreases-loop
-unfolding tablesBytes
+unfolding tables_bytes
 returns c =
     let l = c.before.loop in
     let a = c.before.before.before.args in

@@ -2,20 +2,20 @@
 use native.Mathlib.Omega.{arith}
 use borrow.Author.Rules.{rules}
 use borrow.Author.Tests.{lt-ltb, le-ltb}
-use Rattle.words.specs.Bits.{clearBit}
+use Rattle.words.specs.Bits.{clear_bit}
 use Rattle.words.proofs.BitLaws.{shifted_one}
 use Rattle.words.proofs.clear.Statement.{statement}
 use Rattle.words.proofs.clear.Tie as tie
 
 returns : tie.Need-returns
-unfolding clearBit
+unfolding clear_bit
 returns c = simp (le-ltb _ _ c.if1.true)
 
 shl-result : tie.Need-overflow-shl-result
 shl-result c = search rules
 
 returns-2 : tie.Need-returns-2
-unfolding clearBit
+unfolding clear_bit
 returns-2 c = simp (lt-ltb _ _ c.if1.false, shifted_one c.before.args.index 32 c.if1.false)
 
 pub clear_spec : {M : Type 1} → statement M

@@ -1,5 +1,5 @@
 -- `c_interface::jobs::limedarts_listing` meets its contract: the listing's answer becomes numbers. Assumes nothing.
-use Rattle.c_interface.proofs.JobLaws.{listing-handed, listing-refused}
+use Rattle.c_interface.proofs.JobLaws.{listing_handed, listing_refused}
 use borrow.Author.Rules.{rules}
 use Rattle.c_interface.proofs.jobs.limedarts_listing.Statement.{statement}
 use Rattle.c_interface.proofs.jobs.limedarts_listing.Tie as tie
@@ -23,7 +23,7 @@ same_length : tie.Need-same-length
 same_length c = search rules
 
 returns : tie.Need-returns
-returns c = let l = c.before.before.before.before.before in listing-handed l.list-file.ensures c.before.listed.given.1
+returns c = let l = c.before.before.before.before.before in listing_handed l.list-file.ensures c.before.listed.given.1
 
 same-length-2 : tie.Need-same-length-2
 same-length-2 c = search rules
@@ -32,7 +32,7 @@ returns-2 : tie.Need-returns-2
 returns-2 c =
     let k = c.before.before in
     let l = k.before.before.before.before in
-    listing-refused l.list-file.ensures k.listed2.given.1 c.number_in.ensures
+    listing_refused l.list-file.ensures k.listed2.given.1 c.number_in.ensures
 
 pub limedarts-listing-spec : {M : Type 1} → statement M
 limedarts-listing-spec =

@@ -1,6 +1,6 @@
 -- `c_interface::jobs::limedarts_play` meets its contract: the counts are narrowed, and the list is played. Assumes nothing.
 use mathlib.Core.Path.{refl}
-use Rattle.c_interface.proofs.JobLaws.{played-as}
+use Rattle.c_interface.proofs.JobLaws.{played_as}
 use borrow.Author.Rules.{rules}
 use Rattle.c_interface.proofs.jobs.limedarts_play.Statement.{statement}
 use Rattle.c_interface.proofs.jobs.limedarts_play.Tie as tie
@@ -27,7 +27,7 @@ returns : tie.Need-returns
 returns c =
     let p = c.before.before.before.before in
     let b = p.before.before.before in
-    (refl, played-as b.before.before.byte.ensures b.before.byte2.ensures b.byte3.ensures p.play.ensures)
+    (refl, played_as b.before.before.byte.ensures b.before.byte2.ensures b.byte3.ensures p.play.ensures)
 
 pub limedarts-play-spec : {M : Type 1} → statement M
 limedarts-play-spec =

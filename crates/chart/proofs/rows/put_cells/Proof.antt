@@ -8,7 +8,7 @@ use borrow.Author.Rules.{rules}
 use lib.Dec.{eqb}
 use Rattle.chart.specs.Inner.{cells_in}
 use Rattle.chart.specs.Text.{busy}
-use Rattle.chart.proofs.CellLaws.{byte-most, busy-none, busy-most, busy-more, cells-kept}
+use Rattle.chart.proofs.CellLaws.{byte_most, busy_none, busy_most, busy_more, cells_kept}
 use Rattle.chart.proofs.FillLaws.{Filled, filled_none, filled_more, filled-all}
 use Rattle.chart.proofs.rows.put_cells.Statement.{statement}
 use Rattle.chart.proofs.rows.put_cells.Tie as tie
@@ -20,7 +20,7 @@ abbrev decreases-loop : tie.decreases-loop
 decreases-loop out₀ at from units marks columns segment count₀ i₀ out count i = units - i
 
 loop-holds : tie.Need-loop-init invariant-loop decreases-loop
-loop-holds c = let p = c.before.requires in let a = c.before.args in (p.0, p.1, busy-none (cells_in a.out.now a.from a.marks a.columns a.segment), filled_none _ _ _ _ p.2)
+loop-holds c = let p = c.before.requires in let a = c.before.args in (p.0, p.1, busy_none (cells_in a.out.now a.from a.marks a.columns a.segment), filled_none _ _ _ _ p.2)
 
 cell-at-requires : tie.Need-cell-at-requires invariant-loop decreases-loop
 cell-at-requires c κs = let l = c.before.before.loop in (l.invariant.0, omega (arith, l.invariant.1, l.invariant.3.room, l.invariant.3.size))
@@ -38,7 +38,7 @@ add-count : tie.Need-overflow-add-count invariant-loop decreases-loop
 add-count c =
     let l = c.before.before.before.loop in
     let a = c.before.before.before.before.before.args in
-    omega (arith, l.invariant.2, busy-most l.i (cells_in a.out.now a.from a.marks a.columns a.segment), l.invariant.3.room, byte-most (not (eqb c.Cell-at.result 46)))
+    omega (arith, l.invariant.2, busy_most l.i (cells_in a.out.now a.from a.marks a.columns a.segment), l.invariant.3.room, byte_most (not (eqb c.Cell-at.result 46)))
 
 add-i : tie.Need-overflow-add-i invariant-loop decreases-loop
 add-i c = search rules
@@ -50,10 +50,10 @@ loop-again : tie.Need-loop-preserved invariant-loop decreases-loop
 loop-again c =
     let l = c.before.before.before.loop in
     let a = c.before.before.before.before.before.args in
-    let e = c.Cell-at.ensures ∙ cells-kept _ _ _ _ l.i l.out l.invariant.3 a.from l.invariant.1 (omega arith) a.marks a.columns a.segment in (
+    let e = c.Cell-at.ensures ∙ cells_kept _ _ _ _ l.i l.out l.invariant.3 a.from l.invariant.1 (omega arith) a.marks a.columns a.segment in (
       l.invariant.0,
       l.invariant.1,
-      busy-more l.i (cells_in a.out.now a.from a.marks a.columns a.segment) l.count c.Cell-at.result l.invariant.2 e,
+      busy_more l.i (cells_in a.out.now a.from a.marks a.columns a.segment) l.count c.Cell-at.result l.invariant.2 e,
       filled_more _ _ _ _ l.i c.Cell-at.result l.out l.invariant.3 (omega arith) e,
     )
 

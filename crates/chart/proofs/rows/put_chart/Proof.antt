@@ -3,8 +3,8 @@ use Prim.Native.Nat.{◌+◌, ◌*◌}
 use native.Mathlib.Nat.{le_refl}
 use native.Mathlib.Omega.{arith}
 use borrow.Author.Rules.{rules}
-use Rattle.text.proofs.BoundedLaws.{put-more, put_as, put-room}
-use Rattle.chart.specs.Inner.{topLength, lineLength}
+use Rattle.text.proofs.BoundedLaws.{put_more, put_as, put_room}
+use Rattle.chart.specs.Inner.{top_length, line_length}
 use Rattle.chart.proofs.ChartLaws.{ready-sound, row-stands, top-end, chart-parts}
 use Rattle.chart.proofs.rows.put_chart.Statement.{statement}
 use Rattle.chart.proofs.rows.put_chart.Tie as tie
@@ -30,7 +30,7 @@ put-segments-requires c κs =
       d.columns.1,
       d.segments.1,
       omega (arith, e),
-      put-room (lineLength s.args.units * s.args.u.segments) top.put-top.ensures (omega (arith, s.requires.1)),
+      put_room (line_length s.args.units * s.args.u.segments) top.put-top.ensures (omega (arith, s.requires.1)),
     )
 
 same_length : tie.Need-same-length
@@ -43,10 +43,10 @@ returns c =
     let columns = top.before.before in
     let s = columns.before.before in
     let a = s.args in
-    put_as (put-more top.put-top.ensures lines.put-segments.ensures)
+    put_as (put_more top.put-top.ensures lines.put-segments.ensures)
     (chart-parts a.u a.plan s.requires.0 a.units top.put-top.new.0 columns.columns_of.result columns.columns_of.ensures
     (row-stands a.u a.plan s.requires.0 a.units top.put-top.ensures))
-    (le_refl (topLength a.units + lineLength a.units * a.u.segments))
+    (le_refl (top_length a.units + line_length a.units * a.u.segments))
 
 pub put-chart-spec : {M : Type 1} → statement M
 put-chart-spec =

@@ -5,7 +5,7 @@ use native.Mathlib.Omega.{arith}
 use borrow.Author.Rules.{rules}
 use lib.ListN.{length}
 use Rattle.text.specs.Text.{decimal}
-use Rattle.text.proofs.BoundedLaws.{put_one, put-more, put_word, put_as, put-room}
+use Rattle.text.proofs.BoundedLaws.{put_one, put_more, put_word, put_as, put_room}
 use Rattle.chart.proofs.rows.put_count.Statement.{statement}
 use Rattle.chart.proofs.rows.put_count.Tie as tie
 
@@ -19,7 +19,7 @@ put-at-right-requires : tie.Need-put-at-right-requires
 put-at-right-requires c κs =
     let word = c.before.before.before in
     let s = word.before.before.before.before in
-    (s.requires.0, put-room (length (decimal s.args.units)) (put_one 6 _ word.put.ensures (omega arith) (omega (arith, s.requires.1))) (omega (arith, s.requires.1)))
+    (s.requires.0, put_room (length (decimal s.args.units)) (put_one 6 _ word.put.ensures (omega arith) (omega (arith, s.requires.1))) (omega (arith, s.requires.1)))
 
 slice-aggregate-put-2 : tie.Need-slice-aggregate-put-2
 slice-aggregate-put-2 c = search rules
@@ -49,7 +49,7 @@ returns c =
     let s = word.before.before.before.before in
     let d = length (decimal s.args.units) in
     let p = put_one 6 _ word.put.ensures (omega arith) (omega (arith, s.requires.1)) in
-    let q = put_word 1 _ (put-more p right.put-at-right.ensures) stroke.put2.ensures (omega arith) (omega (arith, s.requires.1)) in
+    let q = put_word 1 _ (put_more p right.put-at-right.ensures) stroke.put2.ensures (omega arith) (omega (arith, s.requires.1)) in
     let r = put_word d _ q units.put-number.ensures (le_refl d) (omega (arith, s.requires.1)) in
     put_as (put_word 1 _ r last.put3.ensures (omega arith) (omega (arith, s.requires.1))) refl (omega arith)
 

@@ -3,14 +3,14 @@ use Prim.Native.Nat.{◌-◌, ◌<◌}
 use mathlib.Core.Path.{◌≡◌}
 use native.Mathlib.Omega.{arith}
 use borrow.Author.Rules.{rules}
-use Rattle.chart.specs.Cells.{tasksBefore, startCell}
-use Rattle.chart.proofs.CellLaws.{At, at-start, at_next, byte-most, tasks-most, tasks-none, tasks-next, start-next}
+use Rattle.chart.specs.Cells.{tasks_before, start_cell}
+use Rattle.chart.proofs.CellLaws.{At, at_start, at_next, byte_most, tasks_most, tasks_none, tasks-next, start-next}
 use Rattle.chart.proofs.FillLaws.{Filled, filled_none, filled_more, filled-wrote}
 use Rattle.chart.proofs.rows.put_starts.Statement.{statement}
 use Rattle.chart.proofs.rows.put_starts.Tie as tie
 
 abbrev invariant-loop : tie.invariant-loop
-invariant-loop out₀ at u plan units position₀ bank₀ tasks₀ i₀ out position bank tasks i = (units < 4294967296) × At u plan position bank i × (tasks ≡ tasksBefore u plan i) × Filled out₀ at units (startCell u plan) i out
+invariant-loop out₀ at u plan units position₀ bank₀ tasks₀ i₀ out position bank tasks i = (units < 4294967296) × At u plan position bank i × (tasks ≡ tasks_before u plan i) × Filled out₀ at units (start_cell u plan) i out
 
 abbrev decreases-loop : tie.decreases-loop
 decreases-loop out₀ at u plan units position₀ bank₀ tasks₀ i₀ out position bank tasks i = units - i
@@ -19,7 +19,7 @@ empty-bank-requires : tie.Need-empty-bank-requires invariant-loop decreases-loop
 empty-bank-requires c κs = search rules
 
 loop-holds : tie.Need-loop-init invariant-loop decreases-loop
-loop-holds c = (c.before.before.requires.0, at-start _ _ _ c.empty-bank.ensures, tasks-none _ _, filled_none _ _ _ _ c.before.before.requires.1)
+loop-holds c = (c.before.before.requires.0, at_start _ _ _ c.empty-bank.ensures, tasks_none _ _, filled_none _ _ _ _ c.before.before.requires.1)
 
 step-requires : tie.Need-step-requires invariant-loop decreases-loop
 step-requires c κs = search rules
@@ -40,7 +40,7 @@ add-tasks : tie.Need-overflow-add-tasks invariant-loop decreases-loop
 add-tasks c =
     let l = c.before.before.before.before.loop in
     let a = c.before.before.before.before.before.before.before.args in
-    omega (arith, l.invariant.0, l.invariant.2, tasks-most a.u a.plan l.i, byte-most c.before.before.step.result.started)
+    omega (arith, l.invariant.0, l.invariant.2, tasks_most a.u a.plan l.i, byte_most c.before.before.step.result.started)
 
 add-i : tie.Need-overflow-add-i invariant-loop decreases-loop
 add-i c = search rules

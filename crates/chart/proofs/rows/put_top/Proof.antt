@@ -2,9 +2,9 @@
 use mathlib.Core.Path.{refl}
 use native.Mathlib.Omega.{arith}
 use borrow.Author.Rules.{rules}
-use Rattle.text.proofs.BoundedLaws.{put_one, put-more, put_word, put_as, put-room}
-use Rattle.chart.specs.Cells.{startCell}
-use Rattle.chart.specs.Text.{unitDigit}
+use Rattle.text.proofs.BoundedLaws.{put_one, put_more, put_word, put_as, put_room}
+use Rattle.chart.specs.Cells.{start_cell}
+use Rattle.chart.specs.Text.{unit_digit}
 use Rattle.chart.proofs.LineLaws.{row_put}
 use Rattle.chart.proofs.rows.put_top.Statement.{statement}
 use Rattle.chart.proofs.rows.put_top.Tie as tie
@@ -19,7 +19,7 @@ put-units-requires : tie.Need-put-units-requires
 put-units-requires c κs =
     let name = c.before.before.before in
     let s = name.before.before.before.before in
-    (s.requires.0, put-room s.args.units (put_one 8 _ name.put.ensures (omega arith) (omega (arith, s.requires.1))) (omega (arith, s.requires.1)))
+    (s.requires.0, put_room s.args.units (put_one 8 _ name.put.ensures (omega arith) (omega (arith, s.requires.1))) (omega (arith, s.requires.1)))
 
 slice-aggregate-put-2 : tie.Need-slice-aggregate-put-2
 slice-aggregate-put-2 c = search rules
@@ -42,10 +42,10 @@ put-starts-requires c κs =
     let a = name.before.before.before.before.args in
     let room = name.before.before.before.before.requires.1 in
     let p = put_one 8 _ name.put.ensures (omega arith) (omega (arith, room)) in
-    let q = put-more p (row_put a.units unitDigit units.put-units.ensures) in
+    let q = put_more p (row_put a.units unit_digit units.put-units.ensures) in
     let r = put_word 1 _ q end.put2.ensures (omega arith) (omega (arith, room)) in
-    let x = put_one 8 _ word.put3.ensures (omega arith) (put-room 8 r (omega (arith, room))) in
-    (name.before.before.before.before.requires.0, put-room a.units (put-more r x) (omega (arith, room)))
+    let x = put_one 8 _ word.put3.ensures (omega arith) (put_room 8 r (omega (arith, room))) in
+    (name.before.before.before.before.requires.0, put_room a.units (put_more r x) (omega (arith, room)))
 
 slice-aggregate-put-4 : tie.Need-slice-aggregate-put-4
 slice-aggregate-put-4 c = search rules
@@ -67,11 +67,11 @@ returns c =
     let a = name.before.before.before.before.args in
     let room = name.before.before.before.before.requires.1 in
     let p = put_one 8 _ name.put.ensures (omega arith) (omega (arith, room)) in
-    let q = put-more p (row_put a.units unitDigit units.put-units.ensures) in
+    let q = put_more p (row_put a.units unit_digit units.put-units.ensures) in
     let r = put_word 1 _ q end.put2.ensures (omega arith) (omega (arith, room)) in
-    let x = put_one 8 _ word.put3.ensures (omega arith) (put-room 8 r (omega (arith, room))) in
-    let y = put-more x (row_put a.units (startCell a.u a.plan) starts.put-starts.ensures) in
-    put_as (put_word 1 _ (put-more r y) last.put4.ensures (omega arith) (omega (arith, room))) refl (omega arith)
+    let x = put_one 8 _ word.put3.ensures (omega arith) (put_room 8 r (omega (arith, room))) in
+    let y = put_more x (row_put a.units (start_cell a.u a.plan) starts.put-starts.ensures) in
+    put_as (put_word 1 _ (put_more r y) last.put4.ensures (omega arith) (omega (arith, room))) refl (omega arith)
 
 pub put-top-spec : {M : Type 1} → statement M
 put-top-spec =

@@ -3,13 +3,13 @@ use Prim.Native.Nat.{◌-◌, ◌<◌}
 use mathlib.Core.Path.{refl}
 use native.Mathlib.Omega.{arith}
 use borrow.Author.Rules.{rules}
-use Rattle.chart.specs.Text.{unitDigit}
+use Rattle.chart.specs.Text.{unit_digit}
 use Rattle.chart.proofs.FillLaws.{Filled, filled_none, filled_more, filled-wrote}
 use Rattle.chart.proofs.rows.put_units.Statement.{statement}
 use Rattle.chart.proofs.rows.put_units.Tie as tie
 
 abbrev invariant-loop : tie.invariant-loop
-invariant-loop out₀ at units i₀ out i = (units < 4294967296) × Filled out₀ at units unitDigit i out
+invariant-loop out₀ at units i₀ out i = (units < 4294967296) × Filled out₀ at units unit_digit i out
 
 abbrev decreases-loop : tie.decreases-loop
 decreases-loop out₀ at units i₀ out i = units - i

@@ -4,7 +4,7 @@ use mathlib.Core.Logic.{⊎_elim}
 use mathlib.Core.Path.{sym, subst}
 use native.Mathlib.Omega.{arith}
 use borrow.Author.Rules.{rules}
-use Rattle.text.proofs.DecimalLaws.{decimal-length}
+use Rattle.text.proofs.DecimalLaws.{decimal_length}
 use Rattle.chart.proofs.DigitLaws.{Counted, counted_start, counted-space, counted-digit, counted-few, counted-end}
 use Rattle.chart.proofs.rows.spaces_before.Statement.{statement}
 use Rattle.chart.proofs.rows.spaces_before.Tie as tie
@@ -19,7 +19,7 @@ loop-holds : tie.Need-loop-init invariant-loop decreases-loop
 loop-holds c = (counted_start _ _ c.requires (search rules), search rules)
 
 add-spaces : tie.Need-overflow-add-spaces invariant-loop decreases-loop
-add-spaces c = omega (arith, counted-few _ _ _ _ _ c.before.before.loop.invariant.0, decimal-length c.before.before.before.args.most 10 (omega arith) (omega (arith, c.before.before.loop.invariant.1)))
+add-spaces c = omega (arith, counted-few _ _ _ _ _ c.before.before.loop.invariant.0, decimal_length c.before.before.before.args.most 10 (omega arith) (omega (arith, c.before.before.loop.invariant.1)))
 
 loop-less : tie.Need-loop-smaller invariant-loop decreases-loop
 loop-less c = omega arith

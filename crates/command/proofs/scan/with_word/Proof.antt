@@ -1,8 +1,8 @@
 -- `command::scan::with_word` meets its contract. Assumes nothing.
 use mathlib.Core.Path.{◌∙◌, sym}
 use borrow.Author.Rules.{rules}
-use Rattle.command.proofs.NumberLaws.{number-told, other-told}
-use Rattle.command.proofs.ScanLaws.{noted-number, noted_other}
+use Rattle.command.proofs.NumberLaws.{number_told_lem, other_told}
+use Rattle.command.proofs.ScanLaws.{noted_number, noted_other}
 use Rattle.command.proofs.scan.with_word.Statement.{statement}
 use Rattle.command.proofs.scan.with_word.Tie as tie
 
@@ -24,13 +24,13 @@ note-requires-2 c κs = search rules
 returns : tie.Need-returns
 returns c =
     let n = c.before.before in
-    let t = number-told _ _ (sym n.numeral.given.1 ∙ n.before.before.number_of_lem.ensures) in
-    c.note.ensures ∙ noted-number n.before.before.before.before.args.words _ _ t.0 t.1
+    let t = number_told_lem _ _ (sym n.numeral.given.1 ∙ n.before.before.number_of_lem.ensures) in
+    c.note.ensures ∙ noted_number n.before.before.before.before.args.words _ _ t.0 t.1
 
 returns-2 : tie.Need-returns-2
 returns-2 c =
     let n = c.before in
-    let t = other-told _ (sym n.enum_told.given.1 ∙ n.before.before.number_of_lem.ensures) in
+    let t = other_told _ (sym n.enum_told.given.1 ∙ n.before.before.number_of_lem.ensures) in
     c.note2.ensures ∙ noted_other n.before.before.before.before.args.words _ t.0 t.1
 
 pub with-word-spec : {M : Type 1} → statement M

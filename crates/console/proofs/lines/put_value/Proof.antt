@@ -1,5 +1,5 @@
 -- `console::lines::put_value` meets its contract. Assumes nothing.
-use Rattle.session.proofs.LineLaws.{value-wrote}
+use Rattle.session.proofs.LineLaws.{value_wrote}
 use borrow.Author.Rules.{rules}
 use Rattle.console.proofs.lines.put_value.Statement.{statement}
 use Rattle.console.proofs.lines.put_value.Tie as tie
@@ -17,7 +17,7 @@ returns : tie.Need-returns
 returns c =
     let first = c.before.before.before.before.before.before in
     let start = first.before.before.before.before in
-    value-wrote start.args.word.now start.args.number start.requires first.put.ensures c.before.before.put-number.ensures
+    value_wrote start.args.word.now start.args.number start.requires first.put.ensures c.before.before.put-number.ensures
 
 pub put-value-spec : {M : Type 1} → statement M
 put-value-spec = tie.close (tie.spec put-requires put-number-requires same_length returns)

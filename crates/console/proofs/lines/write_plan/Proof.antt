@@ -4,7 +4,7 @@ use Prim.Native.Nat.{◌≤◌}
 use native.Mathlib.Omega.{arith}
 use lib.ListN.{length, take}
 use lib.Seq.{length-take-le}
-use Rattle.console.proofs.LineLaws.{tag-room, plan-wrote}
+use Rattle.console.proofs.LineLaws.{tag_room, plan_wrote}
 use borrow.Author.Rules.{rules}
 use Rattle.console.proofs.lines.write_plan.Statement.{statement}
 use Rattle.console.proofs.lines.write_plan.Tie as tie
@@ -42,7 +42,7 @@ write-cycle-requires c κs =
     let p = start.args.plan in
     let n : length p.latencies ≡ 256 = search rules in
     let few : length (take p.count p.latencies) ≤ 256 = omega (arith, start.requires.0, length-take-le p.count p.latencies (omega (arith, start.requires.0))) in
-    tag-room p.tag start.requires.1 few c.before.before.before.before.before.put-value.ensures
+    tag_room p.tag start.requires.1 few c.before.before.before.before.before.put-value.ensures
 
 same_length : tie.Need-same-length
 same_length c = search rules
@@ -50,7 +50,7 @@ same_length c = search rules
 returns : tie.Need-returns
 returns c =
     let p = c.before.before.before.before.before.before.before.before.before.before.before.before.before.before.before.args.plan in
-    plan-wrote p c.before.before.before.before.before.before.before.before.put-value.ensures c.before.before.write-cycle.ensures
+    plan_wrote p c.before.before.before.before.before.before.before.before.put-value.ensures c.before.before.write-cycle.ensures
 
 pub write-plan-spec : {M : Type 1} → statement M
 write-plan-spec =

@@ -3,9 +3,9 @@ use mathlib.Core.List.{[]}
 use Prim.Native.Nat.{◌*◌}
 use native.Mathlib.Omega.{arith}
 use borrow.Author.Rules.{rules}
-use Rattle.text.proofs.BoundedLaws.{put_one, put-more, put_word, put_as, put-room}
+use Rattle.text.proofs.BoundedLaws.{put_one, put_more, put_word, put_as, put_room}
 use Rattle.drawing.specs.Tables.{cell}
-use Rattle.drawing.proofs.TableLaws.{head-all}
+use Rattle.drawing.proofs.TableLaws.{head_all}
 use Rattle.drawing.proofs.tables.put_head.Statement.{statement}
 use Rattle.drawing.proofs.tables.put_head.Tie as tie
 
@@ -19,7 +19,7 @@ put-numbers-requires : tie.Need-put-numbers-requires
 put-numbers-requires c κs =
     let first = c.before.before.before in
     let a = first.before.before.before.before.args in
-    (omega arith, put-room (3 * a.columns) (put_one 3 (cell []) first.put.ensures (omega arith) (omega arith)) (omega arith))
+    (omega arith, put_room (3 * a.columns) (put_one 3 (cell []) first.put.ensures (omega arith) (omega arith)) (omega arith))
 
 slice-aggregate-put-2 : tie.Need-slice-aggregate-put-2
 slice-aggregate-put-2 c = search rules
@@ -36,8 +36,8 @@ returns c =
     let first = numbers.before.before.before.before in
     let a = first.before.before.before.before.args in
     let p = put_one 3 (cell []) first.put.ensures (omega arith) (omega arith) in
-    let q = put_word 1 _ (put-more p numbers.put-numbers.ensures) c.before.before.put2.ensures (omega arith) (omega arith) in
-    put_as q (head-all a.columns) (omega arith)
+    let q = put_word 1 _ (put_more p numbers.put-numbers.ensures) c.before.before.put2.ensures (omega arith) (omega arith) in
+    put_as q (head_all a.columns) (omega arith)
 
 pub put-head-spec : {M : Type 1} → statement M
 put-head-spec =

@@ -2,7 +2,7 @@
 use mathlib.Core.Path.{refl}
 use native.Mathlib.Omega.{arith}
 use borrow.Author.Rules.{rules}
-use Rattle.text.proofs.BoundedLaws.{put-more, put_word, put_as}
+use Rattle.text.proofs.BoundedLaws.{put_more, put_word, put_as}
 use Rattle.drawing.proofs.tables.put_line.Statement.{statement}
 use Rattle.drawing.proofs.tables.put_line.Tie as tie
 
@@ -28,7 +28,7 @@ returns : tie.Need-returns
 returns c =
     let marks = c.before.before.before.before.before.before.before in
     let number = marks.before.before.before.before in
-    let p = put-more number.put-number-cell.ensures marks.put-marks.ensures in
+    let p = put_more number.put-number-cell.ensures marks.put-marks.ensures in
     put_as (put_word 1 _ p c.before.before.put.ensures (omega arith) (omega arith)) refl (omega arith)
 
 pub put-line-spec : {M : Type 1} → statement M

@@ -3,8 +3,8 @@ use mathlib.Core.Path.{refl}
 use native.Mathlib.Nat.{mul-add}
 use native.Mathlib.Omega.{arith}
 use borrow.Author.Rules.{rules}
-use Rattle.text.proofs.BoundedLaws.{put-more, put_as}
-use Rattle.drawing.specs.Inner.{lineLength}
+use Rattle.text.proofs.BoundedLaws.{put_more, put_as}
+use Rattle.drawing.specs.Inner.{line_length}
 use Rattle.drawing.proofs.tables.put_lines.Statement.{statement}
 use Rattle.drawing.proofs.tables.put_lines.Tie as tie
 
@@ -20,7 +20,7 @@ same_length c = search rules
 returns : tie.Need-returns
 returns c =
     let a = c.before.before.before.before.before.before.before.before.before.args in
-    put_as (put-more c.before.before.before.before.before.before.put-head.ensures c.before.before.put-rows.ensures) refl (omega (arith, mul-add (lineLength a.columns) a.segments 1))
+    put_as (put_more c.before.before.before.before.before.before.put-head.ensures c.before.before.put-rows.ensures) refl (omega (arith, mul-add (line_length a.columns) a.segments 1))
 
 pub put-lines-spec : {M : Type 1} → statement M
 put-lines-spec = tie.close (tie.spec put-head-requires put-rows-requires same_length returns)

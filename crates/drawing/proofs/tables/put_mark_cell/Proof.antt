@@ -3,7 +3,7 @@ use mathlib.Core.Path.{ap, sym}
 use native.Mathlib.Omega.{arith}
 use borrow.Author.Rules.{rules}
 use Rattle.text.proofs.BoundedLaws.{put_one, put_as}
-use Rattle.drawing.specs.Tables.{cell, markText}
+use Rattle.drawing.specs.Tables.{cell, mark_text}
 use Rattle.drawing.proofs.tables.put_mark_cell.Statement.{statement}
 use Rattle.drawing.proofs.tables.put_mark_cell.Tie as tie
 
@@ -19,7 +19,7 @@ same_length c = search rules
 returns : tie.Need-returns
 returns c =
     let b = c.before.before.before.before.before in
-    put_as (put_one 3 _ c.before.before.put.ensures (omega arith) (omega arith)) (ap (λ b. cell (markText b)) (sym b.if1.true)) (omega arith)
+    put_as (put_one 3 _ c.before.before.put.ensures (omega arith) (omega arith)) (ap (λ b. cell (mark_text b)) (sym b.if1.true)) (omega arith)
 
 slice-aggregate-put-2 : tie.Need-slice-aggregate-put-2
 slice-aggregate-put-2 c = search rules
@@ -33,7 +33,7 @@ same-length-2 c = search rules
 returns-2 : tie.Need-returns-2
 returns-2 c =
     let b = c.before.before.before.before.before in
-    put_as (put_one 3 _ c.before.before.put2.ensures (omega arith) (omega arith)) (ap (λ b. cell (markText b)) (sym b.if1.false)) (omega arith)
+    put_as (put_one 3 _ c.before.before.put2.ensures (omega arith) (omega arith)) (ap (λ b. cell (mark_text b)) (sym b.if1.false)) (omega arith)
 
 pub put-mark-cell-spec : {M : Type 1} → statement M
 put-mark-cell-spec =

@@ -4,9 +4,9 @@ use native.Mathlib.Omega.{arith}
 use lib.ListN.{length}
 use borrow.Author.Rules.{rules}
 use Rattle.text.specs.Text.{decimal}
-use Rattle.text.proofs.DecimalLaws.{decimal-length}
+use Rattle.text.proofs.DecimalLaws.{decimal_length}
 use Rattle.text.proofs.BoundedLaws.{put_one, put_word, put_as}
-use Rattle.drawing.proofs.TableLaws.{cell-one, cell-two}
+use Rattle.drawing.proofs.TableLaws.{cell_one, cell_two}
 use Rattle.drawing.proofs.tables.put_number_cell.Statement.{statement}
 use Rattle.drawing.proofs.tables.put_number_cell.Tie as tie
 
@@ -27,9 +27,9 @@ returns c =
     let number = c.before.before in
     let spaces = number.before.before.before.before in
     let n = spaces.before.before.before.before.before.args.number in
-    let d : length (decimal n) ≤ 1 = decimal-length n 1 (omega arith) (omega arith) in
+    let d : length (decimal n) ≤ 1 = decimal_length n 1 (omega arith) (omega arith) in
     let p = put_one 2 _ spaces.put.ensures (omega arith) (omega arith) in
-    put_as (put_word 1 _ p number.put-number.ensures d (omega arith)) (cell-one n (omega arith)) (omega arith)
+    put_as (put_word 1 _ p number.put-number.ensures d (omega arith)) (cell_one n (omega arith)) (omega arith)
 
 slice-aggregate-put-2 : tie.Need-slice-aggregate-put-2
 slice-aggregate-put-2 c = search rules
@@ -48,9 +48,9 @@ returns-2 c =
     let number = c.before.before in
     let spaces = number.before.before.before.before in
     let n = spaces.before.before.before.before.before.args.number in
-    let d : length (decimal n) ≤ 2 = decimal-length n 2 (omega arith) (omega arith) in
+    let d : length (decimal n) ≤ 2 = decimal_length n 2 (omega arith) (omega arith) in
     let p = put_one 1 _ spaces.put2.ensures (omega arith) (omega arith) in
-    put_as (put_word 2 _ p number.put-number2.ensures d (omega arith)) (cell-two n (omega arith) (omega arith)) (omega arith)
+    put_as (put_word 2 _ p number.put-number2.ensures d (omega arith)) (cell_two n (omega arith) (omega arith)) (omega arith)
 
 pub put-number-cell-spec : {M : Type 1} → statement M
 put-number-cell-spec =

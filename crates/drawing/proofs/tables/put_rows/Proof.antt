@@ -3,30 +3,30 @@ use mathlib.Core.Path.{◌≡◌, ap}
 use Prim.Native.Nat.{◌-◌, ◌*◌, ◌≤◌}
 use native.Mathlib.Omega.{arith}
 use borrow.Author.Rules.{rules}
-use Rattle.words.specs.Below.{joinBelow}
+use Rattle.words.specs.Below.{join_below}
 use Rattle.text.specs.Wrote.{Put}
-use Rattle.text.proofs.WroteLaws.{wrote-length}
-use Rattle.text.proofs.BoundedLaws.{put_as, put-room, put-join-start, put-join-more}
-use Rattle.drawing.specs.Inner.{lineText, lineLength}
-use Rattle.drawing.proofs.TableLaws.{line-room}
+use Rattle.text.proofs.WroteLaws.{wrote_length}
+use Rattle.text.proofs.BoundedLaws.{put_as, put_room, put-join-start, put-join-more}
+use Rattle.drawing.specs.Inner.{line_text, line_length}
+use Rattle.drawing.proofs.TableLaws.{line_room}
 use Rattle.drawing.proofs.tables.put_rows.Statement.{statement}
 use Rattle.drawing.proofs.tables.put_rows.Tie as tie
 
 abbrev invariant-loop : tie.invariant-loop
-invariant-loop out₀ at marks segments columns end₀ segment₀ out end segment = (segment ≤ segments) × Put (lineLength columns * segment) out₀ at (joinBelow segment (lineText marks columns)) out end
+invariant-loop out₀ at marks segments columns end₀ segment₀ out end segment = (segment ≤ segments) × Put (line_length columns * segment) out₀ at (join_below segment (line_text marks columns)) out end
 
 abbrev decreases-loop : tie.decreases-loop
 decreases-loop out₀ at marks segments columns end₀ segment₀ out end segment = segments - segment
 
 loop-holds : tie.Need-loop-init invariant-loop decreases-loop
-loop-holds c = let a = c.before.args in (omega arith, put-join-start (lineLength a.columns) (lineText a.marks a.columns) (omega arith))
+loop-holds c = let a = c.before.args in (omega arith, put-join-start (line_length a.columns) (line_text a.marks a.columns) (omega arith))
 
 put-line-requires : tie.Need-put-line-requires invariant-loop decreases-loop
 put-line-requires c κs =
     let l = c.before.before.loop in
     let a = c.before.before.before.before.args in
-    let m = line-room a.segments a.columns l.segment (omega arith) in
-    (omega arith, omega arith, put-room (lineLength a.columns) l.invariant.1 (omega (arith, m)))
+    let m = line_room a.segments a.columns l.segment (omega arith) in
+    (omega arith, omega arith, put_room (line_length a.columns) l.invariant.1 (omega (arith, m)))
 
 add-segment : tie.Need-overflow-add-segment invariant-loop decreases-loop
 add-segment c = search rules
@@ -38,18 +38,18 @@ loop-again : tie.Need-loop-preserved invariant-loop decreases-loop
 loop-again c =
     let l = c.before.before.before.before.before.loop in
     let a = c.before.before.before.before.before.before.before.args in
-    (search rules, put-join-more (lineLength a.columns) l.segment (lineText a.marks a.columns) l.invariant.1 c.before.before.put-line.ensures)
+    (search rules, put-join-more (line_length a.columns) l.segment (line_text a.marks a.columns) l.invariant.1 c.before.before.put-line.ensures)
 
 same_length : tie.Need-same-length invariant-loop decreases-loop
-same_length c = wrote-length c.before.loop.invariant.1.wrote
+same_length c = wrote_length c.before.loop.invariant.1.wrote
 
 returns : tie.Need-returns invariant-loop decreases-loop
 returns c =
     let l = c.before.loop in
     let a = c.before.before.before.args in
     let e : l.segment ≡ a.segments = omega arith in
-    let m : lineLength a.columns * l.segment ≡ lineLength a.columns * a.segments = ap (λ n. lineLength a.columns * n) e in
-    put_as l.invariant.1 (ap (λ n. joinBelow n (lineText a.marks a.columns)) e) (omega arith)
+    let m : line_length a.columns * l.segment ≡ line_length a.columns * a.segments = ap (λ n. line_length a.columns * n) e in
+    put_as l.invariant.1 (ap (λ n. join_below n (line_text a.marks a.columns)) e) (omega arith)
 
 pub put-rows-spec : {M : Type 1} → statement M
 put-rows-spec =

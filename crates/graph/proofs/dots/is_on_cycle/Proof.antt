@@ -5,19 +5,19 @@ use Prim.Native.Nat.{◌-◌, ◌≤◌}
 use native.Mathlib.Omega.{arith}
 use lib.ListN.{length}
 use borrow.Author.Rules.{rules}
-use Rattle.words.specs.Below.{someBelow}
-use Rattle.graph.proofs.DotLaws.{takes, takes-start, takes-more, takes-here, takes_none}
+use Rattle.words.specs.Below.{some_below}
+use Rattle.graph.proofs.DotLaws.{takes, takes_start, takes_more, takes_here, takes_none}
 use Rattle.graph.proofs.dots.is_on_cycle.Statement.{statement}
 use Rattle.graph.proofs.dots.is_on_cycle.Tie as tie
 
 abbrev invariant-loop : tie.invariant-loop
-invariant-loop on cycle state latency j₀ j = (j ≤ length cycle) × (someBelow j (takes on cycle state latency) ≡ false)
+invariant-loop on cycle state latency j₀ j = (j ≤ length cycle) × (some_below j (takes on cycle state latency) ≡ false)
 
 abbrev decreases-loop : tie.decreases-loop
 decreases-loop on cycle state latency j₀ j = length cycle - j
 
 loop-holds : tie.Need-loop-init invariant-loop decreases-loop
-loop-holds c = let a = c.before.before.args in (omega arith, takes-start a.on.now a.cycle.now a.state a.latency)
+loop-holds c = let a = c.before.before.args in (omega arith, takes_start a.on.now a.cycle.now a.state a.latency)
 
 mul-is-arc : tie.Need-overflow-mul-is-arc invariant-loop decreases-loop
 mul-is-arc c = search rules
@@ -38,7 +38,7 @@ returns : tie.Need-returns invariant-loop decreases-loop
 returns c =
     let a = c.before.before.before.before.before.before.before.before.args in
     let l = c.before.before.before.before.before.loop in
-    takes-here a.on.now a.cycle.now a.state a.latency l.j (omega arith) (sym c.before.is-arc.ensures ∙ c.if1.true)
+    takes_here a.on.now a.cycle.now a.state a.latency l.j (omega arith) (sym c.before.is-arc.ensures ∙ c.if1.true)
 
 add-j : tie.Need-overflow-add-j invariant-loop decreases-loop
 add-j c = search rules
@@ -51,7 +51,7 @@ loop-again c =
     let a = c.before.before.before.before.before.before.before.before.args in
     let l = c.before.before.before.before.before.loop in
     let e = sym c.before.is-arc.ensures ∙ c.if1.false in
-    (search rules, takes-more a.on.now a.cycle.now a.state a.latency l.j e l.invariant.1)
+    (search rules, takes_more a.on.now a.cycle.now a.state a.latency l.j e l.invariant.1)
 
 returns-2 : tie.Need-returns-2 invariant-loop decreases-loop
 returns-2 c =

@@ -5,11 +5,11 @@ use native.Mathlib.Omega.{arith}
 use lib.ListN.{length, get_or}
 use borrow.Author.Rules.{rules}
 use Rattle.text.specs.Text.{ascii, decimal}
-use Rattle.text.proofs.DecimalLaws.{decimal-length}
+use Rattle.text.proofs.DecimalLaws.{decimal_length}
 use Rattle.text.specs.Wrote.{Put}
-use Rattle.text.proofs.BoundedLaws.{put_one, put-more, put_word, put_as, put-room}
-use Rattle.graph.specs.Inner.{statesText}
-use Rattle.graph.proofs.DotLaws.{width_narrow, listing-small, dot-parts}
+use Rattle.text.proofs.BoundedLaws.{put_one, put_more, put_word, put_as, put_room}
+use Rattle.graph.specs.Inner.{states_text}
+use Rattle.graph.proofs.DotLaws.{width_narrow, listing_small, dot_parts}
 use Rattle.graph.proofs.dots.put_diagram.Statement.{statement}
 use Rattle.graph.proofs.dots.put_diagram.Tie as tie
 
@@ -32,7 +32,7 @@ head-put : (c : tie.After-put2)
 head-put c =
     let s = start (turned (first c)) in
     let p = put_one 17 _ (first c).put.ensures (omega arith) (omega (arith, s.pre.2)) in
-    let d = decimal-length s.args.tag 10 (omega arith) (omega arith) in
+    let d = decimal_length s.args.tag 10 (omega arith) (omega arith) in
     put_word 3 _ (put_word 10 _ p c.before.before.before.before.before.put-number.ensures d (omega (arith, s.pre.2))) c.put2.ensures (omega arith) (omega (arith, s.pre.2))
 
 shared-slice-read-vector : tie.Need-shared-slice-read-vector
@@ -69,8 +69,8 @@ put-states-requires c κs =
     let s = start turn in
     let w = turn.before.width_of_lem.ensures in (
       record { narrow = width_narrow _ _ w; turn = turn.turn-states.ensures },
-      listing-small s.pre.0 w,
-      put-room (3531 * length s.args.states.now) (head-put p) (omega (arith, s.pre.0.few, s.pre.2)),
+      listing_small s.pre.0 w,
+      put_room (3531 * length s.args.states.now) (head-put p) (omega (arith, s.pre.0.few, s.pre.2)),
     )
 
 slice-aggregate-put-3 : tie.Need-slice-aggregate-put-3
@@ -90,9 +90,9 @@ returns c =
     let s = start turn in
     let a = s.args in
     let n = turn.before.width_of_lem in
-    let whole = put-more {b = statesText n.result (vector s) a.cycle.now a.states.now} (head-put p) arcs.put-states.ensures in
+    let whole = put_more {b = states_text n.result (vector s) a.cycle.now a.states.now} (head-put p) arcs.put-states.ensures in
     let q = put_word 2 _ whole c.before.before.put3.ensures (omega arith) (omega (arith, s.pre.0.few, s.pre.2)) in
-    put_as q (dot-parts a.tag (vector s) a.cycle.now a.states.now n.ensures) (omega (arith, s.pre.0.few))
+    put_as q (dot_parts a.tag (vector s) a.cycle.now a.states.now n.ensures) (omega (arith, s.pre.0.few))
 
 pub put-diagram-spec : {M : Type 1} → statement M
 put-diagram-spec =

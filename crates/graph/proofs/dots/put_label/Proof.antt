@@ -4,9 +4,9 @@ use mathlib.Core.List.{◌++◌}
 use native.Mathlib.Omega.{arith}
 use borrow.Author.Rules.{rules}
 use Rattle.text.specs.Text.{ascii, decimal}
-use Rattle.text.proofs.DecimalLaws.{decimal-length}
+use Rattle.text.proofs.DecimalLaws.{decimal_length}
 use Rattle.text.specs.Wrote.{Put}
-use Rattle.text.proofs.BoundedLaws.{put_one, put-more, put_word, put_as, put-room}
+use Rattle.text.proofs.BoundedLaws.{put_one, put_more, put_word, put_as, put_room}
 use Rattle.graph.proofs.dots.put_label.Statement.{statement}
 use Rattle.graph.proofs.dots.put_label.Tie as tie
 
@@ -22,7 +22,7 @@ latency-put : (c : tie.After-put-number)
     Put 18 a.out.now a.at (ascii " [label=" ++ decimal a.latency) c.put-number.new.0 c.put-number.result
 latency-put c =
     let p = put_one 8 _ (first c).put.ensures (omega arith) (omega arith) in
-    put_word 10 _ p c.put-number.ensures (decimal-length (start (first c)).args.latency 10 (omega arith) (omega arith)) (omega arith)
+    put_word 10 _ p c.put-number.ensures (decimal_length (start (first c)).args.latency 10 (omega arith) (omega arith)) (omega arith)
 
 slice-aggregate-put : tie.Need-slice-aggregate-put
 slice-aggregate-put c = search rules
@@ -34,7 +34,7 @@ put-number-requires : tie.Need-put-number-requires
 put-number-requires c κs = search rules
 
 put-style-requires : tie.Need-put-style-requires
-put-style-requires c κs = put-room 12 (latency-put c.before.before.before) (omega arith)
+put-style-requires c κs = put_room 12 (latency-put c.before.before.before) (omega arith)
 
 slice-aggregate-put-2 : tie.Need-slice-aggregate-put-2
 slice-aggregate-put-2 c = search rules
@@ -48,7 +48,7 @@ same_length c = search rules
 returns : tie.Need-returns
 returns c =
     let style = c.before.before.before.before.before.before.before in
-    let q = put-more (latency-put style.before.before.before.before) style.put-style.ensures in
+    let q = put_more (latency-put style.before.before.before.before) style.put-style.ensures in
     put_as (put_word 3 _ q c.before.before.put2.ensures (omega arith) (omega arith)) refl (omega arith)
 
 pub put-label-spec : {M : Type 1} → statement M

@@ -3,7 +3,7 @@ use mathlib.Core.Path.{refl}
 use native.Mathlib.Omega.{arith}
 use borrow.Author.Rules.{rules}
 use Rattle.text.proofs.BoundedLaws.{put_one, put_word, put_as}
-use Rattle.graph.proofs.DotLaws.{vector-few}
+use Rattle.graph.proofs.DotLaws.{vector_few}
 use Rattle.graph.proofs.dots.put_state.Statement.{statement}
 use Rattle.graph.proofs.dots.put_state.Tie as tie
 
@@ -31,7 +31,7 @@ returns c =
     let quote = columns.before.before.before.before in
     let a = quote.before.before.before.before.args in
     let p = put_one 1 _ quote.put.ensures (omega arith) (omega arith) in
-    let q = put_word 32 _ p columns.put-columns.ensures (vector-few a.columns a.state (omega arith)) (omega arith) in
+    let q = put_word 32 _ p columns.put-columns.ensures (vector_few a.columns a.state (omega arith)) (omega arith) in
     put_as (put_word 1 _ q c.before.before.put2.ensures (omega arith) (omega arith)) refl (omega arith)
 
 pub put-state-spec : {M : Type 1} → statement M

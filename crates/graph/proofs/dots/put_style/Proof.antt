@@ -2,8 +2,8 @@
 use mathlib.Core.Path.{sym, ap}
 use native.Mathlib.Omega.{arith}
 use borrow.Author.Rules.{rules}
-use Rattle.text.proofs.BoundedLaws.{put-start, put_one, put_as}
-use Rattle.graph.specs.Dot.{styleText}
+use Rattle.text.proofs.BoundedLaws.{put_start, put_one, put_as}
+use Rattle.graph.specs.Dot.{style_text}
 use Rattle.graph.proofs.dots.put_style.Statement.{statement}
 use Rattle.graph.proofs.dots.put_style.Tie as tie
 
@@ -17,10 +17,10 @@ same_length : tie.Need-same-length
 same_length c = search rules
 
 returns : tie.Need-returns
-returns c = put_as (put_one 12 _ c.before.before.put.ensures (omega arith) (omega arith)) (ap styleText (sym c.before.before.before.before.before.if1.true)) (omega arith)
+returns c = put_as (put_one 12 _ c.before.before.put.ensures (omega arith) (omega arith)) (ap style_text (sym c.before.before.before.before.before.if1.true)) (omega arith)
 
 returns-2 : tie.Need-returns-2
-returns-2 c = let a = c.before.before.args in put_as (put-start a.out.now a.at (omega arith)) (ap styleText (sym c.if1.false)) (omega arith)
+returns-2 c = let a = c.before.before.args in put_as (put_start a.out.now a.at (omega arith)) (ap style_text (sym c.if1.false)) (omega arith)
 
 pub put-style-spec : {M : Type 1} → statement M
 put-style-spec =

@@ -5,19 +5,19 @@ use native.Mathlib.Nat.{mod-lt}
 use native.Mathlib.Omega.{arith}
 use lib.ListN.{length}
 use borrow.Author.Rules.{rules}
-use Rattle.graph.specs.Dot.{stateBefore}
-use Rattle.graph.proofs.DotLaws.{before-start, before_more}
+use Rattle.graph.specs.Dot.{state_before}
+use Rattle.graph.proofs.DotLaws.{before_start, before_more}
 use Rattle.graph.proofs.dots.settled.Statement.{statement}
 use Rattle.graph.proofs.dots.settled.Tie as tie
 
 abbrev invariant-loop : tie.invariant-loop
-invariant-loop vector cycle state₀ passed₀ state passed = (passed ≤ 32 * length cycle) × (state ≡ stateBefore vector cycle passed)
+invariant-loop vector cycle state₀ passed₀ state passed = (passed ≤ 32 * length cycle) × (state ≡ state_before vector cycle passed)
 
 abbrev decreases-loop : tie.decreases-loop
 decreases-loop vector cycle state₀ passed₀ state passed = 32 * length cycle - passed
 
 loop-holds : tie.Need-loop-init invariant-loop decreases-loop
-loop-holds c = let a = c.before.args in (omega arith, before-start a.vector a.cycle.now)
+loop-holds c = let a = c.before.args in (omega arith, before_start a.vector a.cycle.now)
 
 mul-loop : tie.Need-overflow-mul-loop invariant-loop decreases-loop
 mul-loop c = omega arith
@@ -51,7 +51,7 @@ returns c =
     let l = c.before.loop in
     let a = c.before.before.before.args in
     let e : l.passed ≡ 32 * length a.cycle.now = omega arith in
-    l.invariant.1 ∙ ap (stateBefore a.vector a.cycle.now) e
+    l.invariant.1 ∙ ap (state_before a.vector a.cycle.now) e
 
 pub settled-spec : {M : Type 1} → statement M
 settled-spec =

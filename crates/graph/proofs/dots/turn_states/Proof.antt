@@ -4,7 +4,7 @@ use Prim.Native.Nat.{◌-◌}
 use native.Mathlib.Omega.{arith}
 use lib.ListN.{length}
 use borrow.Author.Rules.{rules}
-use Rattle.graph.proofs.DotLaws.{Turning, turning-start, turning-more, turning-end}
+use Rattle.graph.proofs.DotLaws.{Turning, turning_start, turning-more, turning-end}
 use Rattle.graph.proofs.dots.turn_states.Statement.{statement}
 use Rattle.graph.proofs.dots.turn_states.Tie as tie
 
@@ -18,7 +18,7 @@ settled-requires : tie.Need-settled-requires invariant-loop decreases-loop
 settled-requires c κs = search rules
 
 loop-holds : tie.Need-loop-init invariant-loop decreases-loop
-loop-holds c = let a = c.before.before.args in turning-start a.vector a.cycle.now _ (omega arith) refl c.settled.ensures
+loop-holds c = let a = c.before.before.args in turning_start a.vector a.cycle.now _ (omega arith) refl c.settled.ensures
 
 mul-on : tie.Need-overflow-mul-on invariant-loop decreases-loop
 mul-on c = search rules

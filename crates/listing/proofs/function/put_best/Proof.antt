@@ -4,7 +4,7 @@ use native.Mathlib.Omega.{arith}
 use lib.ListN.{replicate}
 use Rattle.text.specs.Text.{ascii}
 use Rattle.planner.specs.Plans.{Found}
-use Rattle.listing.proofs.StandingLaws.{standing-part, standing-line, search-finds, search-stands}
+use Rattle.listing.proofs.StandingLaws.{standing_part, standing_line, search_finds, search_stands}
 use borrow.Author.Rules.{rules}
 use Rattle.listing.proofs.function.put_best.Statement.{statement}
 use Rattle.listing.proofs.function.put_best.Tie as tie
@@ -20,7 +20,7 @@ start c = c.before.before.before
 
 -- the search found a cycle
 finds : (c : tie.After-search) → Found (start c).args.u (start c).args.tag.0 c.search.result.unit
-finds c = search-finds (replicate 16000 0) refl (start c).requires.0 c.search.ensures
+finds c = search_finds (replicate 16000 0) refl (start c).requires.0 c.search.ensures
 
 cast-count : tie.Need-overflow-cast-count
 cast-count c = search rules
@@ -29,10 +29,10 @@ slice-aggregate-put-cycle : tie.Need-slice-aggregate-put-cycle
 slice-aggregate-put-cycle c = search rules
 
 array-share-prefix-latencies : tie.Need-array-share-prefix-latencies
-array-share-prefix-latencies c = (search-stands (finds c.before.before.before.before.before.before.before)).room
+array-share-prefix-latencies c = (search_stands (finds c.before.before.before.before.before.before.before)).room
 
 slice-aggregate-put-cycle-2 : tie.Need-slice-aggregate-put-cycle-2
-slice-aggregate-put-cycle-2 c = standing-part (search-stands (finds c.before.before.before.before.before.before.before.before))
+slice-aggregate-put-cycle-2 c = standing_part (search_stands (finds c.before.before.before.before.before.before.before.before))
 
 cast-put-cycle : tie.Need-overflow-cast-put-cycle
 cast-put-cycle c = search rules
@@ -40,8 +40,8 @@ cast-put-cycle c = search rules
 put-cycle-requires : tie.Need-put-cycle-requires
 put-cycle-requires c κs =
     let f = c.before.before.before.before.before.before.before.before.before in
-    let s = search-stands (finds f) in
-    omega (arith, s.few, s.counts, standing-part s, (start f).requires.1)
+    let s = search_stands (finds f) in
+    omega (arith, s.few, s.counts, standing_part s, (start f).requires.1)
 
 same_length : tie.Need-same-length
 same_length c = search rules
@@ -53,7 +53,7 @@ returns c =
     record {
       cycle = f.cycle;
       best = λ few. f.best;
-      put = standing-line (ascii "best") 1044 (search-stands f) (omega arith) p.put-cycle.ensures;
+      put = standing_line (ascii "best") 1044 (search_stands f) (omega arith) p.put-cycle.ensures;
     }
 
 pub put-best-spec : {M : Type 1} → statement M

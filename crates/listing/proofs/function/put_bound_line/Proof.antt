@@ -4,12 +4,12 @@ use mathlib.Core.List.{◌++◌}
 use native.Mathlib.Omega.{arith}
 use Rattle.text.specs.Text.{ascii, decimal}
 use Rattle.unit.specs.Unit.{marked}
-use Rattle.collision.specs.Vector.{boundOf, upperOf}
-use Rattle.collision.specs.Answers.{boundAnswer, upperAnswer}
+use Rattle.collision.specs.Vector.{bound_of, upper_of}
+use Rattle.collision.specs.Answers.{bound_answer, upper_answer}
 use Rattle.text.specs.Wrote.{Put}
 use Rattle.text.proofs.BoundedLaws.{put_one}
-use Rattle.listing.proofs.AskedLaws.{value-answering}
-use Rattle.listing.proofs.FunctionLaws.{put-decimal, put-room, bound-line}
+use Rattle.listing.proofs.AskedLaws.{value_answering}
+use Rattle.listing.proofs.FunctionLaws.{put_decimal, put_room, bound_line_lem}
 use borrow.Author.Rules.{rules}
 use Rattle.listing.proofs.function.put_bound_line.Statement.{statement}
 use Rattle.listing.proofs.function.put_bound_line.Tie as tie
@@ -38,13 +38,13 @@ put-number-requires c κs = search rules
 abbrev start : tie.After-value-of2 → tie.Start
 start c = c.before.before.before.before.before
 
-bound-is : (c : tie.After-value-of2) → c.before.before.value_of_lem.result ≡ boundOf (marked (start c).args.u) (start c).args.tag.0
-unfolding boundAnswer
-bound-is c = let v = c.before.before in value-answering _ (start c).requires.0 v.before.bound.ensures v.value_of_lem.ensures
+bound-is : (c : tie.After-value-of2) → c.before.before.value_of_lem.result ≡ bound_of (marked (start c).args.u) (start c).args.tag.0
+unfolding bound_answer
+bound-is c = let v = c.before.before in value_answering _ (start c).requires.0 v.before.bound.ensures v.value_of_lem.ensures
 
-upper_is : (c : tie.After-value-of2) → c.value-of2.result ≡ upperOf (marked (start c).args.u) (start c).args.tag.0
-unfolding upperAnswer
-upper_is c = value-answering _ (start c).requires.0 c.before.upper.ensures c.value-of2.ensures
+upper_is : (c : tie.After-value-of2) → c.value-of2.result ≡ upper_of (marked (start c).args.u) (start c).args.tag.0
+unfolding upper_answer
+upper_is c = value_answering _ (start c).requires.0 c.before.upper.ensures c.value-of2.ensures
 
 abbrev values : tie.After-put-number → tie.After-value-of2
 values c = c.before.before.before.before.before.before.before
@@ -56,7 +56,7 @@ first : (c : tie.After-put-number)
 first c =
     let b = (values c).before.before.value_of_lem in
     let room = (start (values c)).requires.1 in
-    put-decimal b.result (omega (arith, b.ok))
+    put_decimal b.result (omega (arith, b.ok))
     (put_one 6 (ascii "bound ") c.before.before.before.before.put.ensures (omega arith) (omega (arith, room)))
     c.put-number.ensures (omega (arith, room))
 
@@ -66,7 +66,7 @@ slice-aggregate-put-line c = search rules
 put-line-requires : tie.Need-put-line-requires
 put-line-requires c κs =
     let n = c.before.before.before.before in
-    omega (arith, put-room 18 (first n) (omega (arith, (start (values n)).requires.1)))
+    omega (arith, put_room 18 (first n) (omega (arith, (start (values n)).requires.1)))
 
 same_length : tie.Need-same-length
 same_length c = search rules
@@ -75,7 +75,7 @@ returns : tie.Need-returns
 returns c =
     let l = c.before.before in
     let n = l.before.before.before.before.before in
-    bound-line _ _ (bound-is (values n)) (upper_is (values n)) (first n) l.put-line.ensures
+    bound_line_lem _ _ (bound-is (values n)) (upper_is (values n)) (first n) l.put-line.ensures
 
 pub put-bound-line-spec : {M : Type 1} → statement M
 put-bound-line-spec =

@@ -1,8 +1,8 @@
 -- `listing::function::put_constant_line` meets its contract: a word and the constant latency. Assumes nothing.
 use Rattle.text.specs.Text.{ascii}
-use Rattle.collision.specs.Answers.{constantAnswer}
-use Rattle.listing.proofs.AskedLaws.{value-answering}
-use Rattle.listing.proofs.FunctionLaws.{number-line}
+use Rattle.collision.specs.Answers.{constant_answer}
+use Rattle.listing.proofs.AskedLaws.{value_answering}
+use Rattle.listing.proofs.FunctionLaws.{number_line_lem}
 use borrow.Author.Rules.{rules}
 use Rattle.listing.proofs.function.put_constant_line.Statement.{statement}
 use Rattle.listing.proofs.function.put_constant_line.Tie as tie
@@ -23,11 +23,11 @@ same_length : tie.Need-same-length
 same_length c = search rules
 
 returns : tie.Need-returns
-unfolding constantAnswer
+unfolding constant_answer
 returns c =
     let l = c.before.before in
     let v = l.before.before.before in
-    number-line (ascii "constant ") (value-answering _ v.before.before.before.requires.0 v.before.constant.ensures v.value_of_lem.ensures) l.put-line.ensures
+    number_line_lem (ascii "constant ") (value_answering _ v.before.before.before.requires.0 v.before.constant.ensures v.value_of_lem.ensures) l.put-line.ensures
 
 pub put-constant-line-spec : {M : Type 1} → statement M
 put-constant-line-spec =

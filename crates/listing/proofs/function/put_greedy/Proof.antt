@@ -5,8 +5,8 @@ use native.Mathlib.Omega.{arith}
 use lib.ListN.{replicate}
 use Rattle.unit.specs.Unit.{marked}
 use Rattle.text.specs.Text.{ascii}
-use Rattle.cycles.specs.Greedy.{greedyOf}
-use Rattle.listing.proofs.StandingLaws.{Standing, standing-part, standing-line, greedy-handed, greedy-stands}
+use Rattle.cycles.specs.Greedy.{greedy_of}
+use Rattle.listing.proofs.StandingLaws.{Standing, standing_part, standing_line, greedy-handed, greedy-stands}
 use borrow.Author.Rules.{rules}
 use Rattle.listing.proofs.function.put_greedy.Statement.{statement}
 use Rattle.listing.proofs.function.put_greedy.Tie as tie
@@ -38,7 +38,7 @@ call c = c.before.before.before.before.before
 -- the cycle stands in front of the bytes
 stands : (c : tie.After-known-told)
     → Standing
-    (greedyOf 1 (marked (start (call c)).args.u) (start (call c)).args.tag.0)
+    (greedy_of 1 (marked (start (call c)).args.u) (start (call c)).args.tag.0)
     c.before.found.given.0.0.count
     c.before.found.given.0.0.sum
     (call c).greedy.new.1.1.1.0
@@ -56,13 +56,13 @@ array-share-prefix-cycle : tie.Need-array-share-prefix-cycle
 array-share-prefix-cycle c = (stands c.before.before.before).room
 
 slice-aggregate-put-cycle-2 : tie.Need-slice-aggregate-put-cycle-2
-slice-aggregate-put-cycle-2 c = standing-part (stands c.before.before.before.before)
+slice-aggregate-put-cycle-2 c = standing_part (stands c.before.before.before.before)
 
 put-cycle-requires : tie.Need-put-cycle-requires
 put-cycle-requires c κs =
     let t = c.before.before.before.before in
     let s = stands t in
-    omega (arith, s.few, s.counts, standing-part s, (start (call t)).requires.1)
+    omega (arith, s.few, s.counts, standing_part s, (start (call t)).requires.1)
 
 same_length : tie.Need-same-length
 same_length c = search rules
@@ -70,7 +70,7 @@ same_length c = search rules
 returns-2 : tie.Need-returns-2
 returns-2 c =
     let p = c.before.before in
-    standing-line (ascii "greedy") 1046 (stands p.before.before.before.before.before) (omega arith) p.put-cycle.ensures
+    standing_line (ascii "greedy") 1046 (stands p.before.before.before.before.before) (omega arith) p.put-cycle.ensures
 
 pub put-greedy-spec : {M : Type 1} → statement M
 put-greedy-spec =

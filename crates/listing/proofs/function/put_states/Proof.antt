@@ -3,8 +3,8 @@ use native.Mathlib.Omega.{arith}
 use Rattle.text.specs.Text.{ascii}
 use Rattle.listing.specs.Inner.{Small}
 use Rattle.text.proofs.BoundedLaws.{put_one}
-use Rattle.listing.proofs.AskedLaws.{Counted, states-counted, states-refused}
-use Rattle.listing.proofs.FunctionLaws.{number-line, lines-many, lines-few}
+use Rattle.listing.proofs.AskedLaws.{Counted, states_counted, states_refused}
+use Rattle.listing.proofs.FunctionLaws.{number_line_lem, lines-many, lines_few}
 use borrow.Author.Rules.{rules}
 use Rattle.listing.proofs.function.put_states.Statement.{statement}
 use Rattle.listing.proofs.function.put_states.Tie as tie
@@ -38,7 +38,7 @@ returns c =
     let p = c.before.before in
     let t = p.before.before.before in
     let n = t.before.before.before in
-    lines-many (states-refused (start n).requires.0 n.states.ensures.0 t.enum_told.given.1)
+    lines-many (states_refused (start n).requires.0 n.states.ensures.0 t.enum_told.given.1)
     (put_one 10 (ascii "refused 7\n") p.put.ensures (omega arith) (omega (arith, (start n).requires.1)))
 
 abbrev call : tie.After-known-told → tie.After-states
@@ -46,7 +46,7 @@ call c = c.before.before.before.before
 
 -- the states are few, and this is their number
 counted : (c : tie.After-known-told) → Counted (start (call c)).args.u (start (call c)).args.tag.0 c.before.counted.given.0.0
-counted c = states-counted (start (call c)).requires.0 (call c).states.ensures.0 c.before.counted.given.1
+counted c = states_counted (start (call c)).requires.0 (call c).states.ensures.0 c.before.counted.given.1
 
 small : (c : tie.After-known-told) → Small (start (call c)).args.u (start (call c)).args.tag.0
 small c = record { function = (start (call c)).requires.0; few = (counted c).few }
@@ -72,7 +72,7 @@ returns-2 c =
     let g = b.before.before.before.before in
     let l = g.before.before.before.before in
     let n = counted l.before.before.before in
-    lines-few n.few (number-line (ascii "states ") n.states l.put-line.ensures) g.put-greedy.ensures b.put-best.ensures
+    lines_few n.few (number_line_lem (ascii "states ") n.states l.put-line.ensures) g.put-greedy.ensures b.put-best.ensures
 
 pub put-states-spec : {M : Type 1} → statement M
 put-states-spec =

@@ -5,7 +5,7 @@ use native.Mathlib.Omega.{arith}
 use borrow.Author.Rules.{rules}
 use lib.ListN.{length}
 use Rattle.text.specs.Text.{decimal}
-use Rattle.text.proofs.DecimalLaws.{decimal-length}
+use Rattle.text.proofs.DecimalLaws.{decimal_length}
 use Rattle.text.proofs.BoundedLaws.{put_word, put_as, put_one}
 use Rattle.listing.proofs.lines.put_line.Statement.{statement}
 use Rattle.listing.proofs.lines.put_line.Tie as tie
@@ -30,7 +30,7 @@ returns c =
     let number = c.before.before.before.before.before.before.before in
     let first = number.before.before.before.before in
     let a = first.before.before.before.before.args in
-    let d : length (decimal a.number) ≤ 10 = decimal-length a.number 10 (omega arith) (omega arith) in
+    let d : length (decimal a.number) ≤ 10 = decimal_length a.number 10 (omega arith) (omega arith) in
     let p₁ = put_one (length a.word.now) _ first.put.ensures (omega arith) (omega arith) in
     let p₂ = put_word 10 _ p₁ number.put-number.ensures d (omega arith) in
     let p₃ = put_word 1 _ p₂ c.before.before.put2.ensures (omega arith) (omega arith) in

@@ -5,9 +5,9 @@ use native.Mathlib.Omega.{arith}
 use borrow.Author.Rules.{rules}
 use lib.ListN.{length}
 use Rattle.words.specs.Bits.{is_set}
-use Rattle.words.proofs.BelowLaws.{span-most}
-use Rattle.text.specs.Text.{vectorText}
-use Rattle.text.proofs.RowLaws.{vector-most}
+use Rattle.words.proofs.BelowLaws.{span_most}
+use Rattle.text.specs.Text.{vector_text}
+use Rattle.text.proofs.RowLaws.{vector_most}
 use Rattle.diagram.specs.Diagram.{width}
 use Rattle.text.proofs.BoundedLaws.{put_as, put_one}
 use Rattle.listing.proofs.lines.put_vector.Statement.{statement}
@@ -28,10 +28,10 @@ returns c =
     let a = w.before.before.before.args in
     let n = w.width_of_lem.result in
     let e : n ≡ width a.vector = w.width_of_lem.ensures in
-    let few : length (vectorText n a.vector) ≤ 32 =
-    vector-most n a.vector 32 (omega arith) (omega (arith, span-most 32 (is_set a.vector)))
+    let few : length (vector_text n a.vector) ≤ 32 =
+    vector_most n a.vector 32 (omega arith) (omega (arith, span_most 32 (is_set a.vector)))
     in
-    put_as (put_one 32 _ c.before.before.put-columns.ensures few (omega arith)) (ap (λ k. vectorText k a.vector) e) (omega arith)
+    put_as (put_one 32 _ c.before.before.put-columns.ensures few (omega arith)) (ap (λ k. vector_text k a.vector) e) (omega arith)
 
 pub put-vector-spec : {M : Type 1} → statement M
 put-vector-spec = tie.close (tie.spec width-of-requires put-columns-requires same_length returns)

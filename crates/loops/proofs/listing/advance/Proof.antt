@@ -1,7 +1,7 @@
 -- `loops::listing::advance` meets its contract. Assumes nothing.
 use mathlib.Core.Path.{ap, ◌∙◌}
 use Rattle.loops.specs.Inner.{begun}
-use Rattle.loops.proofs.RuleLaws.{position-is}
+use Rattle.loops.proofs.RuleLaws.{position_is}
 use borrow.Author.Rules.{rules}
 use Rattle.loops.proofs.listing.advance.Statement.{statement}
 use Rattle.loops.proofs.listing.advance.Tie as tie
@@ -14,7 +14,7 @@ next-position-requires c κs = search rules
 started-requires : tie.Need-started-requires
 started-requires c κs =
     let pre = c.before.before.requires in
-    (position-is _ _ _ pre.0 c.before.next-position.ensures, pre.1.1)
+    (position_is _ _ _ pre.0 c.before.next-position.ensures, pre.1.1)
 
 -- src/listing.rt:67:1
 returns : tie.Need-returns

@@ -1,7 +1,7 @@
 -- `loops::listing::explore` meets its contract: the states before the present place are done. Assumes nothing.
 use mathlib.Core.Path.{◌∙◌}
 use Prim.Native.Nat.{◌-◌}
-use Rattle.loops.proofs.FollowLaws.{Exploring, explore-more, explored-over, explored-all, begin-size, begin-high, explore-begin}
+use Rattle.loops.proofs.FollowLaws.{Exploring, explore_more, explored_over, explored_all, begin-size, begin-high, explore-begin}
 use native.Mathlib.Omega.{arith}
 use Rattle.loops.proofs.listing.explore.Statement.{statement}
 use Rattle.loops.proofs.listing.explore.Tie as tie
@@ -42,13 +42,13 @@ follow-requires c κs =
 same_length : tie.Need-same-length invariant-loop decreases-loop
 same_length c =
     let put = c.before.before.before.before.before.before.before.before.before.put.ensures in
-    (explored-over {w = c.before.before.before.before.before.before.before.before.before.before.before.before.before.args.work.now} (begin-size c.before.before.before.before.before.before.before.before.before.before.before.before.before.args.work.now c.before.before.before.before.before.before.before.before.before.put.new.0 c.before.before.before.before.before.before.before.before.before.before.before.started.result put) (begin-high c.before.before.before.before.before.before.before.before.before.before.before.before.before.args.work.now c.before.before.before.before.before.before.before.before.before.put.new.0 c.before.before.before.before.before.before.before.before.before.before.before.started.result put) c.before.before.before.before.before.before.loop.invariant c.before.before.before.before.before.loop-test.true c.before.before.before.follow.ensures c.if1.true).size
+    (explored_over {w = c.before.before.before.before.before.before.before.before.before.before.before.before.before.args.work.now} (begin-size c.before.before.before.before.before.before.before.before.before.before.before.before.before.args.work.now c.before.before.before.before.before.before.before.before.before.put.new.0 c.before.before.before.before.before.before.before.before.before.before.before.started.result put) (begin-high c.before.before.before.before.before.before.before.before.before.before.before.before.before.args.work.now c.before.before.before.before.before.before.before.before.before.put.new.0 c.before.before.before.before.before.before.before.before.before.before.before.started.result put) c.before.before.before.before.before.before.loop.invariant c.before.before.before.before.before.loop-test.true c.before.before.before.follow.ensures c.if1.true).size
 
 -- src/listing.rt:163:13
 returns : tie.Need-returns invariant-loop decreases-loop
 returns c =
     let put = c.before.before.before.before.before.before.before.before.before.put.ensures in
-    explored-over {w = c.before.before.before.before.before.before.before.before.before.before.before.before.before.args.work.now} (begin-size c.before.before.before.before.before.before.before.before.before.before.before.before.before.args.work.now c.before.before.before.before.before.before.before.before.before.put.new.0 c.before.before.before.before.before.before.before.before.before.before.before.started.result put) (begin-high c.before.before.before.before.before.before.before.before.before.before.before.before.before.args.work.now c.before.before.before.before.before.before.before.before.before.put.new.0 c.before.before.before.before.before.before.before.before.before.before.before.started.result put) c.before.before.before.before.before.before.loop.invariant c.before.before.before.before.before.loop-test.true c.before.before.before.follow.ensures c.if1.true
+    explored_over {w = c.before.before.before.before.before.before.before.before.before.before.before.before.before.args.work.now} (begin-size c.before.before.before.before.before.before.before.before.before.before.before.before.before.args.work.now c.before.before.before.before.before.before.before.before.before.put.new.0 c.before.before.before.before.before.before.before.before.before.before.before.started.result put) (begin-high c.before.before.before.before.before.before.before.before.before.before.before.before.before.args.work.now c.before.before.before.before.before.before.before.before.before.put.new.0 c.before.before.before.before.before.before.before.before.before.before.before.started.result put) c.before.before.before.before.before.before.loop.invariant c.before.before.before.before.before.loop-test.true c.before.before.before.follow.ensures c.if1.true
 
 -- src/listing.rt:165:9
 add_at : tie.Need-overflow-add-at invariant-loop decreases-loop
@@ -60,7 +60,7 @@ loop-less c = omega (arith, c.before.before.before.before.before.loop-test.true,
 
 -- src/listing.rt:160:5
 loop-again : tie.Need-loop-preserved invariant-loop decreases-loop
-loop-again c = explore-more c.before.before.before.before.before.before.loop.invariant c.before.before.before.before.before.loop-test.true c.before.before.before.follow.ensures c.if1.false
+loop-again c = explore_more c.before.before.before.before.before.before.loop.invariant c.before.before.before.before.before.loop-test.true c.before.before.before.follow.ensures c.if1.false
 
 -- src/listing.rt:145:1
 same-length-2 : tie.Need-same-length-2 invariant-loop decreases-loop
@@ -72,7 +72,7 @@ same-length-2 c =
 returns-2 : tie.Need-returns-2 invariant-loop decreases-loop
 returns-2 c =
     let put = c.before.before.before.before.put.ensures in
-    explored-all (begin-size c.before.before.before.before.before.before.before.before.args.work.now c.before.before.before.before.put.new.0 c.before.before.before.before.before.before.started.result put) (begin-high c.before.before.before.before.before.before.before.before.args.work.now c.before.before.before.before.put.new.0 c.before.before.before.before.before.before.started.result put) c.before.loop.invariant c.loop-test.false
+    explored_all (begin-size c.before.before.before.before.before.before.before.before.args.work.now c.before.before.before.before.put.new.0 c.before.before.before.before.before.before.started.result put) (begin-high c.before.before.before.before.before.before.before.before.args.work.now c.before.before.before.before.put.new.0 c.before.before.before.before.before.before.started.result put) c.before.loop.invariant c.loop-test.false
 
 pub explore-spec : {M : Type 1} → statement M
 explore-spec =

@@ -3,7 +3,7 @@ use mathlib.Core.Path.{sym, subst}
 use Prim.Native.Nat.{◌-◌, ◌<◌}
 use lib.ListN.{length-set}
 use Rattle.loops.specs.declared.State.{State}
-use Rattle.loops.proofs.FollowLaws.{Following, follow-start, follow-more, mark-stocked, followed-over, followed-all}
+use Rattle.loops.proofs.FollowLaws.{Following, follow_start, follow_more, mark-stocked, followed-over, followed-all}
 use native.Mathlib.Omega.{arith}
 use Rattle.loops.proofs.listing.follow.Statement.{statement}
 use Rattle.loops.proofs.listing.follow.Tie as tie
@@ -42,7 +42,7 @@ slice-write-work c =
 loop-holds : tie.Need-loop-init invariant-loop decreases-loop
 loop-holds c =
     let ready = c.before.before.before.before.requires.1 in
-    follow-start _ _ _ _ _ ready.few (mark-stocked _ c.before.before.before.before.args.rules _ _ ready _)
+    follow_start _ _ _ _ _ ready.few (mark-stocked _ c.before.before.before.before.args.rules _ _ ready _)
 
 -- src/listing.rt:135:9
 turn-requires : tie.Need-turn-requires invariant-loop decreases-loop
@@ -81,7 +81,7 @@ loop-less c = omega arith
 loop-again : tie.Need-loop-preserved invariant-loop decreases-loop
 loop-again c =
     let ready = c.before.before.before.before.before.before.before.before.before.before.before.requires.1 in
-    follow-more c.before.before.before.before.before.before.loop.invariant ready.inside c.before.before.before.before.before.loop-test.true c.before.before.before.turn.ensures c.if1.false
+    follow_more c.before.before.before.before.before.before.loop.invariant ready.inside c.before.before.before.before.before.loop-test.true c.before.before.before.turn.ensures c.if1.false
 
 -- src/listing.rt:124:1
 same-length-2 : tie.Need-same-length-2 invariant-loop decreases-loop

@@ -1,6 +1,6 @@
 -- `loops::listing::lead` meets its contract. Assumes nothing.
 use mathlib.Core.Path.{sym, ◌∙◌}
-use Rattle.loops.proofs.TurnLaws.{led-long, led-barred, led_on}
+use Rattle.loops.proofs.TurnLaws.{led_long, led_barred, led_on}
 use borrow.Author.Rules.{rules}
 use Rattle.loops.proofs.listing.lead.Statement.{statement}
 use Rattle.loops.proofs.listing.lead.Tie as tie
@@ -11,7 +11,7 @@ add-if1 c = search rules
 
 -- src/listing.rt:85:9
 returns : tie.Need-returns
-returns c = led-long _ _ _ _ _ _ c.if1.true
+returns c = led_long _ _ _ _ _ _ c.if1.true
 
 -- src/listing.rt:87:26
 sub-test : tie.Need-overflow-sub-test
@@ -23,7 +23,7 @@ test-requires c κs = search rules
 
 -- src/listing.rt:88:9
 returns-2 : tie.Need-returns-2
-returns-2 c = led-barred _ _ _ _ _ _ (sym c.before.test.ensures ∙ c.if2.true)
+returns-2 c = led_barred _ _ _ _ _ _ (sym c.before.test.ensures ∙ c.if2.true)
 
 -- src/listing.rt:90:9
 advance-requires : tie.Need-advance-requires

@@ -2,7 +2,7 @@
 use mathlib.Core.Path.{ap, ◌∙◌}
 use lib.ListN.{get_or}
 use Rattle.controller.specs.Bank.{register}
-use Rattle.loops.proofs.RuleLaws.{position-is}
+use Rattle.loops.proofs.RuleLaws.{position_is}
 use borrow.Author.Rules.{rules}
 use Rattle.loops.proofs.listing.mask.Statement.{statement}
 use Rattle.loops.proofs.listing.mask.Tie as tie
@@ -17,7 +17,7 @@ cast-p c = search rules
 
 -- src/listing.rt:32:15
 element-copy-out-tag : tie.Need-element-copy-out-tag
-element-copy-out-tag c = position-is _ _ _ c.before.before.requires.0 c.before.next-position.ensures
+element-copy-out-tag c = position_is _ _ _ c.before.before.requires.0 c.before.next-position.ensures
 
 -- src/listing.rt:33:5
 register-of-requires : tie.Need-register-of-requires

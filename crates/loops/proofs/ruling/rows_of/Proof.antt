@@ -3,14 +3,14 @@ use mathlib.Core.Path.{◌≡◌}
 use Prim.Native.Nat.{ℕ, ◌+◌, ◌-◌, ◌/◌, ◌%◌, ◌≤◌, ◌<◌}
 use native.Mathlib.Nat.{not-suc-le-zero}
 use lib.ListN.{length, get_or, length-set, length-replicate}
-use Rattle.controller.specs.Bank.{rowFor}
+use Rattle.controller.specs.Bank.{row_for}
 use Rattle.loops.proofs.RulingLaws.{fill_more}
 use native.Mathlib.Omega.{arith}
 use Rattle.loops.proofs.ruling.rows_of.Statement.{statement}
 use Rattle.loops.proofs.ruling.rows_of.Tie as tie
 
 abbrev invariant-loop : tie.invariant-loop
-invariant-loop u tags end rows₀ a₀ rows a = ((b : ℕ) → b < a → get_or rows b 0 ≡ rowFor u (get_or tags (b / 4) 0) (b % 4 + 1)) × ((length rows ≡ 32) × (a ≤ end))
+invariant-loop u tags end rows₀ a₀ rows a = ((b : ℕ) → b < a → get_or rows b 0 ≡ row_for u (get_or tags (b / 4) 0) (b % 4 + 1)) × ((length rows ≡ 32) × (a ≤ end))
 
 abbrev decreases-loop : tie.decreases-loop
 decreases-loop u tags end rows₀ a₀ rows a = end - a
@@ -60,7 +60,7 @@ loop-again : tie.Need-loop-preserved invariant-loop decreases-loop
 loop-again c =
     let i = c.before.before.before.loop.invariant in
     let start = c.before.before.before.before.before.args in (
-      fill_more (λ b. rowFor start.u (get_or start.tags.now (b / 4) 0) (b % 4 + 1)) c.before.before.before.loop.rows c.before.before.before.loop.a c.row-for.result (omega (arith, i.1.0, c.before.before.loop-test.true)) i.0 c.row-for.ensures,
+      fill_more (λ b. row_for start.u (get_or start.tags.now (b / 4) 0) (b % 4 + 1)) c.before.before.before.loop.rows c.before.before.before.loop.a c.row-for.result (omega (arith, i.1.0, c.before.before.loop-test.true)) i.0 c.row-for.ensures,
       (simp length-set i.1.0, omega arith),
     )
 

@@ -1,5 +1,5 @@
 -- `loops::ruling::span` meets its contract. Assumes nothing.
-use Rattle.loops.proofs.RulingLaws.{span-is}
+use Rattle.loops.proofs.RulingLaws.{span_is}
 use borrow.Author.Rules.{rules}
 use Rattle.loops.proofs.ruling.span.Statement.{statement}
 use Rattle.loops.proofs.ruling.span.Tie as tie
@@ -22,7 +22,7 @@ width-of-requires c κs = search rules
 
 -- src/ruling.rt:26:1
 returns : tie.Need-returns
-returns c = span-is _ _ _ _ _ _ _ c.before.before.before.columns_of.ensures c.before.before.columns-of2.ensures c.before.row_of.ensures c.width_of_lem.ensures
+returns c = span_is _ _ _ _ _ _ _ c.before.before.before.columns_of.ensures c.before.before.columns-of2.ensures c.before.row_of.ensures c.width_of_lem.ensures
 
 pub span-spec : {M : Type 1} → statement M
 span-spec =

@@ -3,8 +3,8 @@ use mathlib.Core.Path.{◌≡◌, sym, ◌∙◌}
 use Prim.Native.Nat.{ℕ, ◌-◌, ◌≤◌, ◌<◌}
 use native.Mathlib.Nat.{not-suc-le-zero}
 use Rattle.loops.specs.Inner.{state_of}
-use Rattle.loops.proofs.RuleLaws.{same-yes, same-no}
-use Rattle.loops.proofs.TurnLaws.{found_at, found_none, found-more}
+use Rattle.loops.proofs.RuleLaws.{same_yes, same_no}
+use Rattle.loops.proofs.TurnLaws.{found_at, found_none, found_more}
 use native.Mathlib.Omega.{arith}
 use Rattle.loops.proofs.store.find.Statement.{statement}
 use Rattle.loops.proofs.store.find.Tie as tie
@@ -29,7 +29,7 @@ same-requires c κs = tt {0}
 
 -- src/store.rt:59:13
 returns : tie.Need-returns invariant-loop decreases-loop
-returns c = found_at _ _ _ _ _ c.before.before.before.loop-test.true c.before.before.get.ensures (same-yes _ _ (sym c.before.same.ensures ∙ c.if1.true))
+returns c = found_at _ _ _ _ _ c.before.before.before.loop-test.true c.before.before.get.ensures (same_yes _ _ (sym c.before.same.ensures ∙ c.if1.true))
 
 -- src/store.rt:61:9
 add-i : tie.Need-overflow-add-i invariant-loop decreases-loop
@@ -42,7 +42,7 @@ loop-less c = omega arith
 -- src/store.rt:56:5
 loop-again : tie.Need-loop-preserved invariant-loop decreases-loop
 loop-again c =
-    (found-more c.before.before.before.before.before.before.args.work.now _ _ _ c.before.before.before.before.loop.invariant.0 c.before.before.get.ensures (same-no _ _ (sym c.before.same.ensures ∙ c.if1.false)), omega arith)
+    (found_more c.before.before.before.before.before.before.args.work.now _ _ _ c.before.before.before.before.loop.invariant.0 c.before.before.get.ensures (same_no _ _ (sym c.before.same.ensures ∙ c.if1.false)), omega arith)
 
 -- src/store.rt:51:1
 returns-2 : tie.Need-returns-2 invariant-loop decreases-loop

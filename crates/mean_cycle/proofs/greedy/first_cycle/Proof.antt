@@ -2,9 +2,9 @@
 use Prim.Native.Nat.{◌+◌, ◌-◌}
 use native.Mathlib.Omega.{arith}
 use lib.ListN.{length-set}
-use Rattle.mean_cycle.proofs.Frames.{listing-few}
-use Rattle.mean_cycle.proofs.Rounds.{round-frame}
-use Rattle.mean_cycle.proofs.FirstCycle.{Walking, walk_inside, walk-fresh, walk-fewer, walk_start, walk_more, walk-copyable, walk_end}
+use Rattle.mean_cycle.proofs.Frames.{listing_few}
+use Rattle.mean_cycle.proofs.Rounds.{round_frame}
+use Rattle.mean_cycle.proofs.FirstCycle.{Walking, walk_inside, walk_fresh, walk_fewer, walk_start, walk_more, walk-copyable, walk_end}
 use Rattle.mean_cycle.proofs.greedy.first_cycle.Statement.{statement}
 use Rattle.mean_cycle.proofs.greedy.first_cycle.Tie as tie
 
@@ -15,7 +15,7 @@ abbrev decreases-loop : tie.decreases-loop
 decreases-loop work₀ graph v₀ i₀ work v i = graph.nodes - i
 
 reset-requires : tie.Need-reset-requires invariant-loop decreases-loop
-reset-requires c κs = (listing-few c.before.before.requires, c.before.before.requires.room)
+reset-requires c κs = (listing_few c.before.before.requires, c.before.before.requires.room)
 
 loop-holds : tie.Need-loop-init invariant-loop decreases-loop
 loop-holds c = walk_start c.before.before.before.before.before.requires c.before.before.reset.ensures
@@ -47,12 +47,12 @@ copy-requires c κs = walk-copyable _ _ _ _ _ c.before.before.before.loop.invari
 same_length : tie.Need-same-length invariant-loop decreases-loop
 same_length c =
     let turn = c.before.before.before.before in
-    (walk_end _ _ _ _ _ turn.before.before.loop.invariant turn.if1.true _ _ c.before.before.copy.ensures (round-frame turn.before.before.before.before.before.reset.ensures)).frame.size
+    (walk_end _ _ _ _ _ turn.before.before.loop.invariant turn.if1.true _ _ c.before.before.copy.ensures (round_frame turn.before.before.before.before.before.reset.ensures)).frame.size
 
 returns : tie.Need-returns invariant-loop decreases-loop
 returns c =
     let turn = c.before.before.before.before in
-    walk_end _ _ _ _ _ turn.before.before.loop.invariant turn.if1.true _ _ c.before.before.copy.ensures (round-frame turn.before.before.before.before.before.reset.ensures)
+    walk_end _ _ _ _ _ turn.before.before.loop.invariant turn.if1.true _ _ c.before.before.copy.ensures (round_frame turn.before.before.before.before.before.reset.ensures)
 
 least-requires : tie.Need-least-requires invariant-loop decreases-loop
 least-requires c κs = (c.before.before.before.loop.invariant.listing, c.before.before.before.loop.invariant.inside)
@@ -87,26 +87,26 @@ cast-work-2 c = omega (arith, c.before.least.ensures.high)
 
 add-work-3 : tie.Need-overflow-add-work-3 invariant-loop decreases-loop
 add-work-3 c =
-    let i = walk-fresh c.before.before.before.before.before.loop.invariant c.before.before.before.if1.false in
+    let i = walk_fresh c.before.before.before.before.before.loop.invariant c.before.before.before.if1.false in
     omega arith
 
 mul-work-2 : tie.Need-overflow-mul-work-2 invariant-loop decreases-loop
 mul-work-2 c =
-    let i = walk-fresh c.before.before.before.before.before.loop.invariant c.before.before.before.if1.false in
+    let i = walk_fresh c.before.before.before.before.before.loop.invariant c.before.before.before.if1.false in
     omega arith
 
 slice-write-work-2 : tie.Need-slice-write-work-2 invariant-loop decreases-loop
 slice-write-work-2 c =
-    let i = walk-fresh c.before.before.before.before.before.loop.invariant c.before.before.before.if1.false in
+    let i = walk_fresh c.before.before.before.before.before.loop.invariant c.before.before.before.if1.false in
     simp length-set (omega arith)
 
 add-i : tie.Need-overflow-add-i invariant-loop decreases-loop
 add-i c =
-    let i = walk-fresh c.before.before.before.before.before.loop.invariant c.before.before.before.if1.false in
+    let i = walk_fresh c.before.before.before.before.before.loop.invariant c.before.before.before.if1.false in
     omega arith
 
 loop-less : tie.Need-loop-smaller invariant-loop decreases-loop
-loop-less c = omega (arith, walk-fewer c.before.before.before.before.before.loop.invariant c.before.before.before.if1.false)
+loop-less c = omega (arith, walk_fewer c.before.before.before.before.before.loop.invariant c.before.before.before.if1.false)
 
 loop-again : tie.Need-loop-preserved invariant-loop decreases-loop
 loop-again c = walk_more _ _ _ _ _ _ _ c.before.before.before.before.before.loop.invariant c.before.before.before.if1.false c.before.least.ensures

@@ -1,7 +1,7 @@
 -- `mean_cycle::greedy::least` meets its contract: the next 0 of a state stands at column n at the latest. Assumes nothing.
 use native.Mathlib.Omega.{arith}
 use borrow.Author.Rules.{rules}
-use Rattle.mean_cycle.proofs.Targets.{least-permits}
+use Rattle.mean_cycle.proofs.Targets.{least_permits}
 use Rattle.mean_cycle.proofs.greedy.least.Statement.{statement}
 use Rattle.mean_cycle.proofs.greedy.least.Tie as tie
 
@@ -17,7 +17,7 @@ next-latency-requires c κs = search rules
 target-requires : tie.Need-target-requires
 target-requires c κs =
     let pre = c.before.before.before.requires in
-    (pre.0, (pre.1, least-permits pre.0 pre.1 (omega arith) c.next-latency.ensures))
+    (pre.0, (pre.1, least_permits pre.0 pre.1 (omega arith) c.next-latency.ensures))
 
 returns : tie.Need-returns
 returns c = search rules

@@ -1,7 +1,7 @@
 -- `mean_cycle::search::climb` meets its contract: what leads on from y leads on from v, and the links end within the nodes. Assumes nothing.
 use Prim.Native.Nat.{◌+◌, ◌-◌}
 use native.Mathlib.Omega.{arith}
-use Rattle.mean_cycle.proofs.Turns.{Climbing, climb-start, climb-more, climb-met, climb-missed}
+use Rattle.mean_cycle.proofs.Turns.{Climbing, climb_start, climb_more, climb_met, climb_missed}
 use Rattle.mean_cycle.proofs.search.climb.Statement.{statement}
 use Rattle.mean_cycle.proofs.search.climb.Tie as tie
 
@@ -12,10 +12,10 @@ abbrev decreases-loop : tie.decreases-loop
 decreases-loop work n v x y₀ k₀ y k = n - k
 
 loop-holds : tie.Need-loop-init invariant-loop decreases-loop
-loop-holds c = climb-start _ (omega arith) c.requires.1
+loop-holds c = climb_start _ (omega arith) c.requires.1
 
 returns : tie.Need-returns invariant-loop decreases-loop
-returns c = climb-met c.before.before.loop.invariant c.before.loop-test.true c.if1.true
+returns c = climb_met c.before.before.loop.invariant c.before.loop-test.true c.if1.true
 
 add-p : tie.Need-overflow-add-p invariant-loop decreases-loop
 add-p c = omega (arith, c.before.before.loop.invariant.here, c.before.before.before.requires.0.0, c.before.before.before.requires.0.1.0)
@@ -30,7 +30,7 @@ cast-p : tie.Need-overflow-cast-p invariant-loop decreases-loop
 cast-p c = omega (arith, c.shared-slice-known.given (1024 + c.before.before.before.loop.y))
 
 returns-2 : tie.Need-returns-2 invariant-loop decreases-loop
-returns-2 c = climb-missed c.before.before.before.before.loop.invariant c.before.before.if1.false c.if2.true
+returns-2 c = climb_missed c.before.before.before.before.loop.invariant c.before.before.if1.false c.if2.true
 
 add-k : tie.Need-overflow-add-k invariant-loop decreases-loop
 add-k c = omega (arith, c.before.before.before.loop-test.true, c.before.before.before.before.before.requires.0.0)
@@ -39,7 +39,7 @@ loop-less : tie.Need-loop-smaller invariant-loop decreases-loop
 loop-less c = omega (arith, c.before.before.before.loop-test.true)
 
 loop-again : tie.Need-loop-preserved invariant-loop decreases-loop
-loop-again c = climb-more c.before.before.before.before.loop.invariant c.before.before.if1.false c.if2.false
+loop-again c = climb_more c.before.before.before.before.loop.invariant c.before.before.if1.false c.if2.false
 
 returns-3 : tie.Need-returns-3 invariant-loop decreases-loop
 returns-3 c = absurd (omega arith)

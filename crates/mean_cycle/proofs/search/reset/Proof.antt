@@ -4,7 +4,7 @@ use native.Mathlib.Omega.{arith}
 use borrow.Author.Rules.{rules}
 use lib.ListN.{length-set}
 use Rattle.mean_cycle.specs.Inner.{Cleared}
-use Rattle.mean_cycle.proofs.Turns.{cleared-none, cleared_more, cleared-all}
+use Rattle.mean_cycle.proofs.Turns.{cleared_none, cleared_more, cleared_all}
 use Rattle.mean_cycle.proofs.search.reset.Statement.{statement}
 use Rattle.mean_cycle.proofs.search.reset.Tie as tie
 
@@ -15,7 +15,7 @@ abbrev decreases-loop : tie.decreases-loop
 decreases-loop work₀ nodes y₀ work y = nodes - y
 
 loop-holds : tie.Need-loop-init invariant-loop decreases-loop
-loop-holds c = (search rules, cleared-none _)
+loop-holds c = (search rules, cleared_none _)
 
 add-work : tie.Need-overflow-add-work invariant-loop decreases-loop
 add-work c = omega (arith, c.loop-test.true, c.before.before.requires.0)
@@ -48,7 +48,7 @@ same_length : tie.Need-same-length invariant-loop decreases-loop
 same_length c = c.before.loop.invariant.1.within.size
 
 returns : tie.Need-returns invariant-loop decreases-loop
-returns c = cleared-all c.before.loop.invariant.1 (omega arith)
+returns c = cleared_all c.before.loop.invariant.1 (omega arith)
 
 pub reset-spec : {M : Type 1} → statement M
 reset-spec =

@@ -2,8 +2,8 @@
 use Prim.Native.Nat.{◌+◌}
 use native.Mathlib.Omega.{arith}
 use borrow.Author.Rules.{rules}
-use Rattle.mean_cycle.proofs.Frames.{ready-few, ready-cost, ready_held, tree-ends}
-use Rattle.mean_cycle.proofs.Steps.{calm-arc, stepped-still, stepped-found, stepped-moved, gain-fits}
+use Rattle.mean_cycle.proofs.Frames.{ready_few, ready_cost, ready_held, tree_ends}
+use Rattle.mean_cycle.proofs.Steps.{calm_arc, stepped_still, stepped_found, stepped_moved, gain_fits}
 use Rattle.mean_cycle.proofs.search.step.Statement.{statement}
 use Rattle.mean_cycle.proofs.search.step.Tie as tie
 
@@ -31,7 +31,7 @@ add-up-2 c =
 mul-cost : tie.Need-overflow-mul-cost
 mul-cost c =
     let start = c.before.before.before.before in
-    omega (arith, ready-cost start.args.t start.requires.0 (omega (arith, start.requires.1.1.1.small)))
+    omega (arith, ready_cost start.args.t start.requires.0 (omega (arith, start.requires.1.1.1.small)))
 
 add-down : tie.Need-overflow-add-down
 add-down c = search rules
@@ -49,7 +49,7 @@ add-down-2 : tie.Need-overflow-add-down-2
 add-down-2 c =
     let called = c.before.before in
     let start = called.before.before.before in
-    omega (arith, c.slice-known3.given (768 + called.target.result), ready-cost start.args.t start.requires.0 (omega (arith, start.requires.1.1.1.small)))
+    omega (arith, c.slice-known3.given (768 + called.target.result), ready_cost start.args.t start.requires.0 (omega (arith, start.requires.1.1.1.small)))
 
 still-requires : tie.Need-still-requires
 still-requires c κs = search rules
@@ -61,12 +61,12 @@ returns : tie.Need-returns
 returns c =
     let called = c.before.before.before.before in
     let pre = called.before.before.before.requires in
-    stepped-still pre.0 pre.1.0 (calm-arc called.before.before.before.args.best pre.0.listing called.target.ensures c.before.if1.true) c.still.ensures.0 c.still.ensures.1
+    stepped_still pre.0 pre.1.0 (calm_arc called.before.before.before.args.best pre.0.listing called.target.ensures c.before.if1.true) c.still.ensures.0 c.still.ensures.1
 
 climb-requires : tie.Need-climb-requires
 climb-requires c κs =
     let pre = c.before.before.before.before.before.before.before.requires in
-    ((ready-few pre.0, (pre.0.listing.room, pre.1.1.0)), tree-ends pre.1.0 _ pre.1.1.0)
+    ((ready_few pre.0, (pre.0.listing.room, pre.1.1.0)), tree_ends pre.1.0 _ pre.1.1.0)
 
 trace-requires : tie.Need-trace-requires
 trace-requires c κs =
@@ -76,7 +76,7 @@ trace-requires c κs =
     record {
       n = start.args.graph.nodes;
       x = called.target.result;
-      few = ready-few pre.0;
+      few = ready_few pre.0;
       room = pre.0.listing.room;
       here = pre.1.1.0;
       low = called.target.ensures.high;
@@ -95,12 +95,12 @@ returns-2 : tie.Need-returns-2
 returns-2 c =
     let called = c.before.before.before.before.before.before.before.before.before.before in
     let pre = called.before.before.before.requires in
-    stepped-found _ _ _ _ _ _ _ _ _
-    (ready-few pre.0)
+    stepped_found _ _ _ _ _ _ _ _ _
+    (ready_few pre.0)
     pre.1.0
     called.target.ensures
     (c.before.before.before.before.before.climb.ensures.met c.before.before.before.before.if2.true)
-    (tree-ends pre.1.0 _ pre.1.1.0)
+    (tree_ends pre.1.0 _ pre.1.1.0)
     c.before.before.trace.ensures
     c.before.before.before.before.before.before.before.if1.false
 
@@ -112,7 +112,7 @@ relink-requires c κs =
     let called = c.before.before.before.before.before.before.before in
     let pre = called.before.before.before.requires in
     let arc = called.target.ensures in
-    omega (arith, gain-fits pre.0 pre.1.0 pre.1.1.0, ready-few pre.0, pre.0.listing.room, arc.leaves, arc.enters, arc.high)
+    omega (arith, gain_fits pre.0 pre.1.0 pre.1.1.0, ready_few pre.0, pre.0.listing.room, arc.leaves, arc.enters, arc.high)
 
 same-length-3 : tie.Need-same-length-3
 same-length-3 c = search rules
@@ -121,7 +121,7 @@ returns-3 : tie.Need-returns-3
 returns-3 c =
     let called = c.before.before.before.before.before.before.before.before.before.before in
     let pre = called.before.before.before.requires in
-    stepped-moved _ _ _ _ _ _ _ _
+    stepped_moved _ _ _ _ _ _ _ _
     pre.0
     pre.1.0
     called.target.ensures

@@ -3,7 +3,7 @@ use mathlib.Core.Path.{refl}
 use native.Mathlib.Omega.{arith}
 use Prim.Native.Nat.{◌+◌, ◌*◌}
 use borrow.Author.Rules.{rules}
-use Rattle.mean_cycle.proofs.Targets.{target-arc, table-arc, table-room}
+use Rattle.mean_cycle.proofs.Targets.{target-arc, table-arc, table_room}
 use Rattle.mean_cycle.proofs.search.target.Statement.{statement}
 use Rattle.mean_cycle.proofs.search.target.Tie as tie
 
@@ -22,7 +22,7 @@ mul-result c = search rules
 shared-slice-read-result : tie.Need-shared-slice-read-result
 shared-slice-read-result c =
     let pre = c.before.before.before.requires in
-    omega (arith, table-room _ _ _ _ pre.0 pre.1.0 pre.1.1 c.before.if1.true, pre.0.few, pre.0.narrow, pre.1.1.small)
+    omega (arith, table_room _ _ _ _ pre.0 pre.1.0 pre.1.1 c.before.if1.true, pre.0.few, pre.0.narrow, pre.1.1.small)
 
 cast-result : tie.Need-overflow-cast-result
 cast-result c = let a = c.before.before.before.args in omega (arith, c.shared-slice-known2.given (1791 + a.v * 32 + a.t))

@@ -3,16 +3,16 @@ use mathlib.Core.Path.{refl}
 use Prim.Native.Nat.{◌+◌, ◌-◌, ◌≤◌}
 use native.Mathlib.Omega.{arith}
 use Rattle.diagram.specs.Diagram.{Permits}
-use Rattle.diagram.specs.Work.{stateIn}
-use Rattle.mean_cycle.proofs.Frames.{ready-cost, ready_held}
-use Rattle.mean_cycle.proofs.Targets.{next-permits}
-use Rattle.mean_cycle.proofs.Rounds.{Visiting, visit-start, visit-next, visit-permits, visit-past, visit-more, visit-found, visit-stop, visit-end}
+use Rattle.diagram.specs.Work.{state_in}
+use Rattle.mean_cycle.proofs.Frames.{ready_cost, ready_held}
+use Rattle.mean_cycle.proofs.Targets.{next_permits}
+use Rattle.mean_cycle.proofs.Rounds.{Visiting, visit_start, visit_next, visit_permits, visit_past, visit_more, visit_found, visit_stop, visit_end}
 use Rattle.mean_cycle.proofs.search.visit.Statement.{statement}
 use Rattle.mean_cycle.proofs.search.visit.Tie as tie
 
 abbrev invariant-loop : tie.invariant-loop
 invariant-loop work₀ graph best v count sum last state t₀ moved₀ work t moved =
-    Visiting work₀ work graph best v t moved × (t ≤ graph.width + 1 → Permits 1 graph.width (stateIn work₀ v) t)
+    Visiting work₀ work graph best v t moved × (t ≤ graph.width + 1 → Permits 1 graph.width (state_in work₀ v) t)
 
 abbrev decreases-loop : tie.decreases-loop
 decreases-loop work₀ graph best v count sum last state t₀ moved₀ work t moved = last + 1 - t
@@ -41,8 +41,8 @@ loop-holds c =
     let start = c.before.before.before.before in
     let listing = start.requires.0.listing in
     let here = start.requires.1.1 in (
-      visit-next 0 _ (visit-start _ start.requires.0 start.requires.1.0) listing here refl (omega arith) c.next-latency.ensures,
-      λ le. next-permits 0 listing here c.next-latency.ensures le,
+      visit_next 0 _ (visit_start _ start.requires.0 start.requires.1.0) listing here refl (omega arith) c.next-latency.ensures,
+      λ le. next_permits 0 listing here c.next-latency.ensures le,
     )
 
 add-up : tie.Need-overflow-add-up invariant-loop decreases-loop
@@ -69,26 +69,26 @@ add-up-2 c =
     omega (arith, c.slice-known3.given (768 + c.before.before.before.before.before.before.before.args.v))
 
 mul-if1 : tie.Need-overflow-mul-if1 invariant-loop decreases-loop
-mul-if1 c = omega (arith, ready-cost _ c.before.before.loop.invariant.0.ready c.before.loop-test.true)
+mul-if1 c = omega (arith, ready_cost _ c.before.before.loop.invariant.0.ready c.before.loop-test.true)
 
 same_length : tie.Need-same-length invariant-loop decreases-loop
 same_length c = c.before.before.before.loop.invariant.0.frame.size
 
 returns : tie.Need-returns invariant-loop decreases-loop
-returns c = visit-stop c.before.before.before.loop.invariant.0 c.before.before.loop-test.true c.if1.true
+returns c = visit_stop c.before.before.before.loop.invariant.0 c.before.before.loop-test.true c.if1.true
 
 step-requires : tie.Need-step-requires invariant-loop decreases-loop
 step-requires c κs =
     let turn = c.before.before.before in
     let i = turn.before.loop.invariant in
     let here = turn.before.before.before.before.before.before.requires.1.1 in
-    (i.0.ready, (i.0.tree, (here, visit-permits i.0 here (i.1 turn.loop-test.true))))
+    (i.0.ready, (i.0.tree, (here, visit_permits i.0 here (i.1 turn.loop-test.true))))
 
 same-length-2 : tie.Need-same-length-2 invariant-loop decreases-loop
-same-length-2 c = (visit-found c.before.before.before.before.before.before.before.before.loop.invariant.0 c.before.before.before.step.ensures c.if2.true).frame.size
+same-length-2 c = (visit_found c.before.before.before.before.before.before.before.before.loop.invariant.0 c.before.before.before.step.ensures c.if2.true).frame.size
 
 returns-2 : tie.Need-returns-2 invariant-loop decreases-loop
-returns-2 c = visit-found c.before.before.before.before.before.before.before.before.loop.invariant.0 c.before.before.before.step.ensures c.if2.true
+returns-2 c = visit_found c.before.before.before.before.before.before.before.before.loop.invariant.0 c.before.before.before.step.ensures c.if2.true
 
 add-moved : tie.Need-overflow-add-moved invariant-loop decreases-loop
 add-moved c =
@@ -103,7 +103,7 @@ next-latency-requires-2 c κs =
 loop-less : tie.Need-loop-smaller invariant-loop decreases-loop
 loop-less c =
     let turn = c.before.before.before.before.before.before.before.before.before in
-    omega (arith, turn.loop-test.true, visit-past turn.before.loop.t _ turn.before.loop.invariant.0 c.next-latency2.ensures)
+    omega (arith, turn.loop-test.true, visit_past turn.before.loop.t _ turn.before.loop.invariant.0 c.next-latency2.ensures)
 
 loop-again : tie.Need-loop-preserved invariant-loop decreases-loop
 loop-again c =
@@ -111,16 +111,16 @@ loop-again c =
     let start = turn.before.before.before.before.before.before in
     let listing = start.requires.0.listing in
     let here = start.requires.1.1 in
-    let done = visit-more turn.before.loop.invariant.0 turn.loop-test.true c.before.before.before.before.before.step.ensures c.before.before.if2.false in (
-      visit-next turn.before.loop.t _ done listing here refl (omega (arith, turn.loop-test.true)) c.next-latency2.ensures,
-      λ le. next-permits turn.before.loop.t listing here c.next-latency2.ensures le,
+    let done = visit_more turn.before.loop.invariant.0 turn.loop-test.true c.before.before.before.before.before.step.ensures c.before.before.if2.false in (
+      visit_next turn.before.loop.t _ done listing here refl (omega (arith, turn.loop-test.true)) c.next-latency2.ensures,
+      λ le. next_permits turn.before.loop.t listing here c.next-latency2.ensures le,
     )
 
 same-length-3 : tie.Need-same-length-3 invariant-loop decreases-loop
 same-length-3 c = c.before.loop.invariant.0.frame.size
 
 returns-3 : tie.Need-returns-3 invariant-loop decreases-loop
-returns-3 c = visit-end c.before.loop.invariant.0 c.loop-test.false
+returns-3 c = visit_end c.before.loop.invariant.0 c.loop-test.false
 
 pub visit-spec : {M : Type 1} → statement M
 visit-spec =

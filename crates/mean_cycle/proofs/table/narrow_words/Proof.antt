@@ -3,7 +3,7 @@ use native.Mathlib.Nat.{not-suc-le-zero}
 use Prim.Native.Nat.{◌-◌, ◌≤◌}
 use native.Mathlib.Omega.{arith}
 use Rattle.mean_cycle.specs.Table.{NarrowWords}
-use Rattle.mean_cycle.proofs.Tables.{says-yes, says-no, narrow-more, narrow-not}
+use Rattle.mean_cycle.proofs.Tables.{says_yes, says_no, narrow_more, narrow_not}
 use Rattle.mean_cycle.proofs.table.narrow_words.Statement.{statement}
 use Rattle.mean_cycle.proofs.table.narrow_words.Tie as tie
 
@@ -28,7 +28,7 @@ width-of-requires c κs = tt {0}
 returns : tie.Need-returns invariant-loop decreases-loop
 returns c =
     let turn = c.before.before.before in
-    says-no (narrow-not c.before.before.before.before.before.before.args.work.now _ _ _ _ turn.loop-test.true c.before.width_of_lem.ensures c.if1.true)
+    says_no (narrow_not c.before.before.before.before.before.before.args.work.now _ _ _ _ turn.loop-test.true c.before.width_of_lem.ensures c.if1.true)
 
 add-v : tie.Need-overflow-add-v invariant-loop decreases-loop
 add-v c = omega arith
@@ -39,13 +39,13 @@ loop-less c = omega arith
 loop-again : tie.Need-loop-preserved invariant-loop decreases-loop
 loop-again c =
     let turn = c.before.before.before in (
-      narrow-more c.before.before.before.before.before.before.args.work.now _ _ _ turn.before.loop.invariant.0
+      narrow_more c.before.before.before.before.before.before.args.work.now _ _ _ turn.before.loop.invariant.0
           (omega (arith, c.before.before.shared-slice-known2.given turn.before.loop.v)) c.before.width_of_lem.ensures c.if1.false,
       omega arith,
     )
 
 returns-2 : tie.Need-returns-2 invariant-loop decreases-loop
-returns-2 c = says-yes (λ v l. c.before.loop.invariant.0 v (omega arith))
+returns-2 c = says_yes (λ v l. c.before.loop.invariant.0 v (omega arith))
 
 pub narrow-words-spec : {M : Type 1} → statement M
 narrow-words-spec =

@@ -4,7 +4,7 @@ use Prim.Native.Nat.{◌+◌, ◌-◌, ◌*◌, ◌≤◌, ◌<◌}
 use native.Mathlib.Omega.{arith}
 use lib.ListN.{get_or}
 use borrow.Author.Count.{below_more}
-use Rattle.mean_cycle.proofs.Tables.{says-yes, says-no}
+use Rattle.mean_cycle.proofs.Tables.{says_yes, says_no}
 use Rattle.mean_cycle.proofs.table.targets_inside.Statement.{statement}
 use Rattle.mean_cycle.proofs.table.targets_inside.Tie as tie
 
@@ -33,7 +33,7 @@ cast-x : tie.Need-overflow-cast-x invariant-loop decreases-loop
 cast-x c = omega (arith, c.shared-slice-known.given (1792 + c.before.before.loop.a))
 
 returns : tie.Need-returns invariant-loop decreases-loop
-returns c = says-no (λ h. omega (arith, h c.before.before.before.loop.a (omega arith), c.if1.true))
+returns c = says_no (λ h. omega (arith, h c.before.before.before.loop.a (omega arith), c.if1.true))
 
 add_a : tie.Need-overflow-add-a invariant-loop decreases-loop
 add_a c = omega arith
@@ -45,7 +45,7 @@ loop-again : tie.Need-loop-preserved invariant-loop decreases-loop
 loop-again c = (below_more (λ b. get_or c.before.before.before.before.args.work.now (1792 + b) 0 < c.before.before.before.before.args.nodes) c.before.before.before.loop.a c.before.before.before.loop.invariant.0 c.if1.false, (omega arith, omega arith))
 
 returns-2 : tie.Need-returns-2 invariant-loop decreases-loop
-returns-2 c = says-yes (λ b l. c.before.loop.invariant.0 b (omega arith))
+returns-2 c = says_yes (λ b l. c.before.loop.invariant.0 b (omega arith))
 
 pub targets-inside-spec : {M : Type 1} → statement M
 targets-inside-spec =

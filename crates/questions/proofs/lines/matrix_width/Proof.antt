@@ -3,22 +3,22 @@ use mathlib.Core.Path.{◌≡◌, refl, ap, ◌∙◌}
 use mathlib.Core.Logic.{⊎_elim}
 use Prim.Native.Nat.{◌+◌, ◌-◌, ◌≤◌}
 use native.Mathlib.Omega.{arith}
-use Rattle.words.specs.Below.{maxBelow}
+use Rattle.words.specs.Below.{max_below}
 use Rattle.unit.specs.Unit.{marked}
-use Rattle.questions.specs.Replies.{matrixWidth}
-use Rattle.questions.proofs.WidthLaws.{rowWidth, widest-kept, widest-new}
+use Rattle.questions.specs.Replies.{matrix_width}
+use Rattle.questions.proofs.WidthLaws.{row_width, widest-kept, widest-new}
 use borrow.Author.Rules.{rules}
 use Rattle.questions.proofs.lines.matrix_width.Statement.{statement}
 use Rattle.questions.proofs.lines.matrix_width.Tie as tie
 
 abbrev invariant-loop : tie.invariant-loop
-invariant-loop u r widest₀ tag₀ widest tag = (tag ≤ 4) × (widest ≡ maxBelow tag (rowWidth (marked u) r.0))
+invariant-loop u r widest₀ tag₀ widest tag = (tag ≤ 4) × (widest ≡ max_below tag (row_width (marked u) r.0))
 
 abbrev decreases-loop : tie.decreases-loop
 decreases-loop u r widest₀ tag₀ widest tag = 4 - tag
 
 loop-holds : tie.Need-loop-init invariant-loop decreases-loop
-unfolding maxBelow
+unfolding max_below
 loop-holds c = (search rules, refl)
 
 add-t7 : tie.Need-overflow-add-t7 invariant-loop decreases-loop
@@ -35,8 +35,8 @@ loop-less c = search rules
 
 more : (c : tie.Joined1 invariant-loop decreases-loop)
     → c.if1.widest
-    ≡ maxBelow (c.before.before.before.loop.tag + 1)
-    (rowWidth (marked c.before.before.before.before.args.u) c.before.before.before.before.args.r.0)
+    ≡ max_below (c.before.before.before.loop.tag + 1)
+    (row_width (marked c.before.before.before.before.args.u) c.before.before.before.before.args.r.0)
 more c =
     let a = c.before.before.before.before.args in
     let l = c.before.before.before.loop in
@@ -50,12 +50,12 @@ loop-again : tie.Need-loop-preserved invariant-loop decreases-loop
 loop-again c = (search rules, more c)
 
 returns : tie.Need-returns invariant-loop decreases-loop
-unfolding matrixWidth
+unfolding matrix_width
 returns c =
     let l = c.before.loop in
     let a = c.before.before.args in
     let e : l.tag ≡ 4 = omega (arith, c.loop-test.false) in
-    l.invariant.1 ∙ ap (λ n. maxBelow n (rowWidth (marked a.u) a.r.0)) e
+    l.invariant.1 ∙ ap (λ n. max_below n (row_width (marked a.u) a.r.0)) e
 
 pub matrix-width-spec : {M : Type 1} → statement M
 matrix-width-spec =

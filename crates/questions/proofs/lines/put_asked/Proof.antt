@@ -1,6 +1,6 @@
 -- `questions::lines::put_asked` meets its contract. Assumes nothing.
 use Rattle.text.proofs.RowLaws.{wrote_as}
-use Rattle.questions.proofs.ReplyLaws.{numbered-refused, numbered-value}
+use Rattle.questions.proofs.ReplyLaws.{numbered_refused, numbered_value}
 use borrow.Author.Rules.{rules}
 use Rattle.questions.proofs.lines.put_asked.Statement.{statement}
 use Rattle.questions.proofs.lines.put_asked.Tie as tie
@@ -21,13 +21,13 @@ same_length : tie.Need-same-length
 same_length c = search rules
 
 returns : tie.Need-returns
-returns c = let p = c.before.before in wrote_as p.put-refusal.ensures (numbered-refused _ p.before.before.before.asked.given.1)
+returns c = let p = c.before.before in wrote_as p.put-refusal.ensures (numbered_refused _ p.before.before.before.asked.given.1)
 
 same-length-2 : tie.Need-same-length-2
 same-length-2 c = search rules
 
 returns-2 : tie.Need-returns-2
-returns-2 c = let p = c.before.before in wrote_as p.put-value.ensures (numbered-value _ p.before.before.before.asked2.given.1)
+returns-2 c = let p = c.before.before in wrote_as p.put-value.ensures (numbered_value _ p.before.before.before.asked2.given.1)
 
 pub put-asked-spec : {M : Type 1} → statement M
 put-asked-spec =

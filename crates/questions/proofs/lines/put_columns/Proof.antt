@@ -1,6 +1,6 @@
 -- `questions::lines::put_columns` meets its contract. Assumes nothing.
 use native.Mathlib.Omega.{arith}
-use Rattle.text.proofs.RowLaws.{vector-most}
+use Rattle.text.proofs.RowLaws.{vector_most}
 use Rattle.text.proofs.BoundedLaws.{put_word, put_one}
 use borrow.Author.Rules.{rules}
 use Rattle.questions.proofs.lines.put_columns.Statement.{statement}
@@ -28,7 +28,7 @@ returns c =
     let start = first.before.before.before.before in
     let room = start.requires.2 in
     let p₁ = put_one 7 _ first.put.ensures start.requires.0 (omega (arith, room)) in
-    let most = vector-most start.args.columns start.args.row 32 (omega arith) start.requires.1 in
+    let most = vector_most start.args.columns start.args.row 32 (omega arith) start.requires.1 in
     let p₂ = put_word 32 _ p₁ columns.put-columns.ensures most (omega (arith, room)) in
     let p₃ = put_word 1 _ p₂ c.before.before.put2.ensures (omega arith) (omega (arith, room)) in
     p₃.wrote

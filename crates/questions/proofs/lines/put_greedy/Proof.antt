@@ -3,7 +3,7 @@ use mathlib.Core.Path.{refl}
 use native.Mathlib.Omega.{arith}
 use lib.ListN.{replicate}
 use Rattle.text.proofs.RowLaws.{wrote_as}
-use Rattle.questions.proofs.StatesLaws.{front-part}
+use Rattle.questions.proofs.StatesLaws.{front_part}
 use Rattle.questions.proofs.GreedyLaws.{Handed, greedy-handed, greedy-refused, greedy-shown}
 use borrow.Author.Rules.{rules}
 use Rattle.questions.proofs.lines.put_greedy.Statement.{statement}
@@ -38,12 +38,12 @@ array-share-prefix-cycle : tie.Need-array-share-prefix-cycle
 array-share-prefix-cycle c = (stands c.before.before).cycle.room
 
 slice-aggregate-put-cycle : tie.Need-slice-aggregate-put-cycle
-slice-aggregate-put-cycle c = front-part (stands c.before.before.before).cycle
+slice-aggregate-put-cycle c = front_part (stands c.before.before.before).cycle
 
 put-cycle-requires : tie.Need-put-cycle-requires
 put-cycle-requires c κs =
     let s = (stands c.before.before.before).cycle in
-    (omega (arith, s.few, s.counts, front-part s), c.before.before.before.before.before.before.before.before.before.before.before.before.requires)
+    (omega (arith, s.few, s.counts, front_part s), c.before.before.before.before.before.before.before.before.before.before.before.before.requires)
 
 same_length : tie.Need-same-length
 same_length c = search rules

@@ -1,7 +1,7 @@
 -- `questions::lines::put_list` meets its contract. Assumes nothing.
 use native.Mathlib.Omega.{arith}
-use Rattle.text.proofs.DecimalLaws.{decimal-length}
-use Rattle.text.proofs.RowLaws.{spaced-most}
+use Rattle.text.proofs.DecimalLaws.{decimal_length}
+use Rattle.text.proofs.RowLaws.{spaced_most}
 use Rattle.text.proofs.BoundedLaws.{put_word, put_one}
 use borrow.Author.Rules.{rules}
 use Rattle.questions.proofs.lines.put_list.Statement.{statement}
@@ -43,9 +43,9 @@ returns c =
     let start = first.before.before.before.before.before in
     let room = start.requires.1 in
     let p₁ = put_one 7 _ first.put.ensures (omega arith) (omega (arith, room)) in
-    let p₂ = put_word 10 _ p₁ count.put-number.ensures (decimal-length start.args.count 10 (omega arith) (omega arith)) (omega (arith, room)) in
+    let p₂ = put_word 10 _ p₁ count.put-number.ensures (decimal_length start.args.count 10 (omega arith) (omega arith)) (omega (arith, room)) in
     let p₃ = put_word 1 _ p₂ colon.put2.ensures (omega arith) (omega (arith, room)) in
-    let most = spaced-most start.args.states.now 10 (omega arith) (λ i l. omega (arith, first.before.before.before.shared-slice-known.given i)) in
+    let most = spaced_most start.args.states.now 10 (omega arith) (λ i l. omega (arith, first.before.before.before.shared-slice-known.given i)) in
     let p₄ = put_word 2816 _ p₃ states.put-words.ensures (omega (arith, most, start.requires.0)) (omega (arith, room)) in
     let p₅ = put_word 1 _ p₄ c.before.before.put3.ensures (omega arith) (omega (arith, room)) in
     p₅.wrote

@@ -1,9 +1,9 @@
 -- `questions::lines::put_reply` meets its contract. Assumes nothing.
 use mathlib.Core.Path.{ap, ◌∙◌}
 use Rattle.text.proofs.RowLaws.{wrote_as}
-use Rattle.listing.specs.Lines.{numberLine}
-use Rattle.questions.specs.Replies.{numbered, verdictLine, replyTo}
-use Rattle.questions.proofs.ReplyLaws.{reply-told}
+use Rattle.listing.specs.Lines.{number_line}
+use Rattle.questions.specs.Replies.{numbered, verdict_line, reply_to}
+use Rattle.questions.proofs.ReplyLaws.{reply_told}
 use borrow.Author.Rules.{rules}
 use Rattle.questions.proofs.lines.put_reply.Statement.{statement}
 use Rattle.questions.proofs.lines.put_reply.Tie as tie
@@ -81,65 +81,65 @@ same_length : tie.Need-same-length
 same_length c = search rules
 
 returns : tie.Need-returns
-unfolding replyTo
-returns c = let p = c.before.before in wrote_as p.put_vector.ensures (reply-told _ _ p.before.before.before.question.given.1)
+unfolding reply_to
+returns c = let p = c.before.before in wrote_as p.put_vector.ensures (reply_told _ _ p.before.before.before.question.given.1)
 
 same-length-2 : tie.Need-same-length-2
 same-length-2 c = search rules
 
 returns-2 : tie.Need-returns-2
-unfolding replyTo
-returns-2 c = let p = c.before.before in wrote_as p.put-row.ensures (reply-told _ _ p.before.before.before.question2.given.1)
+unfolding reply_to
+returns-2 c = let p = c.before.before in wrote_as p.put-row.ensures (reply_told _ _ p.before.before.before.question2.given.1)
 
 same-length-3 : tie.Need-same-length-3
 same-length-3 c = search rules
 
 returns-3 : tie.Need-returns-3
-unfolding replyTo
-returns-3 c = let p = c.before.before in wrote_as p.put-states.ensures (reply-told _ _ p.before.before.before.question3.given.1)
+unfolding reply_to
+returns-3 c = let p = c.before.before in wrote_as p.put-states.ensures (reply_told _ _ p.before.before.before.question3.given.1)
 
 same-length-4 : tie.Need-same-length-4
 same-length-4 c = search rules
 
 returns-4 : tie.Need-returns-4
-unfolding replyTo
-returns-4 c = let p = c.before.before in wrote_as p.put-greedy.ensures (reply-told _ _ p.before.before.before.question4.given.1)
+unfolding reply_to
+returns-4 c = let p = c.before.before in wrote_as p.put-greedy.ensures (reply_told _ _ p.before.before.before.question4.given.1)
 
 same-length-5 : tie.Need-same-length-5
 same-length-5 c = search rules
 
 returns-5 : tie.Need-returns-5
-unfolding replyTo
+unfolding reply_to
 returns-5 c =
     let p = c.before.before in
-    wrote_as p.put-asked.ensures (ap (λ a. numbered a (numberLine "bound ")) p.before.bound.ensures ∙ reply-told _ _ p.before.before.before.before.before.question5.given.1)
+    wrote_as p.put-asked.ensures (ap (λ a. numbered a (number_line "bound ")) p.before.bound.ensures ∙ reply_told _ _ p.before.before.before.before.before.question5.given.1)
 
 same-length-6 : tie.Need-same-length-6
 same-length-6 c = search rules
 
 returns-6 : tie.Need-returns-6
-unfolding replyTo
+unfolding reply_to
 returns-6 c =
     let p = c.before.before in
-    wrote_as p.put-asked2.ensures (ap (λ a. numbered a (numberLine "upper ")) p.before.upper.ensures ∙ reply-told _ _ p.before.before.before.before.before.question6.given.1)
+    wrote_as p.put-asked2.ensures (ap (λ a. numbered a (number_line "upper ")) p.before.upper.ensures ∙ reply_told _ _ p.before.before.before.before.before.question6.given.1)
 
 same-length-7 : tie.Need-same-length-7
 same-length-7 c = search rules
 
 returns-7 : tie.Need-returns-7
-unfolding replyTo
+unfolding reply_to
 returns-7 c =
     let p = c.before.before in
-    wrote_as p.put-asked3.ensures (ap (λ a. numbered a (numberLine "constant ")) p.before.constant.ensures ∙ reply-told _ _ p.before.before.before.before.before.question7.given.1)
+    wrote_as p.put-asked3.ensures (ap (λ a. numbered a (number_line "constant ")) p.before.constant.ensures ∙ reply_told _ _ p.before.before.before.before.before.question7.given.1)
 
 same-length-8 : tie.Need-same-length-8
 same-length-8 c = search rules
 
 returns-8 : tie.Need-returns-8
-unfolding replyTo
+unfolding reply_to
 returns-8 c =
     let p = c.before.before in
-    wrote_as p.put-verdict.ensures (ap verdictLine p.before.judge.ensures ∙ reply-told _ _ p.before.before.before.before.question8.given.1)
+    wrote_as p.put-verdict.ensures (ap verdict_line p.before.judge.ensures ∙ reply_told _ _ p.before.before.before.before.question8.given.1)
 
 pub put-reply-spec : {M : Type 1} → statement M
 put-reply-spec =

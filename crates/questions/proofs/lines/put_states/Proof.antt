@@ -4,8 +4,8 @@ use native.Mathlib.Omega.{arith}
 use lib.ListN.{replicate}
 use Rattle.unit.specs.Unit.{marked}
 use Rattle.text.proofs.RowLaws.{wrote_as}
-use Rattle.diagram.specs.Answers.{statesOf}
-use Rattle.questions.proofs.StatesLaws.{Front, front-part, states-front, states-refused, states-shown}
+use Rattle.diagram.specs.Answers.{states_of}
+use Rattle.questions.proofs.StatesLaws.{Front, front_part, states-front, states_refused, states-shown}
 use borrow.Author.Rules.{rules}
 use Rattle.questions.proofs.lines.put_states.Statement.{statement}
 use Rattle.questions.proofs.lines.put_states.Tie as tie
@@ -29,19 +29,19 @@ cast-count : tie.Need-overflow-cast-count
 cast-count c = search rules
 
 stands : (c : tie.After-known-told2)
-    → Front (statesOf 1 (marked c.before.before.before.before.before.before.before.args.u) c.before.before.before.before.before.before.before.args.tag.0) c.before.before.before.before.states.new.1.1.0 c.before.asked2.given.0.0
+    → Front (states_of 1 (marked c.before.before.before.before.before.before.before.args.u) c.before.before.before.before.before.before.before.args.tag.0) c.before.before.before.before.states.new.1.1.0 c.before.asked2.given.0.0
 stands c = let n = c.before.before.before.before.states.ensures in states-front _ _ (replicate 256 0) refl n.0 n.1 c.before.asked2.given.1
 
 array-share-prefix-list : tie.Need-array-share-prefix-list
 array-share-prefix-list c = (stands c.before).room
 
 slice-aggregate-put-list : tie.Need-slice-aggregate-put-list
-slice-aggregate-put-list c = front-part (stands c.before.before)
+slice-aggregate-put-list c = front_part (stands c.before.before)
 
 put-list-requires : tie.Need-put-list-requires
 put-list-requires c κs =
     let s = stands c.before.before in
-    (omega (arith, s.few, s.counts, front-part s), c.before.before.before.before.before.before.before.before.before.requires)
+    (omega (arith, s.few, s.counts, front_part s), c.before.before.before.before.before.before.before.before.before.requires)
 
 same_length : tie.Need-same-length
 same_length c = search rules
@@ -50,7 +50,7 @@ returns : tie.Need-returns
 returns c =
     let p = c.before.before in
     let n = p.before.before.before.before.before.before in
-    wrote_as p.put-refusal.ensures (states-refused _ _ n.states.ensures.0 p.before.before.before.asked.given.1)
+    wrote_as p.put-refusal.ensures (states_refused _ _ n.states.ensures.0 p.before.before.before.asked.given.1)
 
 same-length-2 : tie.Need-same-length-2
 same-length-2 c = search rules

@@ -1,7 +1,7 @@
 -- `questions::lines::put_value` meets its contract. Assumes nothing.
 use native.Mathlib.Omega.{arith}
 use lib.ListN.{length}
-use Rattle.text.proofs.DecimalLaws.{decimal-length}
+use Rattle.text.proofs.DecimalLaws.{decimal_length}
 use Rattle.text.proofs.BoundedLaws.{put_word, put_one}
 use borrow.Author.Rules.{rules}
 use Rattle.questions.proofs.lines.put_value.Statement.{statement}
@@ -28,7 +28,7 @@ returns c =
     let first = number.before.before.before.before in
     let start = first.before.before.before.before in
     let p₁ = put_one (length start.args.word.now) _ first.put.ensures (omega arith) (omega (arith, start.requires)) in
-    let p₂ = put_word 10 _ p₁ number.put-number.ensures (decimal-length start.args.number 10 (omega arith) (omega arith)) (omega (arith, start.requires)) in
+    let p₂ = put_word 10 _ p₁ number.put-number.ensures (decimal_length start.args.number 10 (omega arith) (omega arith)) (omega (arith, start.requires)) in
     let p₃ = put_word 1 _ p₂ c.before.before.put2.ensures (omega arith) (omega (arith, start.requires)) in
     p₃.wrote
 

@@ -1,8 +1,8 @@
 -- `questions::lines::put_vector` meets its contract. Assumes nothing.
 use native.Mathlib.Omega.{arith}
 use Rattle.text.proofs.RowLaws.{wrote_as}
-use Rattle.diagram.proofs.WidthLaws.{width-le}
-use Rattle.questions.proofs.ReplyLaws.{vector-refused, vector-shown}
+use Rattle.diagram.proofs.WidthLaws.{width_le}
+use Rattle.questions.proofs.ReplyLaws.{vector_refused, vector-shown}
 use borrow.Author.Rules.{rules}
 use Rattle.questions.proofs.lines.put_vector.Statement.{statement}
 use Rattle.questions.proofs.lines.put_vector.Tie as tie
@@ -28,7 +28,7 @@ slice-aggregate-put-columns c = search rules
 put-columns-requires : tie.Need-put-columns-requires
 put-columns-requires c κs =
     let v = c.before.before.width_of_lem in
-    (omega arith, omega (arith, v.ensures, width-le c.before.before.before.before.asked2.given.0.0), c.before.before.before.before.before.before.before.before.requires)
+    (omega arith, omega (arith, v.ensures, width_le c.before.before.before.before.asked2.given.0.0), c.before.before.before.before.before.before.before.before.requires)
 
 same_length : tie.Need-same-length
 same_length c = search rules
@@ -37,7 +37,7 @@ returns : tie.Need-returns
 returns c =
     let p = c.before.before in
     let v = p.before.before.before.before.before in
-    wrote_as p.put-refusal.ensures (vector-refused _ _ v.vector.ensures p.before.before.before.asked.given.1)
+    wrote_as p.put-refusal.ensures (vector_refused _ _ v.vector.ensures p.before.before.before.asked.given.1)
 
 same-length-2 : tie.Need-same-length-2
 same-length-2 c = search rules

@@ -3,7 +3,7 @@ use mathlib.Core.Path.{sym, ap}
 use native.Mathlib.Omega.{arith}
 use Rattle.text.proofs.WroteLaws.{wrote_one}
 use Rattle.text.proofs.RowLaws.{wrote_as}
-use Rattle.questions.specs.Replies.{verdictLine}
+use Rattle.questions.specs.Replies.{verdict_line}
 use borrow.Author.Rules.{rules}
 use Rattle.questions.proofs.lines.put_verdict.Statement.{statement}
 use Rattle.questions.proofs.lines.put_verdict.Tie as tie
@@ -38,7 +38,7 @@ same_length c = search rules
 returns : tie.Need-returns
 returns c =
     let p = c.before.before in
-    wrote_as (wrote_one p.put.ensures (omega (arith, p.before.before.before.before.before.before.requires))) (ap verdictLine (sym p.before.before.before.enum_told.given.1))
+    wrote_as (wrote_one p.put.ensures (omega (arith, p.before.before.before.before.before.before.requires))) (ap verdict_line (sym p.before.before.before.enum_told.given.1))
 
 same-length-2 : tie.Need-same-length-2
 same-length-2 c = search rules
@@ -46,13 +46,13 @@ same-length-2 c = search rules
 returns-2 : tie.Need-returns-2
 returns-2 c =
     let p = c.before.before in
-    wrote_as (wrote_one p.put2.ensures (omega (arith, p.before.before.before.before.before.before.requires))) (ap verdictLine (sym p.before.before.before.enum-told2.given.1))
+    wrote_as (wrote_one p.put2.ensures (omega (arith, p.before.before.before.before.before.before.requires))) (ap verdict_line (sym p.before.before.before.enum-told2.given.1))
 
 same-length-3 : tie.Need-same-length-3
 same-length-3 c = search rules
 
 returns-3 : tie.Need-returns-3
-returns-3 c = let p = c.before.before in wrote_as p.put-refusal.ensures (ap verdictLine (sym p.before.before.before.verdict.given.1))
+returns-3 c = let p = c.before.before in wrote_as p.put-refusal.ensures (ap verdict_line (sym p.before.before.before.verdict.given.1))
 
 pub put-verdict-spec : {M : Type 1} → statement M
 put-verdict-spec =

@@ -1,7 +1,7 @@
 -- `questions::lines::row_width` meets its contract. Assumes nothing.
 use mathlib.Core.Path.{ap, ap₂, ◌∙◌}
-use Rattle.collision.specs.Vector.{rowOfColumns}
-use Rattle.collision.proofs.RowLaws.{row-columns}
+use Rattle.collision.specs.Vector.{row_of_columns}
+use Rattle.collision.proofs.RowLaws.{row_columns}
 use Rattle.diagram.specs.Diagram.{width}
 use borrow.Author.Rules.{rules}
 use Rattle.questions.proofs.lines.row_width.Statement.{statement}
@@ -24,7 +24,7 @@ returns c =
     let row = c.before in
     let later = row.before.before.columns_of.ensures in
     let earlier = row.before.columns-of2.ensures in
-    c.width_of_lem.ensures ∙ ap width (row.row_of.ensures ∙ ap₂ rowOfColumns later earlier ∙ row-columns _ _ _)
+    c.width_of_lem.ensures ∙ ap width (row.row_of.ensures ∙ ap₂ row_of_columns later earlier ∙ row_columns _ _ _)
 
 pub row-width-spec : {M : Type 1} → statement M
 row-width-spec =

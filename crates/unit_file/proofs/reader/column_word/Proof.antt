@@ -5,15 +5,15 @@ use mathlib.Core.Path.{◌≡◌, sym, ap, ◌∙◌}
 use mathlib.Core.Logic.{⊎_elim}
 use native.Mathlib.Omega.{arith}
 use lib.ListN.{length}
-use Rattle.words.specs.Bits.{is_set, setBit}
-use Rattle.unit_file.specs.Read.{segmentsIn}
-use Rattle.unit_file.proofs.PlaceLaws.{word-inside}
-use Rattle.unit_file.proofs.ColumnLaws.{columnUpTo, column-start, column-set, column-unset, column-small, column-end}
+use Rattle.words.specs.Bits.{is_set, set_bit}
+use Rattle.unit_file.specs.Read.{segments_in}
+use Rattle.unit_file.proofs.PlaceLaws.{word_inside}
+use Rattle.unit_file.proofs.ColumnLaws.{column_up_to, column_start, column_set, column_unset, column_small, column_end}
 use Rattle.unit_file.proofs.reader.column_word.Statement.{statement}
 use Rattle.unit_file.proofs.reader.column_word.Tie as tie
 
 abbrev invariant-loop : tie.invariant-loop
-invariant-loop file tag column segments first marks₀ i₀ marks i = (i ≤ segments) × (marks ≡ columnUpTo file first column i)
+invariant-loop file tag column segments first marks₀ i₀ marks i = (i ≤ segments) × (marks ≡ column_up_to file first column i)
 
 abbrev decreases-loop : tie.decreases-loop
 decreases-loop file tag column segments first marks₀ i₀ marks i = segments - i
@@ -25,7 +25,7 @@ table-at-requires : tie.Need-table-at-requires invariant-loop decreases-loop
 table-at-requires c κs = search rules
 
 loop-holds : tie.Need-loop-init invariant-loop decreases-loop
-loop-holds c = let b = c.before.before.before in (search rules, column-start b.args.file.now c.table_at.result b.args.column)
+loop-holds c = let b = c.before.before.before in (search rules, column_start b.args.file.now c.table_at.result b.args.column)
 
 cast-word-at : tie.Need-overflow-cast-word-at invariant-loop decreases-loop
 cast-word-at c = search rules
@@ -34,11 +34,11 @@ mul-word-at : tie.Need-overflow-mul-word-at invariant-loop decreases-loop
 mul-word-at c = search rules
 
 -- the word of a segment lies in the file
-place : (c : tie.After-table-at invariant-loop decreases-loop) (i : ℕ) → i < segmentsIn c.before.before.before.args.file.now
+place : (c : tie.After-table-at invariant-loop decreases-loop) (i : ℕ) → i < segments_in c.before.before.before.args.file.now
     → c.table_at.result + 4 * i + 4 ≤ length c.before.before.before.args.file.now
 place c i h =
     let b = c.before.before.before in
-    omega (arith, c.table_at.ensures, word-inside b.args.file.now b.args.tag i b.requires.0 b.requires.1 h)
+    omega (arith, c.table_at.ensures, word_inside b.args.file.now b.args.tag i b.requires.0 b.requires.1 h)
 
 add-word-at : tie.Need-overflow-add-word-at invariant-loop decreases-loop
 add-word-at c = let p = place c.before.before c.before.loop.i c.loop-test.true in omega arith
@@ -75,8 +75,8 @@ loop-again c =
     let t = sym (ap (λ w. is_set w (k - 1)) c.before.before.word_at.ensures) ∙ sym c.before.test.ensures in (
       search rules,
       ⊎_elim
-          (λ w. w.2 ∙ w.1.ensures ∙ ap (λ m. setBit m i) h.loop.invariant.1 ∙ column-set f a k i (omega arith) (t ∙ w.0.taken))
-          (λ w. w.1 ∙ h.loop.invariant.1 ∙ column-unset f a k i (t ∙ w.0.left))
+          (λ w. w.2 ∙ w.1.ensures ∙ ap (λ m. set_bit m i) h.loop.invariant.1 ∙ column_set f a k i (omega arith) (t ∙ w.0.taken))
+          (λ w. w.1 ∙ h.loop.invariant.1 ∙ column_unset f a k i (t ∙ w.0.left))
           c.if1.branch,
     )
 
@@ -84,16 +84,16 @@ cast-result : tie.Need-overflow-cast-result invariant-loop decreases-loop
 cast-result c =
     let h = c.before in
     let b = h.before.before.before.before in
-    record { fits = rw h.loop.invariant.1 (column-small b.args.file.now h.before.table_at.result b.args.column h.loop.i (omega arith)) }
+    record { fits = rw h.loop.invariant.1 (column_small b.args.file.now h.before.table_at.result b.args.column h.loop.i (omega arith)) }
 
 returns : tie.Need-returns invariant-loop decreases-loop
 returns c =
     let h = c.before in
     let b = h.before.before.before.before in
     let f = b.args.file.now in
-    let e : h.loop.i ≡ segmentsIn f = omega (arith, c.loop-test.false) in
-    h.loop.invariant.1 ∙ ap (columnUpTo f h.before.table_at.result b.args.column) e
-    ∙ ap (λ a. columnUpTo f a b.args.column (segmentsIn f)) h.before.table_at.ensures ∙ column-end f b.args.tag b.args.column
+    let e : h.loop.i ≡ segments_in f = omega (arith, c.loop-test.false) in
+    h.loop.invariant.1 ∙ ap (column_up_to f h.before.table_at.result b.args.column) e
+    ∙ ap (λ a. column_up_to f a b.args.column (segments_in f)) h.before.table_at.ensures ∙ column_end f b.args.tag b.args.column
 
 pub column-word-spec : {M : Type 1} → statement M
 column-word-spec =

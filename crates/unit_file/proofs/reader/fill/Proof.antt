@@ -5,14 +5,14 @@ use mathlib.Core.Path.{◌≡◌, ap, ◌∙◌}
 use native.Mathlib.Omega.{arith}
 use Rattle.unit.specs.declared.Outcome.{Outcome}
 use Rattle.unit.specs.Calls.{fresh_of}
-use Rattle.unit_file.specs.Read.{functionsIn}
-use Rattle.unit_file.specs.InnerRead.{unitBefore}
-use Rattle.unit_file.proofs.FillLaws.{unit-start, unit-end}
+use Rattle.unit_file.specs.Read.{functions_in}
+use Rattle.unit_file.specs.InnerRead.{unit_before}
+use Rattle.unit_file.proofs.FillLaws.{unit_start, unit_end}
 use Rattle.unit_file.proofs.reader.fill.Statement.{statement}
 use Rattle.unit_file.proofs.reader.fill.Tie as tie
 
 abbrev invariant-loop : tie.invariant-loop
-invariant-loop file functions unit₀ tag₀ unit tag = (1 ≤ tag) × (tag ≤ functions + 1) × (unit ≡ unitBefore file tag 1)
+invariant-loop file functions unit₀ tag₀ unit tag = (1 ≤ tag) × (tag ≤ functions + 1) × (unit ≡ unit_before file tag 1)
 
 abbrev decreases-loop : tie.decreases-loop
 decreases-loop file functions unit₀ tag₀ unit tag = functions + 1 - tag
@@ -33,7 +33,7 @@ loop-holds : tie.Need-loop-init invariant-loop decreases-loop
 unfolding fresh_of
 loop-holds c =
     let b = c.before.before.before.before.before.before in
-    (search rules, search rules, ap (λ (o : Outcome). o.unit) c.before.fresh.ensures ∙ unit-start b.args.file.now)
+    (search rules, search rules, ap (λ (o : Outcome). o.unit) c.before.fresh.ensures ∙ unit_start b.args.file.now)
 
 fill-function-requires : tie.Need-fill-function-requires invariant-loop decreases-loop
 fill-function-requires c κs = search rules
@@ -52,8 +52,8 @@ returns c =
     let h = c.before in
     let b = h.before.before.before.before.before.before.before in
     let f = b.args.file.now in
-    let e : h.loop.tag ≡ functionsIn f + 1 = omega (arith, c.loop-test.false) in
-    h.loop.invariant.2 ∙ ap (λ k. unitBefore f k 1) e ∙ unit-end f
+    let e : h.loop.tag ≡ functions_in f + 1 = omega (arith, c.loop-test.false) in
+    h.loop.invariant.2 ∙ ap (λ k. unit_before f k 1) e ∙ unit_end f
 
 pub fill_spec : {M : Type 1} → statement M
 fill_spec =

@@ -5,15 +5,15 @@ use mathlib.Core.Path.{◌≡◌, ap, ap₂, ◌∙◌}
 use native.Mathlib.Omega.{arith}
 use Rattle.unit.specs.declared.FunctionUnit.{FunctionUnit}
 use Rattle.unit.specs.declared.Outcome.{Outcome}
-use Rattle.unit.specs.Calls.{columnOf}
-use Rattle.unit_file.specs.Read.{columnsIn}
-use Rattle.unit_file.specs.InnerRead.{unitBefore}
+use Rattle.unit.specs.Calls.{column_of}
+use Rattle.unit_file.specs.Read.{columns_in}
+use Rattle.unit_file.specs.InnerRead.{unit_before}
 use Rattle.unit_file.proofs.FillLaws.{unit-more, unit-next}
 use Rattle.unit_file.proofs.reader.fill_function.Statement.{statement}
 use Rattle.unit_file.proofs.reader.fill_function.Tie as tie
 
 abbrev invariant-loop : tie.invariant-loop
-invariant-loop file tag columns unit₀ column₀ unit column = (1 ≤ column) × (column ≤ columns + 1) × (unit ≡ unitBefore file tag column)
+invariant-loop file tag columns unit₀ column₀ unit column = (1 ≤ column) × (column ≤ columns + 1) × (unit ≡ unit_before file tag column)
 
 abbrev decreases-loop : tie.decreases-loop
 decreases-loop file tag columns unit₀ column₀ unit column = columns + 1 - column
@@ -46,7 +46,7 @@ loop-again c =
       search rules,
       search rules,
       ap (λ (o : Outcome). o.unit) c.before.with-column.ensures
-          ∙ ap₂ (λ (u : FunctionUnit) (w : ℕ). (columnOf u k m w).unit) h.loop.invariant.2 c.before.before.column-word.ensures
+          ∙ ap₂ (λ (u : FunctionUnit) (w : ℕ). (column_of u k m w).unit) h.loop.invariant.2 c.before.before.column-word.ensures
           ∙ unit-more f b.requires.0 k m b.requires.1 (omega arith),
     )
 
@@ -55,8 +55,8 @@ returns c =
     let h = c.before in
     let b = h.before.before.before in
     let f = b.args.file.now in
-    let e : h.loop.column ≡ columnsIn f + 1 = omega (arith, c.loop-test.false) in
-    h.loop.invariant.2 ∙ ap (unitBefore f b.args.tag) e ∙ unit-next f b.requires.0 b.args.tag
+    let e : h.loop.column ≡ columns_in f + 1 = omega (arith, c.loop-test.false) in
+    h.loop.invariant.2 ∙ ap (unit_before f b.args.tag) e ∙ unit-next f b.requires.0 b.args.tag
 
 pub fill-function-spec : {M : Type 1} → statement M
 fill-function-spec =

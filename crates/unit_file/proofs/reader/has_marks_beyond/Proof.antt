@@ -5,7 +5,7 @@ use mathlib.Core.Path.{◌≡◌, sym}
 use native.Mathlib.Omega.{arith}
 use borrow.Author.Count.{below_more}
 use Rattle.words.proofs.BitLaws.{shifted_one}
-use Rattle.unit_file.specs.Read.{word32, columnsIn}
+use Rattle.unit_file.specs.Read.{word32, columns_in}
 use Rattle.unit_file.proofs.ReadLaws.{beyond-found, beyond-none}
 use Rattle.unit_file.proofs.reader.has_marks_beyond.Statement.{statement}
 use Rattle.unit_file.proofs.reader.has_marks_beyond.Tie as tie
@@ -62,8 +62,8 @@ cast-if1 : tie.Need-overflow-cast-if1 invariant-loop decreases-loop
 cast-if1 c = search rules
 
 -- the shift is the power
-top-is : (c : tie.After-shared-slice-known4 invariant-loop decreases-loop) → let n = columnsIn c.before.before.before.before.args.file.now in (1 * 2 ^ n) % 2 ^ 64 ≡ 2 ^ n
-top-is c = let b = c.before.before.before.before in shifted_one (columnsIn b.args.file.now) 64 (omega (arith, b.requires.counts.columns32))
+top-is : (c : tie.After-shared-slice-known4 invariant-loop decreases-loop) → let n = columns_in c.before.before.before.before.args.file.now in (1 * 2 ^ n) % 2 ^ 64 ≡ 2 ^ n
+top-is c = let b = c.before.before.before.before in shifted_one (columns_in b.args.file.now) 64 (omega (arith, b.requires.counts.columns32))
 
 returns : tie.Need-returns invariant-loop decreases-loop
 returns c =

@@ -4,7 +4,7 @@ use Prim.Native.Nat.{ℕ, ◌-◌, ◌≤◌, ◌<◌}
 use mathlib.Core.Path.{sym, ◌∙◌}
 use native.Mathlib.Omega.{arith}
 use borrow.Author.Count.{below_more}
-use Rattle.unit_file.proofs.ReadLaws.{OffsetGood, header-byte, header-offset, header-good}
+use Rattle.unit_file.proofs.ReadLaws.{OffsetGood, header_byte, header_offset, header_good}
 use Rattle.unit_file.proofs.reader.header_is_good.Statement.{statement}
 use Rattle.unit_file.proofs.reader.header_is_good.Tie as tie
 
@@ -18,7 +18,7 @@ shared-slice-read-if1 : tie.Need-shared-slice-read-if1 invariant-loop decreases-
 shared-slice-read-if1 c = search rules
 
 returns : tie.Need-returns invariant-loop decreases-loop
-returns c = sym (header-byte c.before.before.before.args.file.now c.if1.true)
+returns c = sym (header_byte c.before.before.before.args.file.now c.if1.true)
 
 shared-slice-read-functions : tie.Need-shared-slice-read-functions invariant-loop decreases-loop
 shared-slice-read-functions c = search rules
@@ -52,7 +52,7 @@ returns-2 c =
     let h = c.before.before.before.before in
     let f = h.before.before.before.before.before.args.file.now in
     let e : OffsetGood f h.loop.i → ⊥ = λ g. c.if2.true (c.before.before.half_at.ensures ∙ g ∙ sym c.before.table_at.ensures) in
-    sym (header-offset f h.loop.i c.before.before.before.loop-test.true e)
+    sym (header_offset f h.loop.i c.before.before.before.loop-test.true e)
 
 add-i : tie.Need-overflow-add-i invariant-loop decreases-loop
 add-i c = search rules
@@ -69,7 +69,7 @@ returns-3 : tie.Need-returns-3 invariant-loop decreases-loop
 returns-3 c =
     let b = c.before.before in
     let f = b.before.before.before.before.args.file.now in
-    sym (header-good f b.before.if1.false (λ i l. c.before.loop.invariant.1 i (omega (arith, c.loop-test.false))))
+    sym (header_good f b.before.if1.false (λ i l. c.before.loop.invariant.1 i (omega (arith, c.loop-test.false))))
 
 pub header-is-good-spec : {M : Type 1} → statement M
 header-is-good-spec =

@@ -2,8 +2,8 @@
 use mathlib.Core.Path.{◌≡◌, sym, ◌∙◌}
 use Rattle.unit.specs.declared.Answer.TheVariants.{Done}
 use Rattle.unit.specs.Calls.{fresh_of}
-use Rattle.unit_file.specs.Read.{readAnswer, read_of}
-use Rattle.unit_file.proofs.ReadLaws.{accepted-clean}
+use Rattle.unit_file.specs.Read.{read_answer, read_of}
+use Rattle.unit_file.proofs.ReadLaws.{accepted_clean}
 use borrow.Author.Rules.{rules}
 use Rattle.unit_file.proofs.reader.read.Statement.{statement}
 use Rattle.unit_file.proofs.reader.read.Tie as tie
@@ -20,11 +20,11 @@ fresh-requires c κs = search rules
 enum_told : tie.Need-enum-told
 enum_told c = search rules
 
-accepting : (c : tie.After-enum-told) → readAnswer c.before.before.before.before.args.file.now ≡ Done
+accepting : (c : tie.After-enum-told) → read_answer c.before.before.before.before.args.file.now ≡ Done
 accepting c = sym c.before.before.check-file.ensures ∙ c.enum_told.given.1
 
 fill-requires : tie.Need-fill-requires
-fill-requires c κs = accepted-clean _ (accepting c)
+fill-requires c κs = accepted_clean _ (accepting c)
 
 returns : tie.Need-returns
 unfolding read_of fresh_of

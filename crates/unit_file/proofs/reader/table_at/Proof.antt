@@ -2,7 +2,7 @@
 use Prim.Native.Nat.{◌-◌}
 use native.Mathlib.Omega.{arith}
 use lib.ListN.{get_or}
-use Rattle.unit_file.proofs.PlaceLaws.{tables-most}
+use Rattle.unit_file.proofs.PlaceLaws.{tables_most}
 use borrow.Author.Rules.{rules}
 use Rattle.unit_file.proofs.reader.table_at.Statement.{statement}
 use Rattle.unit_file.proofs.reader.table_at.Tie as tie
@@ -35,13 +35,13 @@ mul-result-3 : tie.Need-overflow-mul-result-3
 mul-result-3 c =
     let b = c.before.before in
     let p = b.requires in
-    omega (arith, tables-most (get_or b.args.file.now 1 0) (b.args.tag - 1) p.0.segments16 (omega (arith, p.0.functions4, p.1.most)))
+    omega (arith, tables_most (get_or b.args.file.now 1 0) (b.args.tag - 1) p.0.segments16 (omega (arith, p.0.functions4, p.1.most)))
 
 add-result-2 : tie.Need-overflow-add-result-2
 add-result-2 c =
     let b = c.before.before in
     let p = b.requires in
-    omega (arith, p.0.functions4, tables-most (get_or b.args.file.now 1 0) (b.args.tag - 1) p.0.segments16 (omega (arith, p.0.functions4, p.1.most)))
+    omega (arith, p.0.functions4, tables_most (get_or b.args.file.now 1 0) (b.args.tag - 1) p.0.segments16 (omega (arith, p.0.functions4, p.1.most)))
 
 returns : tie.Need-returns
 returns c = search rules

@@ -1,7 +1,7 @@
 -- `unit_file::reader::whole_length` meets its contract: the tables are short. Assumes nothing.
 use native.Mathlib.Omega.{arith}
 use lib.ListN.{get_or}
-use Rattle.unit_file.proofs.PlaceLaws.{tables-most}
+use Rattle.unit_file.proofs.PlaceLaws.{tables_most}
 use borrow.Author.Rules.{rules}
 use Rattle.unit_file.proofs.reader.whole_length.Statement.{statement}
 use Rattle.unit_file.proofs.reader.whole_length.Tie as tie
@@ -31,13 +31,13 @@ mul-result-3 : tie.Need-overflow-mul-result-3
 mul-result-3 c =
     let b = c.before.before in
     let f = b.args.file.now in
-    omega (arith, tables-most (get_or f 1 0) (get_or f 0 0) b.requires.segments16 b.requires.functions4)
+    omega (arith, tables_most (get_or f 1 0) (get_or f 0 0) b.requires.segments16 b.requires.functions4)
 
 add-result-2 : tie.Need-overflow-add-result-2
 add-result-2 c =
     let b = c.before.before in
     let f = b.args.file.now in
-    omega (arith, b.requires.functions4, tables-most (get_or f 1 0) (get_or f 0 0) b.requires.segments16 b.requires.functions4)
+    omega (arith, b.requires.functions4, tables_most (get_or f 1 0) (get_or f 0 0) b.requires.segments16 b.requires.functions4)
 
 returns : tie.Need-returns
 returns c = search rules
