@@ -13,6 +13,7 @@ import os
 import re
 
 TOP = re.compile(r"^(?:(?:abbrev|unfoldable|private|opaque)\s+)*(?:pub\s+)?([^\s:(){}.;,\"]+)\s*:(?!=)\s")
+INNER = re.compile(r"^\s+(?:(?:abbrev|unfoldable|private|opaque)\s+)*(?:pub\s+)?((?!let\b|use\b)[a-z][^\s:(){}.;,\"]*)\s*:(?!=)\s")
 FIELD = re.compile(r"^\s+(?:pub\s+)?([^\s:(){}.;,\"]+(?: [^\s:(){}.;,\"]+)*)\s*:\s")
 TOKEN = re.compile(r"\"(?:[^\"\\]|\\.)*\"|[^\s(){}\[\].;,\"`@]+|[\s(){}\[\].;,`@]")
 
@@ -37,7 +38,7 @@ def collected():
             for line in f:
                 if line.startswith("--"):
                     continue
-                if re.match(r"^(pub )?(record|data)\b", line) or (" record " in line and line.rstrip().endswith("where")):
+                if re.match(r"^(pub )?(record|data)\s", line) or (" record " in line and line.rstrip().endswith("where")):
                     inside = True
                     continue
                 if inside and line.startswith(" "):
@@ -45,6 +46,10 @@ def collected():
                     if m:
                         for it in m[1].split():
                             fields.setdefault(it, path)
+                    continue
+                m = INNER.match(line)
+                if m:
+                    names.setdefault(m[1], path)
                     continue
                 if line.strip():
                     inside = False

@@ -30,7 +30,7 @@ use Rattle.clique.proofs.LowerLaws.{per_turn, lower_bound}
 use Rattle.clique.proofs.SegmentLaws.{marks_most}
 use Rattle.planner.specs.Plans.{Best}
 use Rattle.bounds.specs.Bounds.{ones_of, InBounds, EveryGreedy}
-use Rattle.bounds.proofs.UpperLaws.{upper_greedy, eagerly, eagerly_length, rival-cycle, rival-never, rival-total}
+use Rattle.bounds.proofs.UpperLaws.{upper_greedy, eagerly, eagerly_length, rival_cycle, rival_never, rival_total}
 
 never : {A : Type 0} → ◌≡◌ {A = ℕ} 0 1 → A
 never e = absurd (omega arith)
@@ -42,9 +42,9 @@ upper_printed T q = refl
 
 module _ (T : Table) (b : Bounded T) (q g : ℕ) (pos : 1 ≤ g) where
   -- S ≤ (u + g) × K, where no rival has a smaller average
-  pub upper-least : (l : List ℕ) → ((rival : List ℕ) → Cycle g rival → NeverCollides T q rival → total l * length rival ≤ total rival * length l)
+  pub upper_least : (l : List ℕ) → ((rival : List ℕ) → Cycle g rival → NeverCollides T q rival → total l * length rival ≤ total rival * length l)
       → total l ≤ (ones_of (vector_word T q) + g) * length l
-  upper-least l least =
+  upper_least l least =
       let cv : ℕ = vector_word T q in
       let n : ℕ = width cv in
       let per : ℕ = ones_of cv + g in
@@ -55,22 +55,22 @@ module _ (T : Table) (b : Bounded T) (q g : ℕ) (pos : 1 ≤ g) where
       let size : length rival ≡ suc e = ap suc (eagerly_length g n cv e cv) in
       let compared : total l * suc e ≤ total rival * length l =
       subst (λ m. total l * m ≤ total rival * length l) size
-      (least rival (rival-cycle T q g n cv is pos (row_lt T q q) e) (rival-never T q g n cv is pos (row_lt T q q) e)) in
-      let paid : total rival * length l ≤ (once + per * e) * length l = mul-le-mul_right (length l) (rival-total T q g n cv is pos (row_lt T q q) e) in
+      (least rival (rival_cycle T q g n cv is pos (row_lt T q q) e) (rival_never T q g n cv is pos (row_lt T q q) e)) in
+      let paid : total rival * length l ≤ (once + per * e) * length l = mul-le-mul_right (length l) (rival_total T q g n cv is pos (row_lt T q q) e) in
       let split : (once + per * e) * length l ≡ e + per * e * length l = add-mul once (per * e) (length l) in
       let turned : per * e * length l ≡ e * (per * length l) = ap (λ x. x * length l) (mul_comm per e) ∙ mul_assoc e per (length l) in
       per_turn (total l) (per * length l) e
       (omega (arith, mul_comm (suc e) (total l), suc-mul e (per * length l)))
 
-  pub best-bounds : (l : List ℕ) → Best g T q l → InBounds g T q (length l) (total l)
-  best-bounds l best = record {
+  pub best_bounds : (l : List ℕ) → Best g T q l → InBounds g T q (length l) (total l)
+  best_bounds l best = record {
     lower = lower_bound T b q g l pos best.latencies best.never;
-    upper = upper-least l best.least;
+    upper = upper_least l best.least;
   }
 
   -- the greedy cycle, where its call is not refused by 7
-  pub greedy-bounds : length (states_of g T q) ≤ 256 → InBounds g T q (length (greedy_of g T q)) (total (greedy_of g T q))
-  greedy-bounds few =
+  pub greedy_bounds : length (states_of g T q) ≤ 256 → InBounds g T q (length (greedy_of g T q)) (total (greedy_of g T q))
+  greedy_bounds few =
       let cv : ℕ = vector_word T q in
       let n : ℕ = width cv in
       let s = greedy_cycle_lem g n cv few in
@@ -82,8 +82,8 @@ module _ (T : Table) (b : Bounded T) (q g : ℕ) (pos : 1 ≤ g) where
       }
 
   -- what is in bounds is so with the marks of one segment too: l × K ≤ S
-  pub in-bounds-marks : (K S : ℕ) → InBounds g T q K S → marks_of T q * K ≤ S
-  in-bounds-marks K S i = omega (arith, mul-le-mul_right K (marks_most T b q), i.lower)
+  pub in_bounds_marks : (K S : ℕ) → InBounds g T q K S → marks_of T q * K ≤ S
+  in_bounds_marks K S i = omega (arith, mul-le-mul_right K (marks_most T b q), i.lower)
 
 -- what the call answers
 pub every_greedy : EveryGreedy
@@ -96,7 +96,7 @@ every_greedy u q room out c e = go (tag_answer u q) (leb 16000 room) (leb 256 ou
     go Done true true true h e =
         let same : ◌≡◌ {A = Counted} (record { count = length (greedy_of 1 (marked u) q); sum = total (greedy_of 1 (marked u) q) }) c = cc in
         subst (λ (d : Counted). InBounds 1 (marked u) q d.count d.sum) same
-        (greedy-bounds (marked u) (marked_bounded u) q 1 (omega arith) (leb-true (length (states_of 1 (marked u) q)) 256 h))
+        (greedy_bounds (marked u) (marked_bounded u) q 1 (omega arith) (leb-true (length (states_of 1 (marked u) q)) 256 h))
     go Done false y z h e = never (cc)
     go Done true false z h e = never (cc)
     go Done true true false h e = never (cc)

@@ -20,7 +20,7 @@ use Rattle.planner.specs.Sheet.Call.{Mark, Unmark, Search, Read}
 use Rattle.planner.specs.Sheet.Reply.{accepted, refused, handed}
 use Rattle.planner.proofs.EveryList.{every_list}
 use Rattle.bounds.specs.Bounds.{InBounds, HandedInBounds, EveryPlan, EveryPlanAt}
-use Rattle.bounds.proofs.BoundsLaws.{best-bounds}
+use Rattle.bounds.proofs.BoundsLaws.{best_bounds}
 
 -- The sheet's table has its marks within the largest counts
 
@@ -86,7 +86,7 @@ pub owed_bounds : (t : Sheet) (p : Plan) → Bounded t.table → Owed t p → In
 owed_bounds t p b o =
     let cycle : List ℕ = take p.count p.latencies in
     let size : length cycle ≡ p.count = length-take-le p.count p.latencies (omega (arith, o.few, o.long)) in
-    subst₃ (InBounds 1 t.table) (sym o.tag) size (sym o.sum) (best-bounds t.table b t.owed 1 (omega arith) cycle o.best)
+    subst₃ (InBounds 1 t.table) (sym o.tag) size (sym o.sum) (best_bounds t.table b t.owed 1 (omega arith) cycle o.best)
 
 agrees_bounds : (k : Call) (t : Sheet) (a : Reply) → Good t → Agrees t k a → (p : Plan) → a ≡ handed p → InBounds 1 t.table p.tag p.count p.sum
 agrees_bounds (Mark q s c) t a h r p e = told_plan (spot_number t q s c) p (sym r ∙ e)

@@ -20,13 +20,13 @@ use Rattle.collision.specs.declared.Number.TheVariants as Number
 use Rattle.collision.specs.Pipeline.{Forbidden, Cycle, total, NeverCollides}
 use Rattle.collision.specs.Vector.{collides, row_word, vector_word, marks_of, bound_of}
 use Rattle.collision.specs.Answers.{bound_answer}
-use Rattle.collision.proofs.VectorLaws.{vector-bit}
+use Rattle.collision.proofs.VectorLaws.{vector_bit}
 use Rattle.clique.specs.Sets.{Clique, IsLargestClique, IsRowMaximum}
 use Rattle.clique.proofs.SetLaws.{passing}
-use Rattle.clique.proofs.LargestLaws.{clique-most, clique-reached, one_counts, unmarked_bound}
+use Rattle.clique.proofs.LargestLaws.{clique_most, clique_reached, one_counts, unmarked_bound}
 use Rattle.clique.proofs.LowerLaws.{lower}
 use Rattle.clique.proofs.SegmentLaws.{segment_clique}
-use Rattle.clique.proofs.RowLaws.{row-means}
+use Rattle.clique.proofs.RowLaws.{row_means}
 use Rattle.cycles.specs.declared.GreedyAnswer.TheVariants as GreedyAnswer
 use Rattle.cycles.specs.Greedy.{greedy_answer}
 use Rattle.planner.specs.Sheet.{Call, Reply, Run, Sheet, start, next, fed, owing, spot_number, search_number}
@@ -63,7 +63,7 @@ three_each l c never =
 pub permitted_difference : Clique figure1 1 (0 ∷ 2 ∷ []) → ⊥
 permitted_difference k =
     let f : Forbidden figure1 1 2 = k.differ 0 1 (omega arith) (omega arith) (omega arith) in
-    nowhere (sym (ap (λ w. is_set w 1) figure1_vector) ∙ (vector-bit figure1 figure1_bounded 1 2 (omega arith)).1 f)
+    nowhere (sym (ap (λ w. is_set w 1) figure1_vector) ∙ (vector_bit figure1 figure1_bounded 1 2 (omega arith)).1 f)
 
 -- Counts and sums
 
@@ -96,23 +96,23 @@ three_segments_ones = ap ones_of three_segments_vector
 -- no row of such a table has 4 marks
 pub two_not_largest : IsLargestClique three_segments 1 2 → ⊥
 two_not_largest m =
-    let r = clique-reached three_segments three_segments_bounded 1 in
+    let r = clique_reached three_segments three_segments_bounded 1 in
     omega (arith, m.most r.0 r.1, r.2, three_segments_bound)
 
 pub two_no_row_maximum : IsRowMaximum three_segments 1 2 → ⊥
 two_no_row_maximum m =
-    let r = (row-means three_segments three_segments_bounded 1).reached in
+    let r = (row_means three_segments three_segments_bounded 1).reached in
     omega (arith, m.most r.0 r.2 r.3.0 33, r.3.2, three_segments_bound)
 
 pub four_not_largest : IsLargestClique three_segments 1 4 → ⊥
 four_not_largest m =
     let r = m.reached in
-    omega (arith, clique-most three_segments three_segments_bounded 1 r.0 r.1, r.2, three_segments_bound)
+    omega (arith, clique_most three_segments three_segments_bounded 1 r.0 r.1, r.2, three_segments_bound)
 
 pub four_no_row_maximum : IsRowMaximum three_segments 1 4 → ⊥
 four_no_row_maximum m =
     let r = m.reached in
-    omega (arith, (row-means three_segments three_segments_bounded 1).most r.0 r.2 r.3.0 33, r.3.2, three_segments_bound)
+    omega (arith, (row_means three_segments three_segments_bounded 1).most r.0 r.2 r.3.0 33, r.3.2, three_segments_bound)
 
 -- the best cycle 1 4 4 is at the bound; a sum of 8 for three latencies is not in bounds, though no less than 2 × 3
 pub three_inside : InBounds 1 three_segments 1 3 9

@@ -23,9 +23,9 @@ use Rattle.diagram.specs.States.{has, arc}
 use Rattle.diagram.proofs.StateLaws.{next_lt, reachable_below}
 use Rattle.diagram.proofs.Sound.{sound, walk_cycle}
 use Rattle.diagram.proofs.Vectors.{IsVector}
-use Rattle.diagram.proofs.Walks.{run, walk-run}
+use Rattle.diagram.proofs.Walks.{run, walk_run}
 use Rattle.cycles.specs.Greedy.{least_latency, first_place, greedy_from, greedy_cycle}
-use Rattle.cycles.proofs.GreedyLaws.{least_permits, Trail, trail_start, trail_more, trail-length, place_inside, place_holds, greedy_more, greedy_end}
+use Rattle.cycles.proofs.GreedyLaws.{least_permits, Trail, trail_start, trail_more, trail_length, place_inside, place_holds, greedy_more, greedy_end}
 use Rattle.cycles.proofs.AlongLaws.{along_at}
 use Rattle.words.proofs.Tests.{nowhere, by_test}
 use Rattle.bounds.specs.Bounds.{ones_of}
@@ -124,16 +124,16 @@ greedy_from_lem g n cv (suc f) seen latencies s pos c r e =
     by_test (has s seen)
     (λ old.
     let j : ℕ = first_place s seen in
-    let inside : j < length latencies = subst (λ m. j < m) (trail-length r) (place_inside s seen old) in
+    let inside : j < length latencies = subst (λ m. j < m) (trail_length r) (place_inside s seen old) in
     let back : run cv cv (take j latencies) ≡ s = sym (ap (λ l. get_or l j 0) r.along ∙ along_at cv cv latencies j inside) ∙ place_holds s seen old in
     rw (greedy_end g n cv f seen latencies s old)
     (eager_closed g n cv (run cv cv (take j latencies)) (drop j latencies) pos c (run_lt cv cv (take j latencies) c c)
-    (eager_drop g n cv cv j latencies e) (run_drop cv cv j latencies ∙ walk-run r.walk ∙ sym back)))
+    (eager_drop g n cv cv j latencies e) (run_drop cv cv j latencies ∙ walk_run r.walk ∙ sym back)))
     (λ new.
     let t : ℕ = least_latency g n s in
     rw (greedy_more g n cv f seen latencies s new)
     (greedy_from_lem g n cv f (seen ++ (s ∷ [])) (latencies ++ (t ∷ [])) (next cv s t) pos c (trail_more r t new (least_permits g n s))
-    (eager_more g n cv cv t latencies e (ap (least_latency g n) (sym (walk-run r.walk))))))
+    (eager_more g n cv cv t latencies e (ap (least_latency g n) (sym (walk_run r.walk))))))
 
 pub upper_greedy : (g n cv : ℕ) → 1 ≤ g → cv < 2 ^ 32 → total (greedy_cycle g n cv) ≤ (ones_of cv + g) * length (greedy_cycle g n cv)
 unfolding greedy_cycle
@@ -181,13 +181,13 @@ module _ (T : Table) (q g n cv : ℕ) (v : IsVector T q cv n) (pos : 1 ≤ g) (c
       step (longest_permits g n end)
       (subst (λ s. Walk g n cv s (eagerly g n cv m cv) end) (sym (longest_next g n cv end (reachable_below g n cv end v.fits reached))) (eagerly_walk g n cv m cv))
 
-  pub rival-cycle : Cycle g (longest g n ∷ eagerly g n cv m cv)
-  rival-cycle = walk_cycle closed (omega arith)
+  pub rival_cycle : Cycle g (longest g n ∷ eagerly g n cv m cv)
+  rival_cycle = walk_cycle closed (omega arith)
 
-  pub rival-never : NeverCollides T q (longest g n ∷ eagerly g n cv m cv)
-  rival-never = sound T q g n cv end (longest g n ∷ eagerly g n cv m cv) v reached closed (omega arith)
+  pub rival_never : NeverCollides T q (longest g n ∷ eagerly g n cv m cv)
+  rival_never = sound T q g n cv end (longest g n ∷ eagerly g n cv m cv) v reached closed (omega arith)
 
-  pub rival-total : total (longest g n ∷ eagerly g n cv m cv) ≤ longest g n + ones_of cv + (ones_of cv + g) * m
-  rival-total =
+  pub rival_total : total (longest g n ∷ eagerly g n cv m cv) ≤ longest g n + ones_of cv + (ones_of cv + g) * m
+  rival_total =
       let sum = rw (eagerly_length g n cv m cv) at (eager_total g n cv cv (eagerly g n cv m cv) pos c c (eagerly_eager g n cv m cv)) in
       omega arith

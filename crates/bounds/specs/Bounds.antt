@@ -19,7 +19,7 @@ abbrev pub ones_of : ℕ → ℕ
 ones_of w = count_below 32 (is_set w)
 
 -- K latencies of q with sum S: b × K ≤ S ≤ (u + g) × K, where b is Bound; and so where b is the largest number of marks in one segment, which is no
--- larger (`in-bounds-marks`, proofs/BoundsLaws.antt)
+-- larger (`in_bounds_marks`, proofs/BoundsLaws.antt)
 pub record InBounds (g : ℕ) (T : Table) (q K S : ℕ) : Type 0 where
   pub lower : bound_of T q * K ≤ S
   pub upper : S ≤ (ones_of (vector_word T q) + g) * K

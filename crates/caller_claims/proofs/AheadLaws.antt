@@ -9,7 +9,7 @@ use Rattle.words.proofs.Tests.{nowhere}
 use Rattle.unit.specs.Unit.{inside}
 use Rattle.unit.proofs.Laws.{within}
 use Rattle.callers.specs.Turn.{round, first_after, next_turn}
-use Rattle.callers.proofs.RoundLaws.{Round, is_round, round-inside}
+use Rattle.callers.proofs.RoundLaws.{Round, is_round, round_inside}
 use Rattle.callers.proofs.RoundLaws.Round.{over, on}
 
 -- how many places caller j is after t, going round: 0 to C - 1
@@ -29,23 +29,23 @@ is_ahead C t j h = go (leb t j) refl
     go false e = past (leb-false t j e) (omega (arith, leb-false t j e))
 
 module _ (C : ℕ) where
-  pub ahead-lt : (t j : ℕ) → inside t C ≡ true → inside j C ≡ true → ahead C t j < C
-  ahead-lt t j i k = let w = within t C i in let v = within j C k in go (is_ahead C t j w.most) w.least w.most v.least v.most
+  pub ahead_lt : (t j : ℕ) → inside t C ≡ true → inside j C ≡ true → ahead C t j < C
+  ahead_lt t j i k = let w = within t C i in let v = within j C k in go (is_ahead C t j w.most) w.least w.most v.least v.most
     where
       go : {a : ℕ} → Ahead C t j a → 1 ≤ t → t ≤ C → 1 ≤ j → j ≤ C → a < C
       go (here e f) a b c d = omega arith
       go (past e f) a b c d = omega arith
 
-  pub ahead-self : (t : ℕ) → inside t C ≡ true → ahead C t t ≡ 0
-  ahead-self t i = let w = within t C i in go (is_ahead C t t w.most)
+  pub ahead_self : (t : ℕ) → inside t C ≡ true → ahead C t t ≡ 0
+  ahead_self t i = let w = within t C i in go (is_ahead C t t w.most)
     where
       go : {a : ℕ} → Ahead C t t a → a ≡ 0
       go (here e f) = omega arith
       go (past e f) = omega arith
 
   -- two callers are not equally far
-  pub ahead-same : (t j k : ℕ) → inside t C ≡ true → inside j C ≡ true → inside k C ≡ true → ahead C t j ≡ ahead C t k → j ≡ k
-  ahead-same t j k i x y e =
+  pub ahead_same : (t j k : ℕ) → inside t C ≡ true → inside j C ≡ true → inside k C ≡ true → ahead C t j ≡ ahead C t k → j ≡ k
+  ahead_same t j k i x y e =
       let w = within t C i in let v = within j C x in let z = within k C y in
       go (is_ahead C t j w.most) (is_ahead C t k w.most) e v.least v.most z.least z.most
     where
@@ -58,7 +58,7 @@ module _ (C : ℕ) where
   -- one place on, every other caller is one place nearer
   pub ahead_step : (t j : ℕ) → inside t C ≡ true → inside j C ≡ true → (t ≡ j → ⊥) → ahead C (round C t) j + 1 ≡ ahead C t j
   ahead_step t j i k n =
-      let w = within t C i in let v = within j C k in let r = within (round C t) C (round-inside C t i) in
+      let w = within t C i in let v = within j C k in let r = within (round C t) C (round_inside C t i) in
       go (is_round C t w.most) (is_ahead C t j w.most) (is_ahead C (round C t) j r.most) w.least w.most v.least v.most n
     where
       go : {r a b : ℕ} → Round C t r → Ahead C t j a → Ahead C r j b → 1 ≤ t → t ≤ C → 1 ≤ j → j ≤ C → (t ≡ j → ⊥) → b + 1 ≡ a
@@ -72,9 +72,9 @@ module _ (C : ℕ) where
       go (on x y) (past e f) (past g h) p q r o n = omega arith
 
   -- and the caller itself is the last
-  pub ahead-around : (t : ℕ) → inside t C ≡ true → ahead C (round C t) t + 1 ≡ C
-  ahead-around t i =
-      let w = within t C i in let r = within (round C t) C (round-inside C t i) in
+  pub ahead_around : (t : ℕ) → inside t C ≡ true → ahead C (round C t) t + 1 ≡ C
+  ahead_around t i =
+      let w = within t C i in let r = within (round C t) C (round_inside C t i) in
       go (is_round C t w.most) (is_ahead C (round C t) t r.most) w.least w.most
     where
       go : {r b : ℕ} → Round C t r → Ahead C r t b → 1 ≤ t → t ≤ C → b + 1 ≡ C
@@ -98,31 +98,31 @@ module _ (C : ℕ) where
     goes_first (suc k) t stay i h =
         go (work (round C t)) refl
         (λ n.
-        let s = ahead_step (round C t) j (round-inside C t i) there n in
-        goes_first k (round C t) stay (round-inside C t i) (omega arith))
+        let s = ahead_step (round C t) j (round_inside C t i) there n in
+        goes_first k (round C t) stay (round_inside C t i) (omega arith))
       where
         nearer : Goes work (round C (round C t)) j (first_after k C work (round C t) stay) → (round C t ≡ j → ⊥) → Goes work (round C t) j (first_after k C work (round C t) stay)
         nearer g n =
-            let s = ahead_step (round C t) j (round-inside C t i) there n in
+            let s = ahead_step (round C t) j (round_inside C t i) there n in
             record {
               there = g.there;
               works = g.works;
               steps = g.steps + 1;
               near = omega (arith, g.near);
-              others = λ m x l. let o = ahead_step (round C t) m (round-inside C t i) x (λ e. apart m x l s e) in omega (arith, g.others m x (omega arith));
+              others = λ m x l. let o = ahead_step (round C t) m (round_inside C t i) x (λ e. apart m x l s e) in omega (arith, g.others m x (omega arith));
             }
           where
             apart : (m : ℕ) → inside m C ≡ true → ahead C (round C t) j ≤ ahead C (round C t) m → ahead C (round C (round C t)) j + 1 ≡ ahead C (round C t) j → round C t ≡ m → ⊥
             apart m x l s e =
-                let z : ahead C (round C t) m ≡ 0 = subst (λ (y : ℕ). ahead C (round C t) y ≡ 0) e (ahead-self (round C t) (round-inside C t i)) in
+                let z : ahead C (round C t) m ≡ 0 = subst (λ (y : ℕ). ahead C (round C t) y ≡ 0) e (ahead_self (round C t) (round_inside C t i)) in
                 omega arith
 
         go : (b : Bool) → work (round C t) ≡ b → ((round C t ≡ j → ⊥) → Goes work (round C (round C t)) j (first_after k C work (round C t) stay))
             → Goes work (round C t) j (cond b (round C t) (first_after k C work (round C t) stay))
-        go true e r = record { there = round-inside C t i; works = e; steps = 0; near = omega arith; others = λ m x l. omega arith }
+        go true e r = record { there = round_inside C t i; works = e; steps = 0; near = omega arith; others = λ m x l. omega arith }
         go false e r =
             let n : round C t ≡ j → ⊥ = λ (q : round C t ≡ j). nowhere (sym e ∙ ap work q ∙ works) in
             nearer (r n) n
 
     pub goes_next : (t : ℕ) → inside t C ≡ true → Goes work (round C t) j (next_turn C work t)
-    goes_next t i = goes_first C t t i (ahead-lt (round C t) j (round-inside C t i) there)
+    goes_next t i = goes_first C t t i (ahead_lt (round C t) j (round_inside C t i) there)

@@ -24,13 +24,13 @@ use Rattle.queue.specs.Calls.{oldest, passed_then, bank_then, fewer}
 use Rattle.callers.specs.Turn.{each_caller, round, first_after, next_turn, turn_now}
 use Rattle.callers.specs.Queues.{room, place_of, queue_of, with_queue, count_of, with_count, waiting_of, has_work}
 use Rattle.callers.specs.Calls.{one_of, arrival_at, arrival_of, unit_at, passed_at, served_by, counts_then, unit_of}
-use Rattle.callers.proofs.RoundLaws.{round-inside}
+use Rattle.callers.proofs.RoundLaws.{round_inside}
 use Rattle.caller_claims.specs.Runs.{Port, Call, after, arrived_at, served_at}
 use Rattle.caller_claims.specs.Runs.Call.{arrival, unit}
 use Rattle.caller_claims.specs.Claims.{within, with_beyond, NothingBeyond}
 use Rattle.caller_claims.proofs.PartLaws.{part_before}
 use Rattle.caller_claims.specs.Tasks.{caller_in, passed_in}
-use Rattle.caller_claims.proofs.PortLaws.{caller_inside, arrived_by, arrival_port, arrival-refused, left_by, unit_port, unit-refused}
+use Rattle.caller_claims.proofs.PortLaws.{caller_inside, arrived_by, arrival_port, arrival_refused, left_by, unit_port, unit_refused}
 
 -- Lists that are cut
 
@@ -48,18 +48,18 @@ module _ (C : ℕ) (list : List Waiting) (counts : List ℕ) (i : ℕ) (ii : ins
   counted : i - 1 < C
   counted = omega (arith, (bounds i C ii).least, (bounds i C ii).most)
 
-  queue-cut : queue_of (take (room * C) list) i ≡ queue_of list i
-  queue-cut = part_before (place_of i) room (room * C) list reaches
+  queue_cut : queue_of (take (room * C) list) i ≡ queue_of list i
+  queue_cut = part_before (place_of i) room (room * C) list reaches
 
   count_cut : count_of (take C counts) i ≡ count_of counts i
   count_cut = get_or-take C counts (i - 1) 0 counted
 
-  line-cut : waiting_of (take (room * C) list) (take C counts) i ≡ waiting_of list counts i
-  line-cut = ap (λ (n : ℕ). take n (queue_of (take (room * C) list) i)) count_cut ∙ ap (take (count_of counts i)) queue-cut
+  line_cut : waiting_of (take (room * C) list) (take C counts) i ≡ waiting_of list counts i
+  line_cut = ap (λ (n : ℕ). take n (queue_of (take (room * C) list) i)) count_cut ∙ ap (take (count_of counts i)) queue_cut
 
   -- a change of the caller's queue or count is one of what is cut off to the left
-  put-queue : (q : List Waiting) → with_queue list i q ≡ with_queue (take (room * C) list) i q ++ drop (room * C) list
-  put-queue q =
+  put_queue : (q : List Waiting) → with_queue list i q ≡ with_queue (take (room * C) list) i q ++ drop (room * C) list
+  put_queue q =
       ap (λ (l : List Waiting). take (place_of i) list ++ q ++ l) (drop_cut (place_of i + room) (room * C) list reaches)
       ∙ sym (append_assoc (take (place_of i) list ++ q) (drop (place_of i + room) (take (room * C) list)) (drop (room * C) list))
       ∙ ap (λ (l : List Waiting). l ++ q ++ drop (place_of i + room) (take (room * C) list) ++ drop (room * C) list)
@@ -79,15 +79,15 @@ each_same C f g h =
     ap not (some_same C (λ k. not (f (k + 1))) (λ k. not (g (k + 1))) (λ k l. ap not (h (k + 1) (inside_of (k + 1) C (omega arith) (omega arith)))))
 
 module _ (C : ℕ) (f g : ℕ → Bool) (same : (i : ℕ) → inside i C ≡ true → f i ≡ g i) where
-  first-same : (k t stay : ℕ) → inside t C ≡ true → first_after k C f t stay ≡ first_after k C g t stay
+  first_same : (k t stay : ℕ) → inside t C ≡ true → first_after k C f t stay ≡ first_after k C g t stay
   unfolding first_after
-  first-same zero t stay i = refl
-  first-same (suc k) t stay i =
-      ap (λ b. cond b (round C t) (first_after k C f (round C t) stay)) (same (round C t) (round-inside C t i))
-      ∙ ap (cond (g (round C t)) (round C t)) (first-same k (round C t) stay (round-inside C t i))
+  first_same zero t stay i = refl
+  first_same (suc k) t stay i =
+      ap (λ b. cond b (round C t) (first_after k C f (round C t) stay)) (same (round C t) (round_inside C t i))
+      ∙ ap (cond (g (round C t)) (round C t)) (first_same k (round C t) stay (round_inside C t i))
 
-  now-same : (t : ℕ) → inside t C ≡ true → turn_now C f t ≡ turn_now C g t
-  now-same t i = ap (λ b. cond b t (next_turn C f t)) (same t i) ∙ ap (cond (g t) t) (first-same C t t i)
+  now_same : (t : ℕ) → inside t C ≡ true → turn_now C f t ≡ turn_now C g t
+  now_same t i = ap (λ b. cond b t (next_turn C f t)) (same t i) ∙ ap (cond (g t) t) (first_same C t t i)
 
 -- The calls
 
@@ -111,64 +111,64 @@ module _ (u : FunctionUnit) (C : ℕ) (p : Port) where
   -- Arrivals
 
   module _ (i : ℕ) (w : Waiting) where
-    arrived-same : one_of C i ≡ true → arrived_at u C p i w ≡ arrived_at u C cut i w
+    arrived_same : one_of C i ≡ true → arrived_at u C p i w ≡ arrived_at u C cut i w
     unfolding arrival_of
-    arrived-same e =
+    arrived_same e =
         let ii = and_right (inside C 4) (inside i C) e in
-        rw (queue-cut C p.list p.counts i ii, count_cut C p.list p.counts i ii)
+        rw (queue_cut C p.list p.counts i ii, count_cut C p.list p.counts i ii)
 
     -- the same of every port: its queue is not looked at
-    arrived-nowhere : one_of C i ≡ false → (q : Port) → arrived_at u C q i w ≡ Refused nowhere
+    arrived_nowhere : one_of C i ≡ false → (q : Port) → arrived_at u C q i w ≡ Refused nowhere
     unfolding arrival_of arrival_at
-    arrived-nowhere e q = by_test (sound_of u) (λ s. simp (s, e)) (λ s. simp s)
+    arrived_nowhere e q = by_test (sound_of u) (λ s. simp (s, e)) (λ s. simp s)
 
     arrivals : arrived_at u C p i w ≡ arrived_at u C cut i w
-    arrivals = by_test (one_of C i) arrived-same (λ e. arrived-nowhere e p ∙ sym (arrived-nowhere e cut))
+    arrivals = by_test (one_of C i) arrived_same (λ e. arrived_nowhere e p ∙ sym (arrived_nowhere e cut))
 
-    arrived-left : inside i C ≡ true → (a : Answer) → arrived_by p i w a ≡ with_beyond C p (arrived_by cut i w a)
-    arrived-left ii a = λ k. record { bank = p.bank; turn = p.turn; list = lists k; counts = counts k }
+    arrived_left : inside i C ≡ true → (a : Answer) → arrived_by p i w a ≡ with_beyond C p (arrived_by cut i w a)
+    arrived_left ii a = λ k. record { bank = p.bank; turn = p.turn; list = lists k; counts = counts k }
       where
         lists : (arrived_by p i w a).list ≡ (arrived_by cut i w a).list ++ drop (room * C) p.list
-        lists = rw (queue-cut C p.list p.counts i ii, count_cut C p.list p.counts i ii) (put-queue C p.list p.counts i ii _)
+        lists = rw (queue_cut C p.list p.counts i ii, count_cut C p.list p.counts i ii) (put_queue C p.list p.counts i ii _)
 
         counts : (arrived_by p i w a).counts ≡ (arrived_by cut i w a).counts ++ drop C p.counts
         counts = rw (count_cut C p.list p.counts i ii) (put_count C p.list p.counts i ii _)
 
-    arrival-leaves : after u C p (arrival i w) ≡ with_beyond C p (after u C cut (arrival i w))
-    arrival-leaves = by_test (one_of C i) here away
+    arrival_leaves : after u C p (arrival i w) ≡ with_beyond C p (after u C cut (arrival i w))
+    arrival_leaves = by_test (one_of C i) here away
       where
         here : one_of C i ≡ true → after u C p (arrival i w) ≡ with_beyond C p (after u C cut (arrival i w))
         here e =
             let a = arrived_at u C p i w in
             arrival_port u C p i w a refl
-            ∙ arrived-left (and_right (inside C 4) (inside i C) e) a
-            ∙ ap (with_beyond C p) (sym (arrival_port u C cut i w a (sym (arrived-same e))))
+            ∙ arrived_left (and_right (inside C 4) (inside i C) e) a
+            ∙ ap (with_beyond C p) (sym (arrival_port u C cut i w a (sym (arrived_same e))))
 
         away : one_of C i ≡ false → after u C p (arrival i w) ≡ with_beyond C p (after u C cut (arrival i w))
         away e =
-            arrival-refused u C p i w nowhere (arrived-nowhere e p)
+            arrival_refused u C p i w nowhere (arrived_nowhere e p)
             ∙ kept
-            ∙ ap (with_beyond C p) (sym (arrival-refused u C cut i w nowhere (arrived-nowhere e cut)))
+            ∙ ap (with_beyond C p) (sym (arrival_refused u C cut i w nowhere (arrived_nowhere e cut)))
 
   -- Time units
 
-  work-cut : (counts : List ℕ) (i : ℕ) → inside i C ≡ true → has_work (take C counts) i ≡ has_work counts i
-  work-cut counts i ii = ap (λ n. not (eqb n 0)) (count_cut C p.list counts i ii)
+  work_cut : (counts : List ℕ) (i : ℕ) → inside i C ≡ true → has_work (take C counts) i ≡ has_work counts i
+  work_cut counts i ii = ap (λ n. not (eqb n 0)) (count_cut C p.list counts i ii)
 
-  unit-same : unit_at u C p.turn p.list p.counts ≡ unit_at u C p.turn cut.list cut.counts
+  unit_same : unit_at u C p.turn p.list p.counts ≡ unit_at u C p.turn cut.list cut.counts
   unfolding unit_at
-  unit-same = sym (simp (
+  unit_same = sym (simp (
     each_same C (λ i. leb room (length (queue_of cut.list i))) (λ i. leb room (length (queue_of p.list i)))
-        (λ i ii. ap (λ (q : List Waiting). leb room (length q)) (queue-cut C p.list p.counts i ii)),
+        (λ i ii. ap (λ (q : List Waiting). leb room (length q)) (queue_cut C p.list p.counts i ii)),
     each_same C (λ i. leb (count_of cut.counts i) room) (λ i. leb (count_of p.counts i) room)
         (λ i ii. ap (λ (n : ℕ). leb n room) (count_cut C p.list p.counts i ii)),
     each_same C (λ i. tags_inside u.functions (waiting_of cut.list cut.counts i)) (λ i. tags_inside u.functions (waiting_of p.list p.counts i))
-        (λ i ii. ap (tags_inside u.functions) (line-cut C p.list p.counts i ii)),
+        (λ i ii. ap (tags_inside u.functions) (line_cut C p.list p.counts i ii)),
   ))
 
   module _ (it : inside p.turn C ≡ true) where
-    caller-same : caller_in C p ≡ caller_in C cut
-    caller-same = now-same C (has_work p.counts) (has_work cut.counts) (λ i ii. sym (work-cut p.counts i ii)) p.turn it
+    caller_same : caller_in C p ≡ caller_in C cut
+    caller_same = now_same C (has_work p.counts) (has_work cut.counts) (λ i ii. sym (work_cut p.counts i ii)) p.turn it
 
     abbrev c : ℕ
     c = caller_in C p
@@ -176,69 +176,69 @@ module _ (u : FunctionUnit) (C : ℕ) (p : Port) where
     ic : inside c C ≡ true
     ic = caller_inside C p it
 
-    passed-same : passed_in u C p ≡ passed_in u C cut
+    passed_same : passed_in u C p ≡ passed_in u C cut
     unfolding passed_at
-    passed-same =
-        ap (λ (a : Answer). passed_then a (oldest p.bank (waiting_of p.list p.counts c))) unit-same
+    passed_same =
+        ap (λ (a : Answer). passed_then a (oldest p.bank (waiting_of p.list p.counts c))) unit_same
         ∙ ap (λ (l : List Waiting). passed_then (unit_at u C p.turn cut.list cut.counts) (oldest p.bank l))
-        (sym (line-cut C p.list p.counts c ic) ∙ ap (waiting_of cut.list cut.counts) caller-same)
+        (sym (line_cut C p.list p.counts c ic) ∙ ap (waiting_of cut.list cut.counts) caller_same)
 
-    counts-cut : (a : Passed) → counts_then a cut.counts c ≡ take C (counts_then a p.counts c)
-    counts-cut a =
+    counts_cut : (a : Passed) → counts_then a cut.counts c ≡ take C (counts_then a p.counts c)
+    counts_cut a =
         rw (count_cut C p.list p.counts c ic)
         (sym (take-set-lt C p.counts (c - 1) (fewer a (count_of p.counts c)) (counted C p.list p.counts c ic)))
 
-    turn-same : (a : Passed) → (left_by u C p c a).turn ≡ (left_by u C cut c a).turn
-    turn-same (Passed.Started w) =
-        first-same C (has_work (counts_then (Passed.Started w) p.counts c)) (has_work (counts_then (Passed.Started w) cut.counts c))
-        (λ i ii. sym (ap (λ (l : List ℕ). has_work l i) (counts-cut (Passed.Started w)) ∙ work-cut (counts_then (Passed.Started w) p.counts c) i ii)) C c c ic
-    turn-same Passed.Idle = refl
-    turn-same (Passed.Refused why) = refl
+    turn_same : (a : Passed) → (left_by u C p c a).turn ≡ (left_by u C cut c a).turn
+    turn_same (Passed.Started w) =
+        first_same C (has_work (counts_then (Passed.Started w) p.counts c)) (has_work (counts_then (Passed.Started w) cut.counts c))
+        (λ i ii. sym (ap (λ (l : List ℕ). has_work l i) (counts_cut (Passed.Started w)) ∙ work_cut (counts_then (Passed.Started w) p.counts c) i ii)) C c c ic
+    turn_same Passed.Idle = refl
+    turn_same (Passed.Refused why) = refl
 
     unit_left : (a : Passed) → left_by u C p c a ≡ with_beyond C p (left_by u C cut c a)
-    unit_left a = λ k. record { bank = bank_then u a p.bank; turn = turn-same a k; list = lists k; counts = counts k }
+    unit_left a = λ k. record { bank = bank_then u a p.bank; turn = turn_same a k; list = lists k; counts = counts k }
       where
         lists : (left_by u C p c a).list ≡ (left_by u C cut c a).list ++ drop (room * C) p.list
-        lists = rw (queue-cut C p.list p.counts c ic, count_cut C p.list p.counts c ic) (put-queue C p.list p.counts c ic _)
+        lists = rw (queue_cut C p.list p.counts c ic, count_cut C p.list p.counts c ic) (put_queue C p.list p.counts c ic _)
 
         counts : (left_by u C p c a).counts ≡ (left_by u C cut c a).counts ++ drop C p.counts
         counts = rw (count_cut C p.list p.counts c ic) (put_count C p.list p.counts c ic _)
 
-    here-leaves : after u C p unit ≡ with_beyond C p (after u C cut unit)
-    here-leaves =
+    here_leaves : after u C p unit ≡ with_beyond C p (after u C cut unit)
+    here_leaves =
         let a = passed_in u C p in
         unit_port u C p a refl
         ∙ unit_left a
-        ∙ ap (λ (j : ℕ). with_beyond C p (left_by u C cut j a)) caller-same
-        ∙ ap (with_beyond C p) (sym (unit_port u C cut a (sym passed-same)))
+        ∙ ap (λ (j : ℕ). with_beyond C p (left_by u C cut j a)) caller_same
+        ∙ ap (with_beyond C p) (sym (unit_port u C cut a (sym passed_same)))
 
-    here-served : served_at u C p ≡ served_at u C cut
+    here_served : served_at u C p ≡ served_at u C cut
     unfolding unit_of
-    here-served = ap (served_by c) passed-same ∙ ap (λ (j : ℕ). served_by j (passed_in u C cut)) caller-same
+    here_served = ap (served_by c) passed_same ∙ ap (λ (j : ℕ). served_by j (passed_in u C cut)) caller_same
 
   -- the same of every port with this turn: its queues are not looked at
-  passed-nowhere : one_of C p.turn ≡ false → (q : Port) → q.turn ≡ p.turn → passed_in u C q ≡ Passed.Refused nowhere
+  passed_nowhere : one_of C p.turn ≡ false → (q : Port) → q.turn ≡ p.turn → passed_in u C q ≡ Passed.Refused nowhere
   unfolding passed_at unit_at
-  passed-nowhere e q t = by_test (sound_of u) (λ s. simp (t, e, s)) (λ s. simp s)
+  passed_nowhere e q t = by_test (sound_of u) (λ s. simp (t, e, s)) (λ s. simp s)
 
   units : served_at u C p ≡ served_at u C cut
   unfolding unit_of
   units = by_test (one_of C p.turn)
-      (λ e. here-served (and_right (inside C 4) (inside p.turn C) e))
-      (λ e. ap (served_by (caller_in C p)) (passed-nowhere e p refl) ∙ ap (served_by (caller_in C cut)) (sym (passed-nowhere e cut refl)))
+      (λ e. here_served (and_right (inside C 4) (inside p.turn C) e))
+      (λ e. ap (served_by (caller_in C p)) (passed_nowhere e p refl) ∙ ap (served_by (caller_in C cut)) (sym (passed_nowhere e cut refl)))
 
-  unit-leaves : after u C p unit ≡ with_beyond C p (after u C cut unit)
-  unit-leaves = by_test (one_of C p.turn) (λ e. here-leaves (and_right (inside C 4) (inside p.turn C) e)) away
+  unit_leaves : after u C p unit ≡ with_beyond C p (after u C cut unit)
+  unit_leaves = by_test (one_of C p.turn) (λ e. here_leaves (and_right (inside C 4) (inside p.turn C) e)) away
     where
       away : one_of C p.turn ≡ false → after u C p unit ≡ with_beyond C p (after u C cut unit)
       away e =
-          unit-refused u C p nowhere (passed-nowhere e p refl)
+          unit_refused u C p nowhere (passed_nowhere e p refl)
           ∙ kept
-          ∙ ap (with_beyond C p) (sym (unit-refused u C cut nowhere (passed-nowhere e cut refl)))
+          ∙ ap (with_beyond C p) (sym (unit_refused u C cut nowhere (passed_nowhere e cut refl)))
 
   leaves : (k : Call) → after u C p k ≡ with_beyond C p (after u C cut k)
-  leaves (arrival i w) = arrival-leaves i w
-  leaves unit = unit-leaves
+  leaves (arrival i w) = arrival_leaves i w
+  leaves unit = unit_leaves
 
 pub nothing_beyond : NothingBeyond
 nothing_beyond u C p = record { units = units u C p; arrivals = arrivals u C p; leaves = leaves u C p }

@@ -16,8 +16,8 @@ module _ (counts : List ℕ) (i : ℕ) where
   pub count_same : (n : ℕ) → i - 1 < length counts → count_of (with_count counts i n) i ≡ n
   count_same n h = get_or-set_same counts (i - 1) n 0 h
 
-  pub count-other : (j n : ℕ) → 1 ≤ i → 1 ≤ j → (j ≡ i → ⊥) → count_of (with_count counts i n) j ≡ count_of counts j
-  count-other j n a b d = get_or-set_other counts (i - 1) (j - 1) n 0 (λ e. d (omega arith))
+  pub count_other : (j n : ℕ) → 1 ≤ i → 1 ≤ j → (j ≡ i → ⊥) → count_of (with_count counts i n) j ≡ count_of counts j
+  count_other j n a b d = get_or-set_other counts (i - 1) (j - 1) n 0 (λ e. d (omega arith))
 
   -- putting back what was there changes nothing
   pub count_kept : with_count counts i (count_of counts i) ≡ counts
@@ -34,48 +34,48 @@ part_before (suc k) m (suc n) (x ∷ l) h = part_before k m n l (omega arith)
 
 module _ (list : List Waiting) (i : ℕ) where
   -- a queue that is all in the list ends in it
-  pub queue-within : room ≤ length (queue_of list i) → place_of i + room ≤ length list
-  queue-within h = omega (arith, length-take room (drop (place_of i) list), length-drop (place_of i) list)
+  pub queue_within : room ≤ length (queue_of list i) → place_of i + room ≤ length list
+  queue_within h = omega (arith, length-take room (drop (place_of i) list), length-drop (place_of i) list)
 
   module _ (q : List Waiting) (all : room ≤ length (queue_of list i)) (same : length q ≡ length (queue_of list i)) where
-    before-length : length (take (place_of i) list) ≡ place_of i
-    before-length = length-take-le (place_of i) list (omega (arith, queue-within all))
+    before_length : length (take (place_of i) list) ≡ place_of i
+    before_length = length-take-le (place_of i) list (omega (arith, queue_within all))
 
-    upto-length : length (take (place_of i) list ++ q) ≡ place_of i + room
-    upto-length = length-append (take (place_of i) list) q ∙ omega (arith, before-length, queue_length list i (queue-within all))
+    upto_length : length (take (place_of i) list ++ q) ≡ place_of i + room
+    upto_length = length-append (take (place_of i) list) q ∙ omega (arith, before_length, queue_length list i (queue_within all))
 
     pub list_length : length (with_queue list i q) ≡ length list
     list_length =
         length-append (take (place_of i) list ++ q) (drop (place_of i + room) list)
-        ∙ omega (arith, upto-length, length-drop (place_of i + room) list, queue-within all)
+        ∙ omega (arith, upto_length, length-drop (place_of i + room) list, queue_within all)
 
     -- what comes before and after the queue stays
 
     whole : with_queue list i q ≡ take (place_of i) list ++ (q ++ drop (place_of i + room) list)
     whole = append_assoc (take (place_of i) list) q (drop (place_of i + room) list)
 
-    before-kept : take (place_of i) (with_queue list i q) ≡ take (place_of i) list
-    before-kept = ap (take (place_of i)) whole ∙ take_at (take (place_of i) list) (q ++ drop (place_of i + room) list) (place_of i) before-length
+    before_kept : take (place_of i) (with_queue list i q) ≡ take (place_of i) list
+    before_kept = ap (take (place_of i)) whole ∙ take_at (take (place_of i) list) (q ++ drop (place_of i + room) list) (place_of i) before_length
 
     after_kept : drop (place_of i + room) (with_queue list i q) ≡ drop (place_of i + room) list
-    after_kept = drop_at (take (place_of i) list ++ q) (drop (place_of i + room) list) (place_of i + room) upto-length
+    after_kept = drop_at (take (place_of i) list ++ q) (drop (place_of i + room) list) (place_of i + room) upto_length
 
-    pub queue-same : queue_of (with_queue list i q) i ≡ q
-    queue-same =
+    pub queue_same : queue_of (with_queue list i q) i ≡ q
+    queue_same =
         ap (λ (l : List Waiting). take room (drop (place_of i) l)) whole
-        ∙ ap (take room) (drop_at (take (place_of i) list) (q ++ drop (place_of i + room) list) (place_of i) before-length)
-        ∙ take_at q (drop (place_of i + room) list) room (omega (arith, queue_length list i (queue-within all)))
+        ∙ ap (take room) (drop_at (take (place_of i) list) (q ++ drop (place_of i + room) list) (place_of i) before_length)
+        ∙ take_at q (drop (place_of i + room) list) room (omega (arith, queue_length list i (queue_within all)))
 
     -- the queue of a caller before, and of one after
 
-    queue-before : (j : ℕ) → place_of j + room ≤ place_of i → queue_of (with_queue list i q) j ≡ queue_of list j
-    queue-before j h =
+    queue_before : (j : ℕ) → place_of j + room ≤ place_of i → queue_of (with_queue list i q) j ≡ queue_of list j
+    queue_before j h =
         sym (part_before (place_of j) room (place_of i) (with_queue list i q) h)
-        ∙ ap (λ (l : List Waiting). take room (drop (place_of j) l)) before-kept
+        ∙ ap (λ (l : List Waiting). take room (drop (place_of j) l)) before_kept
         ∙ part_before (place_of j) room (place_of i) list h
 
-    queue-after : (j : ℕ) → place_of i + room ≤ place_of j → queue_of (with_queue list i q) j ≡ queue_of list j
-    queue-after j h =
+    queue_after : (j : ℕ) → place_of i + room ≤ place_of j → queue_of (with_queue list i q) j ≡ queue_of list j
+    queue_after j h =
         ap (take room) (sym (later (with_queue list i q)) ∙ ap (drop (place_of j - (place_of i + room))) after_kept ∙ later list)
       where
         later : (l : List Waiting) → drop (place_of j - (place_of i + room)) (drop (place_of i + room) l) ≡ drop (place_of j) l
@@ -83,12 +83,12 @@ module _ (list : List Waiting) (i : ℕ) where
             let e : place_of i + room + (place_of j - (place_of i + room)) ≡ place_of j = omega arith in
             drop-drop (place_of j - (place_of i + room)) (place_of i + room) l ∙ ap (λ (n : ℕ). drop n l) e
 
-    pub queue-other : (j : ℕ) → 1 ≤ i → 1 ≤ j → (j ≡ i → ⊥) → queue_of (with_queue list i q) j ≡ queue_of list j
-    queue-other j a b d = go (dec_lt j i)
+    pub queue_other : (j : ℕ) → 1 ≤ i → 1 ≤ j → (j ≡ i → ⊥) → queue_of (with_queue list i q) j ≡ queue_of list j
+    queue_other j a b d = go (dec_lt j i)
       where
         go : Dec (j < i) → queue_of (with_queue list i q) j ≡ queue_of list j
-        go (yes h) = queue-before j (omega arith)
-        go (no h) = queue-after j (later h d)
+        go (yes h) = queue_before j (omega arith)
+        go (no h) = queue_after j (later h d)
           where
             later : (j < i → ⊥) → (j ≡ i → ⊥) → place_of i + room ≤ place_of j
             later h d = omega arith
@@ -99,9 +99,9 @@ module _ (list : List Waiting) (counts : List ℕ) (i : ℕ) (q : List Waiting) 
     (same : length q ≡ length (queue_of list i)) (n : ℕ) where
   pub line_same : i - 1 < length counts → waiting_of (with_queue list i q) (with_count counts i n) i ≡ take n q
   line_same h =
-      ap (λ (m : ℕ). take m (queue_of (with_queue list i q) i)) (count_same counts i n h) ∙ ap (take n) (queue-same list i q all same)
+      ap (λ (m : ℕ). take m (queue_of (with_queue list i q) i)) (count_same counts i n h) ∙ ap (take n) (queue_same list i q all same)
 
   pub line_other : (j : ℕ) → 1 ≤ i → 1 ≤ j → (j ≡ i → ⊥) → waiting_of (with_queue list i q) (with_count counts i n) j ≡ waiting_of list counts j
   line_other j a b d =
-      ap (λ (m : ℕ). take m (queue_of (with_queue list i q) j)) (count-other counts i j n a b d)
-      ∙ ap (take (count_of counts j)) (queue-other list i q all same j a b d)
+      ap (λ (m : ℕ). take m (queue_of (with_queue list i q) j)) (count_other counts i j n a b d)
+      ∙ ap (take (count_of counts j)) (queue_other list i q all same j a b d)

@@ -23,7 +23,7 @@ use Rattle.callers.proofs.RoundLaws.{now_inside}
 use Rattle.caller_claims.specs.Runs.{Port, after, arrived_at}
 use Rattle.caller_claims.specs.Runs.Call.{arrival, unit}
 use Rattle.caller_claims.specs.Tasks.{caller_in, passed_in}
-use Rattle.caller_claims.proofs.PartLaws.{count-other, count_kept}
+use Rattle.caller_claims.proofs.PartLaws.{count_other, count_kept}
 
 -- whose turn it is in a time unit
 pub caller_inside : (C : ℕ) (p : Port) → inside p.turn C ≡ true → inside (caller_in C p) C ≡ true
@@ -45,8 +45,8 @@ module _ (u : FunctionUnit) (C : ℕ) (p : Port) (i : ℕ) (w : Waiting) where
   unfolding after arrival_of arrival_list
   arrival_port a e = ap (arrived_by p i w) e
 
-  pub arrival-refused : (why : Refusal) → arrived_at u C p i w ≡ Refused why → after u C p (arrival i w) ≡ p
-  arrival-refused why e =
+  pub arrival_refused : (why : Refusal) → arrived_at u C p i w ≡ Refused why → after u C p (arrival i w) ≡ p
+  arrival_refused why e =
       arrival_port (Refused why) e
       ∙ λ k. record { bank = p.bank; turn = p.turn; list = parts p.list i k; counts = count_kept p.counts i k }
 
@@ -66,14 +66,14 @@ module _ (u : FunctionUnit) (C : ℕ) (p : Port) where
   unfolding after unit_of unit_list
   unit_port a e = ap (left_by u C p (caller_in C p)) e
 
-  pub unit-refused : (why : Refusal) → passed_in u C p ≡ Passed.Refused why → after u C p unit ≡ p
-  unit-refused why e =
+  pub unit_refused : (why : Refusal) → passed_in u C p ≡ Passed.Refused why → after u C p unit ≡ p
+  unit_refused why e =
       unit_port (Passed.Refused why) e
       ∙ λ k. record { bank = p.bank; turn = p.turn; list = parts p.list (caller_in C p) k; counts = count_kept p.counts (caller_in C p) k }
 
-  pub unit-idle : passed_in u C p ≡ Passed.Idle
+  pub unit_idle : passed_in u C p ≡ Passed.Idle
       → after u C p unit ≡ record { bank = (step_of u p.bank Tick).bank; turn = caller_in C p; list = p.list; counts = p.counts }
-  unit-idle e =
+  unit_idle e =
       unit_port Passed.Idle e
       ∙ λ k. record {
         bank = (step_of u p.bank Tick).bank;
@@ -86,4 +86,4 @@ module _ (u : FunctionUnit) (C : ℕ) (p : Port) where
 pub work_other : (C : ℕ) (counts : List ℕ) (c : ℕ) (a : Passed) (j : ℕ) → inside c C ≡ true → inside j C ≡ true → (j ≡ c → ⊥)
     → has_work counts j ≡ true → has_work (counts_then a counts c) j ≡ true
 work_other C counts c a j ic ij n e =
-    ap (λ k. not (eqb k 0)) (count-other counts c j (fewer a (count_of counts c)) (within c C ic).least (within j C ij).least n) ∙ e
+    ap (λ k. not (eqb k 0)) (count_other counts c j (fewer a (count_of counts c)) (within c C ic).least (within j C ij).least n) ∙ e

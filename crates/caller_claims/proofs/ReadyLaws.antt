@@ -16,7 +16,7 @@ use Rattle.unit.specs.Unit.{inside, marked, sound_of}
 use Rattle.unit.proofs.Laws.{within}
 use Rattle.collision.specs.Vector.{largest_column}
 use Rattle.controller.specs.Bank.{shifted, granted}
-use Rattle.controller.proofs.TickLaws.{tick-shifts, shifted_below, step_below, empty_below}
+use Rattle.controller.proofs.TickLaws.{tick_shifts, shifted_below, step_below, empty_below}
 use Rattle.queue.specs.declared.Waiting.{Waiting}
 use Rattle.queue.specs.declared.Passed.{Passed}
 use Rattle.queue.specs.declared.Passed.TheVariants as Passed
@@ -35,8 +35,8 @@ use Rattle.caller_claims.specs.Runs.Call.{arrival, unit}
 use Rattle.caller_claims.specs.Runs.Action.{event, call}
 use Rattle.caller_claims.proofs.PartLaws.{line_same, line_other}
 use Rattle.caller_claims.specs.Tasks.{caller_in, passed_in}
-use Rattle.caller_claims.proofs.PortLaws.{caller_inside, arrived_by, arrival_port, arrival-refused, unit_port, unit-idle}
-use Rattle.caller_claims.proofs.HeldLaws.{Held, held, held-empty, length-after, held_after, arrival-whole, joined_length, joined_line, start-whole, left_length}
+use Rattle.caller_claims.proofs.PortLaws.{caller_inside, arrived_by, arrival_port, arrival_refused, unit_port, unit_idle}
+use Rattle.caller_claims.proofs.HeldLaws.{Held, held, held_empty, length_after, held_after, arrival_whole, joined_length, joined_line, start_whole, left_length}
 use Rattle.caller_claims.proofs.Steady.{units}
 
 pub record Ready (u : FunctionUnit) (C : ℕ) (p : Port) : Type 0 where
@@ -83,22 +83,22 @@ module _ (u : FunctionUnit) (C : ℕ) (p : Port) (k : ℕ) (v : Waiting) where
   p' = after u C p (arrival k v)
 
   -- the line of each caller stays, or has the record at its end
-  pub line-grown : Held u C p.list p.counts → (i : ℕ) → inside i C ≡ true → (line_of p' i ≡ line_of p i) ⊎ (line_of p' i ≡ line_of p i ++ v ∷ [])
-  line-grown h i ii = go (arrived_at u C p k v) refl
+  pub line_grown : Held u C p.list p.counts → (i : ℕ) → inside i C ≡ true → (line_of p' i ≡ line_of p i) ⊎ (line_of p' i ≡ line_of p i ++ v ∷ [])
+  line_grown h i ii = go (arrived_at u C p k v) refl
     where
       go : (a : Answer) → arrived_at u C p k v ≡ a → (line_of p' i ≡ line_of p i) ⊎ (line_of p' i ≡ line_of p i ++ v ∷ [])
-      go (Refused why) e = inl (ap (λ (q : Port). line_of q i) (arrival-refused u C p k v why e))
+      go (Refused why) e = inl (ap (λ (q : Port). line_of q i) (arrival_refused u C p k v why e))
       go Done e = rw (arrival_port u C p k v Done e) (by_test (eqb i k) same other)
         where
           same : eqb i k ≡ true → (line_of (arrived_by p k v Done) i ≡ line_of p i) ⊎ (line_of (arrived_by p k v Done) i ≡ line_of p i ++ v ∷ [])
           same y =
-              let o = arrival-whole u C p k v h e in
+              let o = arrival_whole u C p k v h e in
               let l = line_same p.list p.counts k _ o.all (joined_length u C p k v h e) (count_of p.counts k + 1) o.counted in
               rw (eqb-true i k y) (inr (l ∙ joined_line u C p k v h e))
 
           other : eqb i k ≡ false → (line_of (arrived_by p k v Done) i ≡ line_of p i) ⊎ (line_of (arrived_by p k v Done) i ≡ line_of p i ++ v ∷ [])
           other y =
-              let o = arrival-whole u C p k v h e in
+              let o = arrival_whole u C p k v h e in
               inl (line_other p.list p.counts k _ o.all (joined_length u C p k v h e) (count_of p.counts k + 1) i
               (within k C o.here).least (within i C ii).least (eqb-false i k y))
 
@@ -106,16 +106,16 @@ module _ (u : FunctionUnit) (C : ℕ) (p : Port) (k : ℕ) (v : Waiting) where
   unfolding after
   arrival_bank = refl
 
-  pub arrival-turn : p'.turn ≡ p.turn
+  pub arrival_turn : p'.turn ≡ p.turn
   unfolding after
-  arrival-turn = refl
+  arrival_turn = refl
 
   pub ready_arrival : Ready u C p → Ready u C p'
   ready_arrival r = record {
     low = subst (Low u) (sym arrival_bank) r.low;
     callers = r.callers;
-    turn = subst (λ (t : ℕ). inside t C ≡ true) (sym arrival-turn) r.turn;
-    long = omega (arith, r.long, length-after u C p r.held (arrival k v));
+    turn = subst (λ (t : ℕ). inside t C ≡ true) (sym arrival_turn) r.turn;
+    long = omega (arith, r.long, length_after u C p r.held (arrival k v));
     held = held_after u C p (arrival k v) r.held;
   }
 
@@ -125,17 +125,17 @@ module _ (u : FunctionUnit) (sound : sound_of u ≡ true) (C : ℕ) (p : Port) (
   abbrev c : ℕ
   c = caller_in C p
 
-  pub caller-here : inside c C ≡ true
-  caller-here = caller_inside C p r.turn
+  pub caller_here : inside c C ≡ true
+  caller_here = caller_inside C p r.turn
 
-  unit-done : unit_at u C p.turn p.list p.counts ≡ Done
-  unit-done =
+  unit_done : unit_at u C p.turn p.list p.counts ≡ Done
+  unit_done =
       units u C p.list p.counts r.held p.turn
       ∙ simp (sound, and_true r.callers r.turn, le-leb (room * C) (length p.list) r.long)
 
-  passed-oldest : passed_in u C p ≡ oldest p.bank (line_of p c)
+  passed_oldest : passed_in u C p ≡ oldest p.bank (line_of p c)
   unfolding passed_at
-  passed-oldest = ap (λ (a : Answer). passed_then a (oldest p.bank (line_of p c))) unit-done
+  passed_oldest = ap (λ (a : Answer). passed_then a (oldest p.bank (line_of p c))) unit_done
 
   -- a unit in which none was started
   pub record Idles : Type 0 where
@@ -147,8 +147,8 @@ module _ (u : FunctionUnit) (sound : sound_of u ≡ true) (C : ℕ) (p : Port) (
 
   unit_idles : passed_in u C p ≡ Passed.Idle → Idles
   unit_idles e =
-      let q = unit-idle u C p e in
-      let t = tick-shifts u sound p.bank in
+      let q = unit_idle u C p e in
+      let t = tick_shifts u sound p.bank in
       record {
         passed = e;
         bank = ap (λ (x : Port). x.bank) q ∙ t;
@@ -158,7 +158,7 @@ module _ (u : FunctionUnit) (sound : sound_of u ≡ true) (C : ℕ) (p : Port) (
             (record {
               low = subst (Low u) (sym t) (shifted_below (largest_column (marked u)) p.bank r.low);
               callers = r.callers;
-              turn = caller-here;
+              turn = caller_here;
               long = r.long;
               held = r.held;
             });
@@ -168,11 +168,11 @@ module _ (u : FunctionUnit) (sound : sound_of u ≡ true) (C : ℕ) (p : Port) (
 
   module _ (x : Waiting) (line : List Waiting) (e : line_of p c ≡ x ∷ line) where
     pub head_tag : inside x.tag u.functions ≡ true
-    head_tag = tags_first u x line (ap (tags_inside u.functions) (sym e) ∙ r.held.tags c caller-here)
+    head_tag = tags_first u x line (ap (tags_inside u.functions) (sym e) ∙ r.held.tags c caller_here)
 
     pub held_idles : granted p.bank x.tag ≡ false → Idles
     unfolding oldest
-    held_idles g = unit_idles (passed-oldest ∙ ap (oldest p.bank) e ∙ ap (λ ok. cond ok (Passed.Started x) Passed.Idle) g)
+    held_idles g = unit_idles (passed_oldest ∙ ap (oldest p.bank) e ∙ ap (λ ok. cond ok (Passed.Started x) Passed.Idle) g)
 
     pub record StartsFirst : Type 0 where
       pub passed : passed_in u C p ≡ Passed.Started x
@@ -184,26 +184,26 @@ module _ (u : FunctionUnit) (sound : sound_of u ≡ true) (C : ℕ) (p : Port) (
     unit_starts a g =
         let q = unit_port u C p (Passed.Started x) a in
         let s = bank_start u p.bank x sound head_tag g in
-        let o = start-whole u C p x r.held a in
+        let o = start_whole u C p x r.held a in
         let l = left_length u C p x r.held a in
         record {
           passed = a;
           turn = ap (λ (y : Port). y.turn) q;
           lines = λ i ii n. ap (λ (y : Port). line_of y i) q
-              ∙ line_other p.list p.counts c _ o.all l (count_of p.counts c - 1) i (within c C caller-here).least (within i C ii).least n;
+              ∙ line_other p.list p.counts c _ o.all l (count_of p.counts c - 1) i (within c C caller_here).least (within i C ii).least n;
           ready = record {
             low = subst (Low u) (sym (ap (λ (y : Port). y.bank) q ∙ s)) (low_started u x.tag p.bank sound head_tag r.low);
             callers = r.callers;
             turn = subst (λ (t : ℕ). inside t C ≡ true) (sym (ap (λ (y : Port). y.turn) q))
-                (next_inside C (has_work (counts_then (Passed.Started x) p.counts c)) C c c caller-here caller-here);
-            long = omega (arith, r.long, length-after u C p r.held unit);
+                (next_inside C (has_work (counts_then (Passed.Started x) p.counts c)) C c c caller_here caller_here);
+            long = omega (arith, r.long, length_after u C p r.held unit);
             held = held_after u C p unit r.held;
           };
         }
 
     pub granted_starts : granted p.bank x.tag ≡ true → StartsFirst
     unfolding oldest
-    granted_starts g = unit_starts (passed-oldest ∙ ap (oldest p.bank) e ∙ ap (λ ok. cond ok (Passed.Started x) Passed.Idle) g) g
+    granted_starts g = unit_starts (passed_oldest ∙ ap (oldest p.bank) e ∙ ap (λ ok. cond ok (Passed.Started x) Passed.Idle) g) g
 
   -- every time unit keeps the port ready
   ready_unit : Ready u C (after u C p unit)
@@ -211,7 +211,7 @@ module _ (u : FunctionUnit) (sound : sound_of u ≡ true) (C : ℕ) (p : Port) (
   ready_unit = go (line_of p c) refl
     where
       go : (l : List Waiting) → line_of p c ≡ l → Ready u C (after u C p unit)
-      go [] e = (unit_idles (passed-oldest ∙ ap (oldest p.bank) e)).ready
+      go [] e = (unit_idles (passed_oldest ∙ ap (oldest p.bank) e)).ready
       go (x ∷ line) e = by_test (granted p.bank x.tag) (λ g. (granted_starts x line e g).ready) (λ g. (held_idles x line e g).ready)
 
 -- From empty
@@ -222,24 +222,24 @@ ready_empty u C turn o list long = record {
   callers = and_left (inside C 4) (inside turn C) o;
   turn = and_right (inside C 4) (inside turn C) o;
   long = long;
-  held = held-empty u C list;
+  held = held_empty u C list;
 }
 
 module _ (u : FunctionUnit) (sound : sound_of u ≡ true) (C : ℕ) where
-  ready-done : (p : Port) (d : Action) → Ready u C p → Ready u C (done u C p d)
+  ready_done : (p : Port) (d : Action) → Ready u C p → Ready u C (done u C p d)
   unfolding done
-  ready-done p (event e) r = record { low = step_below u p.bank e sound r.low; callers = r.callers; turn = r.turn; long = r.long; held = r.held }
-  ready-done p (call (arrival k v)) r = ready_arrival u C p k v r
-  ready-done p (call unit) r = ready_unit u sound C p r
+  ready_done p (event e) r = record { low = step_below u p.bank e sound r.low; callers = r.callers; turn = r.turn; long = r.long; held = r.held }
+  ready_done p (call (arrival k v)) r = ready_arrival u C p k v r
+  ready_done p (call unit) r = ready_unit u sound C p r
 
-  ready-all : (actions : List Action) (p : Port) → Ready u C p → Ready u C (done_all u C p actions)
+  ready_all : (actions : List Action) (p : Port) → Ready u C p → Ready u C (done_all u C p actions)
   unfolding done_all
-  ready-all [] p r = r
-  ready-all (d ∷ actions) p r = ready-all actions (done u C p d) (ready-done p d r)
+  ready_all [] p r = r
+  ready_all (d ∷ actions) p r = ready_all actions (done u C p d) (ready_done p d r)
 
   pub ready : (turn : ℕ) → one_of C turn ≡ true → (list : List Waiting) → room * C ≤ length list → (actions : List Action)
       → Ready u C (brought u C turn list actions)
-  ready turn o list long actions = ready-all actions (empty_port turn list) (ready_empty u C turn o list long)
+  ready turn o list long actions = ready_all actions (empty_port turn list) (ready_empty u C turn o list long)
 
 -- where a record waits the unit is sound
 pub waits_sound : (u : FunctionUnit) (C turn : ℕ) (list : List Waiting) (actions : List Action) (i : ℕ) (w : Waiting) (line : List Waiting)

@@ -22,7 +22,7 @@ use Rattle.queue.specs.declared.Waiting.{Waiting}
 use Rattle.queue.specs.declared.Passed.{Passed}
 use Rattle.queue.specs.declared.Passed.TheVariants as Passed
 use Rattle.queue_claims.specs.Claims.{delay}
-use Rattle.queue_claims.proofs.DelayLaws.{delay-most, delay-tick}
+use Rattle.queue_claims.proofs.DelayLaws.{delay_most, delay_tick}
 use Rattle.callers.specs.Turn.{next_turn}
 use Rattle.callers.specs.Queues.{has_work}
 use Rattle.callers.specs.Calls.{served_by, counts_then, unit_of}
@@ -30,11 +30,11 @@ use Rattle.callers.proofs.RoundLaws.{turn_now_lem}
 use Rattle.caller_claims.specs.Runs.{Port, Call, Start, line_of, after, brought, units_in, no_start, start_in, starts, starts_of}
 use Rattle.caller_claims.specs.Runs.Call.{arrival, unit}
 use Rattle.caller_claims.specs.Claims.{StartsSoon, EachStartsSoon}
-use Rattle.caller_claims.proofs.AheadLaws.{ahead, ahead-lt, ahead_step, goes_next}
+use Rattle.caller_claims.proofs.AheadLaws.{ahead, ahead_lt, ahead_step, goes_next}
 use Rattle.caller_claims.specs.Tasks.{caller_in, passed_in}
 use Rattle.caller_claims.proofs.PortLaws.{work_other}
 use Rattle.caller_claims.proofs.HeldLaws.{held}
-use Rattle.caller_claims.proofs.ReadyLaws.{Ready, ready, waits_sound, work_some, some_work, line-grown, arrival_bank, arrival-turn, ready_arrival, caller-here, Idles, held_idles, StartsFirst, granted_starts}
+use Rattle.caller_claims.proofs.ReadyLaws.{Ready, ready, waits_sound, work_some, some_work, line_grown, arrival_bank, arrival_turn, ready_arrival, caller_here, Idles, held_idles, StartsFirst, granted_starts}
 
 -- Starts
 
@@ -97,7 +97,7 @@ module _ (u : FunctionUnit) (sound : sound_of u ≡ true) (C i : ℕ) (ii : insi
 
   -- no start of the unit waits longer than n ticks
   delay_fits : (p : Port) → Ready u C p → (x : Waiting) → delay p.bank x.tag ≤ N
-  delay_fits p r x = delay-most N p.bank r.low x.tag
+  delay_fits p r x = delay_most N p.bank r.low x.tag
 
   soon_none : AllSoon []
   unfolding starts starts_of units_in
@@ -111,7 +111,7 @@ module _ (u : FunctionUnit) (sound : sound_of u ≡ true) (C i : ℕ) (ii : insi
 
     -- the line of the caller whose turn it was and is
     turned : line_of p' p'.turn ≡ line_of p' p.turn
-    turned = ap (line_of p') (arrival-turn u C p k v)
+    turned = ap (line_of p') (arrival_turn u C p k v)
 
     abbrev Grown : List Waiting → Type 0
     Grown m = (line_of p' p.turn ≡ m) ⊎ (line_of p' p.turn ≡ m ++ v ∷ [])
@@ -120,7 +120,7 @@ module _ (u : FunctionUnit) (sound : sound_of u ≡ true) (C i : ℕ) (ii : insi
     late x l s = subst (λ (y : Bank). delay y x.tag ≤ e) (sym (arrival_bank u C p k v)) (g.own x l s)
 
     arrival_own : (x : Waiting) (l : List Waiting) → line_of p' p.turn ≡ x ∷ l → delay p'.bank x.tag ≤ e
-    arrival_own x l s = go (line_of p p.turn) refl (line-grown u C p k v r.held p.turn r.turn)
+    arrival_own x l s = go (line_of p p.turn) refl (line_grown u C p k v r.held p.turn r.turn)
       where
         go : (m : List Waiting) → line_of p p.turn ≡ m → Grown m → delay p'.bank x.tag ≤ e
         go m z (inl y) = late x l (z ∙ sym y ∙ s)
@@ -129,7 +129,7 @@ module _ (u : FunctionUnit) (sound : sound_of u ≡ true) (C i : ℕ) (ii : insi
             subst (λ (o : Waiting). delay p'.bank o.tag ≤ e) (head_same a x (m ++ v ∷ []) l (sym y ∙ s)) (late a m z)
 
     arrival_none : line_of p' p.turn ≡ [] → e ≡ N
-    arrival_none s = go (line_of p p.turn) refl (line-grown u C p k v r.held p.turn r.turn)
+    arrival_none s = go (line_of p p.turn) refl (line_grown u C p k v r.held p.turn r.turn)
       where
         go : (m : List Waiting) → line_of p p.turn ≡ m → Grown m → e ≡ N
         go m z (inl y) = g.none (z ∙ sym y ∙ s)
@@ -138,7 +138,7 @@ module _ (u : FunctionUnit) (sound : sound_of u ≡ true) (C i : ℕ) (ii : insi
 
     arrival_budget : Budget p' d e
     arrival_budget = record {
-      far = subst (λ (t : ℕ). ahead C t i ≤ d) (sym (arrival-turn u C p k v)) g.far;
+      far = subst (λ (t : ℕ). ahead C t i ≤ d) (sym (arrival_turn u C p k v)) g.far;
       most = g.most;
       own = λ x l s. arrival_own x l (sym turned ∙ s);
       none = λ s. arrival_none (sym turned ∙ s);
@@ -147,7 +147,7 @@ module _ (u : FunctionUnit) (sound : sound_of u ≡ true) (C i : ℕ) (ii : insi
   soon_arrival : (k : ℕ) (v : Waiting) (calls : List Call) → AllSoon calls → AllSoon (arrival k v ∷ calls)
   unfolding starts units_in
   soon_arrival k v calls all p w line n d e r h g =
-      let b = grown_head (line_of p i) (line_of (after u C p (arrival k v)) i) v w line (line-grown u C p k v r.held i ii) h in
+      let b = grown_head (line_of p i) (line_of (after u C p (arrival k v)) i) v w line (line_grown u C p k v r.held i ii) h in
       all (after u C p (arrival k v)) w b.rest n d e (ready_arrival u C p k v r) b.is (arrival_budget k v p d e r g)
 
   -- Time units
@@ -201,7 +201,7 @@ module _ (u : FunctionUnit) (sound : sound_of u ≡ true) (C i : ℕ) (ii : insi
     nearer : (x : Waiting) → (i ≡ c → ⊥) → q.turn ≡ next_turn C (has_work (counts_then (Passed.Started x) p.counts c)) c
         → suc (ahead C q.turn i) ≤ ahead C c i
     nearer x n t =
-        let ic = caller-here u sound C p r in
+        let ic = caller_here u sound C p r in
         let wi = work_other C p.counts c (Passed.Started x) i ic ii n (some_work p i w line h) in
         let o = goes_next C (has_work (counts_then (Passed.Started x) p.counts c)) i ii wi c ic in
         let k = ahead_step C c i ic ii (λ y. n (sym y)) in
@@ -247,7 +247,7 @@ module _ (u : FunctionUnit) (sound : sound_of u ≡ true) (C i : ℕ) (ii : insi
 
       held_on : granted p.bank x.tag ≡ false → Idles u sound C p r → Now later
       held_on y s =
-          let k = delay-tick N p.bank r.low x.tag (largest_31 u) y in
+          let k = delay_tick N p.bank r.low x.tag (largest_31 u) y in
           let t = all q w line (n + 1) (ahead C c i) (delay (shifted p.bank) x.tag) s.ready (s.lines i ∙ h) (held_budget s) in
           within_unit (omega (arith, k)) t
 
@@ -283,7 +283,7 @@ module _ (u : FunctionUnit) (sound : sound_of u ≡ true) (C i : ℕ) (ii : insi
   soon_ready : (p : Port) (w : Waiting) (line : List Waiting) → Ready u C p → line_of p i ≡ w ∷ line → (calls : List Call) → StartsSoon u C p i w calls
   soon_ready p w line r h calls =
       let d = ahead C p.turn i in
-      let near : suc d ≤ C = ahead-lt C p.turn i r.turn ii in
+      let near : suc d ≤ C = ahead_lt C p.turn i r.turn ii in
       let far = mul-le-mul_right (N + 1) near in
       let g : Budget p d N = record { far = omega arith; most = omega arith; own = λ x l y. delay_fits p r x; none = λ y. refl } in
       let s = within_more {more = C * (N + 1)} (omega (arith, suc-mul d (N + 1))) (soon_all calls p w line 0 d N r h g) in

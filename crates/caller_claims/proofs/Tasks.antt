@@ -51,26 +51,26 @@ module _ (u : FunctionUnit) (C : ℕ) where
     unfolding passed_at
     idled e = (passes u C p.turn p.list p.counts (was_idle p.bank answer (line_of p (caller_in C p)) e)).sound
 
-  action-plays : (p : Port) (h : History) (d : Action) → played u (at p h) (action_events u C p d) ≡ at (done u C p d) (history_next u C p h d)
+  action_plays : (p : Port) (h : History) (d : Action) → played u (at p h) (action_events u C p d) ≡ at (done u C p d) (history_next u C p h d)
   unfolding done after unit_of history_next played
-  action-plays p h (event e) = refl
-  action-plays p h (call (arrival i w)) = refl
-  action-plays p h (call unit) = unit_plays u (at p h) (passed_in u C p) (begun p) (idled p)
+  action_plays p h (event e) = refl
+  action_plays p h (call (arrival i w)) = refl
+  action_plays p h (call unit) = unit_plays u (at p h) (passed_in u C p) (begun p) (idled p)
 
-  actions-play : (actions : List Action) (p : Port) (h : History)
+  actions_play : (actions : List Action) (p : Port) (h : History)
       → played u (at p h) (events_from u C p actions) ≡ at (done_all u C p actions) (history_from u C p h actions)
   unfolding done_all history_from events_from played
-  actions-play [] p h = refl
-  actions-play (d ∷ actions) p h =
+  actions_play [] p h = refl
+  actions_play (d ∷ actions) p h =
       played_joined u (at p h) (action_events u C p d) (events_from u C (done u C p d) actions)
-      ∙ ap (λ (c : Course). played u c (events_from u C (done u C p d) actions)) (action-plays p h d)
-      ∙ actions-play actions (done u C p d) (history_next u C p h d)
+      ∙ ap (λ (c : Course). played u c (events_from u C (done u C p d) actions)) (action_plays p h d)
+      ∙ actions_play actions (done u C p d) (history_next u C p h d)
 
 -- The claims
 
 pub callers_play : CallersPlay
 callers_play u C turn list actions =
-    let e = sym (actions-play u C actions (empty_port turn list) outset.history) in
+    let e = sym (actions_play u C actions (empty_port turn list) outset.history) in
     (ap (λ (c : Course). c.bank) e, ap (λ (c : Course). c.history) e)
 
 pub callers_apart : CallersApart

@@ -25,9 +25,9 @@ use Rattle.callers.proofs.RoundLaws.{turn_now_lem}
 use Rattle.caller_claims.specs.Runs.{Port, Call, Start, after, start_in, starts, starts_of}
 use Rattle.caller_claims.specs.Runs.Call.{arrival, unit}
 use Rattle.caller_claims.specs.Claims.{BothWait, Alternate, TakeTurns}
-use Rattle.caller_claims.proofs.AheadLaws.{ahead, ahead-self, ahead-same, ahead-lt, ahead_step, ahead-around, goes_next}
+use Rattle.caller_claims.proofs.AheadLaws.{ahead, ahead_self, ahead_same, ahead_lt, ahead_step, ahead_around, goes_next}
 use Rattle.caller_claims.specs.Tasks.{caller_in, passed_in}
-use Rattle.caller_claims.proofs.PortLaws.{unit_port, unit-refused, work_other}
+use Rattle.caller_claims.proofs.PortLaws.{unit_port, unit_refused, work_other}
 
 -- t is a caller, and going round from it a comes before b
 record First (C t a b : ℕ) : Type 0 where
@@ -36,31 +36,31 @@ record First (C t a b : ℕ) : Type 0 where
 
 module _ (C a b : ℕ) (ia : inside a C ≡ true) (ib : inside b C ≡ true) (n : a ≡ b → ⊥) where
   -- after b, the other comes first
-  first-after : (work : ℕ → Bool) → work a ≡ true → First C (next_turn C work b) a b
-  first-after work w =
+  first_after_lem : (work : ℕ → Bool) → work a ≡ true → First C (next_turn C work b) a b
+  first_after_lem work w =
       let g = goes_next C work a ia w b ib in
       let s = ahead_step C b a ib ia (λ e. n (sym e)) in
-      let o = ahead-around C b ib in
-      let l = ahead-lt C b a ib ia in
+      let o = ahead_around C b ib in
+      let l = ahead_lt C b a ib ia in
       record { there = g.there; before = omega (arith, g.others a ia (omega arith), g.others b ib (omega arith)) }
 
   -- b itself does not
   not_last : (t : ℕ) → First C t a b → t ≡ b → ⊥
   not_last t h e =
-      let z : ahead C t b ≡ 0 = subst (λ (y : ℕ). ahead C t y ≡ 0) e (ahead-self C t h.there) in
+      let z : ahead C t b ≡ 0 = subst (λ (y : ℕ). ahead C t y ≡ 0) e (ahead_self C t h.there) in
       omega (arith, h.before)
 
   -- and stays first until it starts
-  first-kept : (work : ℕ → Bool) (t : ℕ) → First C t a b → (t ≡ a → ⊥) → work a ≡ true → First C (next_turn C work t) a b
-  first-kept work t h m w =
+  first_kept : (work : ℕ → Bool) (t : ℕ) → First C t a b → (t ≡ a → ⊥) → work a ≡ true → First C (next_turn C work t) a b
+  first_kept work t h m w =
       let g = goes_next C work a ia w t h.there in
       let s = ahead_step C t a h.there ia m in
       let o = ahead_step C t b h.there ib (not_last t h) in
       record { there = g.there; before = omega (arith, h.before, g.others a ia (omega arith), g.others b ib (omega (arith, h.before))) }
 
-  first-now : (work : ℕ → Bool) (t : ℕ) → First C t a b → work a ≡ true → First C (turn_now C work t) a b
-  first-now work t h w =
-      turn_now_lem C work t (λ r. First C r a b) (λ e. h) (λ e. first-kept work t h (λ x. nowhere (sym e ∙ ap work x ∙ w)) w)
+  first_now : (work : ℕ → Bool) (t : ℕ) → First C t a b → work a ≡ true → First C (turn_now C work t) a b
+  first_now work t h w =
+      turn_now_lem C work t (λ r. First C r a b) (λ e. h) (λ e. first_kept work t h (λ x. nowhere (sym e ∙ ap work x ∙ w)) w)
 
 both_swap : (u : FunctionUnit) (C : ℕ) (p : Port) (i j : ℕ) (calls : List Call) → BothWait u C p i j calls → BothWait u C p j i calls
 unfolding BothWait
@@ -103,7 +103,7 @@ module _ (u : FunctionUnit) (C : ℕ) (f : ℕ → Bool) where
           let t : f (caller_in C p) ≡ true = ap f s ∙ o.one in
           let nb : b ≡ a → ⊥ = λ z. n (sym z) in
           let work : ℕ → Bool = has_work (counts_then (Passed.Started v) p.counts (caller_in C p)) in
-          let k = first-after C b a ib ia nb work (work_other C p.counts (caller_in C p) (Passed.Started v) b h.there ib (λ z. n (sym s ∙ sym z)) wb) in
+          let k = first_after_lem C b a ib ia nb work (work_other C p.counts (caller_in C p) (Passed.Started v) b h.there ib (λ z. n (sym s ∙ sym z)) wb) in
           let r : (after u C p unit).turn ≡ next_turn C work a = moved v e ∙ ap (next_turn C work) s in
           rw t (
             s,
@@ -115,42 +115,42 @@ module _ (u : FunctionUnit) (C : ℕ) (f : ℕ → Bool) where
       other_start na wa =
           let t : f (caller_in C p) ≡ false = o.none (caller_in C p) na (not_last C a b ia ib n (caller_in C p) h) in
           let work : ℕ → Bool = has_work (counts_then (Passed.Started v) p.counts (caller_in C p)) in
-          let k = first-kept C a b ia ib n work (caller_in C p) h na
+          let k = first_kept C a b ia ib n work (caller_in C p) h na
           (work_other C p.counts (caller_in C p) (Passed.Started v) a h.there ia (λ z. na (sym z)) wa) in
           rw t (all a b ia ib n o (after u C p unit) (m + 1) (subst (λ (z : ℕ). First C z a b) (sym (moved v e)) k) w)
 
     -- a unit without a start leaves the turn with a caller from which a comes first
-    no_start : (t : ℕ) → (after u C p unit).turn ≡ t → First C t a b → BothWait u C (after u C p unit) a b calls → Alternate a b later
-    no_start t e h w = all a b ia ib n o (after u C p unit) (m + 1) (subst (λ (z : ℕ). First C z a b) (sym e) h) w
+    no_start_lem : (t : ℕ) → (after u C p unit).turn ≡ t → First C t a b → BothWait u C (after u C p unit) a b calls → Alternate a b later
+    no_start_lem t e h w = all a b ia ib n o (after u C p unit) (m + 1) (subst (λ (z : ℕ). First C z a b) (sym e) h) w
 
-  next-unit : (calls : List Call) → Next u C f calls → Next u C f (unit ∷ calls)
+  next_unit : (calls : List Call) → Next u C f calls → Next u C f (unit ∷ calls)
   unfolding starts starts_of unit_of BothWait
-  next-unit calls all a b ia ib n o p m h w = go (passed_in u C p) refl (first-now C a b ia ib n (has_work p.counts) p.turn h w.0)
+  next_unit calls all a b ia ib n o p m h w = go (passed_in u C p) refl (first_now C a b ia ib n (has_work p.counts) p.turn h w.0)
     where
       go : (x : Passed) → passed_in u C p ≡ x → First C (caller_in C p) a b
           → Alternate a b (starts_of f (start_in (served_by (caller_in C p) (passed_in u C p)) (m + 1) ++ starts u C (after u C p unit) (m + 1) calls))
       go (Passed.Refused why) e c =
-          rw e (no_start calls all a b ia ib n o p m p.turn (ap (λ (y : Port). y.turn) (unit_port u C p (Passed.Refused why) e)) h w.2)
+          rw e (no_start_lem calls all a b ia ib n o p m p.turn (ap (λ (y : Port). y.turn) (unit_port u C p (Passed.Refused why) e)) h w.2)
       go Passed.Idle e c =
-          rw e (no_start calls all a b ia ib n o p m (caller_in C p) (ap (λ (y : Port). y.turn) (unit_port u C p Passed.Idle e)) c w.2)
+          rw e (no_start_lem calls all a b ia ib n o p m (caller_in C p) (ap (λ (y : Port). y.turn) (unit_port u C p Passed.Idle e)) c w.2)
       go (Passed.Started v) e c =
           rw e
           (by_test (eqb (caller_in C p) a)
           (λ y. own_start calls all a b ia ib n o p m c w.2 v e (eqb-true (caller_in C p) a y) w.1)
           (λ y. other_start calls all a b ia ib n o p m c w.2 v e (eqb-false (caller_in C p) a y) w.0))
 
-  next-arrival : (k : ℕ) (x : Waiting) (calls : List Call) → Next u C f calls → Next u C f (arrival k x ∷ calls)
+  next_arrival : (k : ℕ) (x : Waiting) (calls : List Call) → Next u C f calls → Next u C f (arrival k x ∷ calls)
   unfolding starts BothWait after
-  next-arrival k x calls all a b ia ib n o p m h w = all a b ia ib n o (after u C p (arrival k x)) m h w
+  next_arrival k x calls all a b ia ib n o p m h w = all a b ia ib n o (after u C p (arrival k x)) m h w
 
-  next-none : Next u C f []
+  next_none : Next u C f []
   unfolding starts starts_of
-  next-none a b ia ib n o p m h w = tt
+  next_none a b ia ib n o p m h w = tt
 
-  next-all : (calls : List Call) → Next u C f calls
-  next-all [] = next-none
-  next-all (arrival k x ∷ calls) = next-arrival k x calls (next-all calls)
-  next-all (unit ∷ calls) = next-unit calls (next-all calls)
+  next_all : (calls : List Call) → Next u C f calls
+  next_all [] = next_none
+  next_all (arrival k x ∷ calls) = next_arrival k x calls (next_all calls)
+  next_all (unit ∷ calls) = next_unit calls (next_all calls)
 
 -- From any port
 
@@ -172,7 +172,7 @@ nothing_starts u C (arrival k x ∷ calls) p m f = nothing_starts u C calls (aft
 nothing_starts u C (unit ∷ calls) p m f =
     let r = no_turn u C p f in
     ap (λ (x : Passed). start_in (served_by (caller_in C p) x) (m + 1) ++ starts u C (after u C p unit) (m + 1) calls) r.1
-    ∙ ap (λ (q : Port). starts u C q (m + 1) calls) (unit-refused u C p r.0 r.1)
+    ∙ ap (λ (q : Port). starts u C q (m + 1) calls) (unit_refused u C p r.0 r.1)
     ∙ nothing_starts u C calls p (m + 1) f
 
 module _ (u : FunctionUnit) (C : ℕ) (p : Port) (i j : ℕ) (ii : inside i C ≡ true) (ij : inside j C ≡ true) (n : i ≡ j → ⊥) (calls : List Call)
@@ -190,21 +190,21 @@ module _ (u : FunctionUnit) (C : ℕ) (p : Port) (i j : ℕ) (ii : inside i C �
     none = λ k x y. simp (ne_eqb i k (λ e. x (sym e)), ne_eqb j k (λ e. y (sym e)));
   }
 
-  with-turn : inside p.turn C ≡ true → ByTurns
-  with-turn t = go (dec_lt (ahead C p.turn i) (ahead C p.turn j))
+  with_turn : inside p.turn C ≡ true → ByTurns
+  with_turn t = go (dec_lt (ahead C p.turn i) (ahead C p.turn j))
     where
       go : Dec (ahead C p.turn i < ahead C p.turn j) → ByTurns
-      go (yes h) = inl (next-all u C both calls i j ii ij n only p 0 (record { there = t; before = h }) w)
+      go (yes h) = inl (next_all u C both calls i j ii ij n only p 0 (record { there = t; before = h }) w)
       go (no h) =
-          inr (next-all u C both calls j i ij ii (λ e. n (sym e)) (only_swap only) p 0
-          (record { there = t; before = strict h (λ e. n (ahead-same C p.turn i j t ii ij e)) }) (both_swap u C p i j calls w))
+          inr (next_all u C both calls j i ij ii (λ e. n (sym e)) (only_swap only) p 0
+          (record { there = t; before = strict h (λ e. n (ahead_same C p.turn i j t ii ij e)) }) (both_swap u C p i j calls w))
         where
           strict : {x y : ℕ} → (x < y → ⊥) → (x ≡ y → ⊥) → y < x
           strict a b = omega arith
 
-  without-turn : inside p.turn C ≡ false → ByTurns
+  without_turn : inside p.turn C ≡ false → ByTurns
   unfolding starts_of
-  without-turn f = inl (subst (λ (l : List Start). Alternate i j (starts_of both l)) (sym (nothing_starts u C calls p 0 f)) tt)
+  without_turn f = inl (subst (λ (l : List Start). Alternate i j (starts_of both l)) (sym (nothing_starts u C calls p 0 f)) tt)
 
 pub take_turns : TakeTurns
-take_turns u C p i j ii ij n calls w = by_test (inside p.turn C) (with-turn u C p i j ii ij n calls w) (without-turn u C p i j ii ij n calls w)
+take_turns u C p i j ii ij n calls w = by_test (inside p.turn C) (with_turn u C p i j ii ij n calls w) (without_turn u C p i j ii ij n calls w)

@@ -50,8 +50,8 @@ module _ (list : List Waiting) (i : ℕ) (long : place_of i + room ≤ length li
   front : length (take (place_of i) list) ≡ place_of i
   front = length-take-le (place_of i) list (omega arith)
 
-  pub set-part : (count : ℕ) (w : Waiting) → count < room → set list (place_of i + count) w ≡ with_queue list i (set (queue_of list i) count w)
-  set-part count w h =
+  pub set_part : (count : ℕ) (w : Waiting) → count < room → set list (place_of i + count) w ≡ with_queue list i (set (queue_of list i) count w)
+  set_part count w h =
       ap (λ (l : List Waiting). set l (place_of i + count) w) (sym (take-append-drop (place_of i) list))
       ∙ ap (λ (k : ℕ). set (take (place_of i) list ++ drop (place_of i) list) (k + count) w) (sym front)
       ∙ set_append_add (take (place_of i) list) (drop (place_of i) list) count w
@@ -60,9 +60,9 @@ module _ (list : List Waiting) (i : ℕ) (long : place_of i + room ≤ length li
       (set-append_left (queue_of list i) (drop (place_of i + room) list) count w (omega (arith, queue_length list i long)))
       ∙ sym (append_assoc (take (place_of i) list) (set (queue_of list i) count w) (drop (place_of i + room) list))
 
-  pub forward-part : (count : ℕ) → 1 ≤ count → count ≤ room
+  pub forward_part : (count : ℕ) → 1 ≤ count → count ≤ room
       → take (place_of i) list ++ forward (drop (place_of i) list) count ≡ with_queue list i (forward (queue_of list i) count)
-  forward-part count some few =
+  forward_part count some few =
       ap (λ (l : List Waiting). take (place_of i) list ++ forward l count) behind
       ∙ ap (λ (l : List Waiting). take (place_of i) list ++ l)
       (forward_joined (queue_of list i) (drop (place_of i + room) list) count some (omega (arith, queue_length list i long)))

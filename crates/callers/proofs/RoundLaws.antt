@@ -27,8 +27,8 @@ is_round C t h = go (eqb t C) refl
         strict n = omega arith
 
 module _ (C : ℕ) where
-  pub round-inside : (t : ℕ) → inside t C ≡ true → inside (round C t) C ≡ true
-  round-inside t i = let w = within t C i in go (is_round C t w.most) w.least w.most
+  pub round_inside : (t : ℕ) → inside t C ≡ true → inside (round C t) C ≡ true
+  round_inside t i = let w = within t C i in go (is_round C t w.most) w.least w.most
     where
       go : {r : ℕ} → Round C t r → 1 ≤ t → t ≤ C → inside r C ≡ true
       go {r} (over e f) a b = inside_of r C (omega arith) (omega arith)
@@ -38,10 +38,10 @@ module _ (C : ℕ) where
 pub next_inside : (C : ℕ) (work : ℕ → Bool) (k t stay : ℕ) → inside t C ≡ true → inside stay C ≡ true → inside (first_after k C work t stay) C ≡ true
 unfolding first_after
 next_inside C work zero t stay i j = j
-next_inside C work (suc k) t stay i j = go (work (round C t)) (next_inside C work k (round C t) stay (round-inside C t i) j)
+next_inside C work (suc k) t stay i j = go (work (round C t)) (next_inside C work k (round C t) stay (round_inside C t i) j)
   where
     go : (b : Bool) → inside (first_after k C work (round C t) stay) C ≡ true → inside (cond b (round C t) (first_after k C work (round C t) stay)) C ≡ true
-    go true h = round-inside C t i
+    go true h = round_inside C t i
     go false h = h
 
 -- whose turn it is: the caller whose turn it was, or, where that one has no work, the next
@@ -70,14 +70,14 @@ module _ (C : ℕ) (work : ℕ → Bool) (i stay : ℕ) where
       let s : suc k - 1 ≡ k = omega arith in
       ap (λ b. cond b (round C i) (first_after k C work (round C i) stay)) e ∙ ap (λ (n : ℕ). first_after n C work (round C i) stay) (sym s)
 
-  first-end : (k : ℕ) → k ≤ 0 → first_after k C work i stay ≡ stay
+  first_end : (k : ℕ) → k ≤ 0 → first_after k C work i stay ≡ stay
   unfolding first_after
-  first-end zero h = refl
-  first-end (suc k) h = absurd (omega arith)
+  first_end zero h = refl
+  first_end (suc k) h = absurd (omega arith)
 
 one_round : (C i : ℕ) → Among C i → Among C (round C i)
 one_round C i o =
-    let w = within (round C i) C (round-inside C i (inside_of i C o.least o.most)) in
+    let w = within (round C i) C (round_inside C i (inside_of i C o.least o.most)) in
     record { few = o.few; least = w.least; most = w.most }
 
 -- so many callers are still to be asked
@@ -105,4 +105,4 @@ going_on {C} {counts} {from} {caller} {left} g h r e w =
     })
 
 pub going_end : {C : ℕ} {counts : List ℕ} {from caller left : ℕ} → Going C counts from caller left → left ≤ 0 → from ≡ next_turn C (has_work counts) from
-going_end {C} {counts} {from} {caller} {left} g h = sym (g.rest ∙ first-end C (has_work counts) caller from left h)
+going_end {C} {counts} {from} {caller} {left} g h = sym (g.rest ∙ first_end C (has_work counts) caller from left h)

@@ -29,7 +29,7 @@ use Rattle.callers.specs.Inner.{Among}
 use Rattle.callers.proofs.EachLaws.{each_true, each_false, each_same, each_at}
 use Rattle.callers.proofs.PartLaws.{queue_length, line_part}
 use Rattle.callers.proofs.TestedLaws.{one_of_lem, reaches, few_at, fits_at, unit_accepted, unit_long}
-use Rattle.callers.proofs.TryLaws.{caller-there}
+use Rattle.callers.proofs.TryLaws.{caller_there}
 
 -- a queue is all in the list exactly where the list reaches its end
 long_queue : (list : List Waiting) (i : ℕ) → leb room (length (queue_of list i)) ≡ leb (place_of i + room) (length list)
@@ -48,9 +48,9 @@ long_queues list C some = by_test (leb (room * C) (length list))
 -- An arrival
 
 module _ (u : FunctionUnit) (C i : ℕ) (list ys : List Waiting) (same : one_of C i ≡ true → place_of i + room ≤ length ys → queue_of list i ≡ queue_of ys i) where
-  pub arrival-same : (count : ℕ) (w : Waiting) → arrival_in u C i (length ys) list count w.tag ≡ arrival_at u C i (queue_of ys i) count w
+  pub arrival_same : (count : ℕ) (w : Waiting) → arrival_in u C i (length ys) list count w.tag ≡ arrival_at u C i (queue_of ys i) count w
   unfolding arrival_at arrival_answer
-  arrival-same count w = by_test (one_of C i) (λ o. simp (long_queue ys i, reaches (place_of i) (length ys)) (rest o)) (λ o. simp o)
+  arrival_same count w = by_test (one_of C i) (λ o. simp (long_queue ys i, reaches (place_of i) (length ys)) (rest o)) (λ o. simp o)
     where
       -- the tests of a queue, by the tags that wait
       tests : Bool → Answer
@@ -72,15 +72,15 @@ module _ (u : FunctionUnit) (C i : ℕ) (list ys : List Waiting) (same : one_of 
 
 module _ (u : FunctionUnit) (C turn : ℕ) (list ys : List Waiting) (counts : List ℕ)
     (same : inside C 4 ≡ true → room * C ≤ length ys → (i : ℕ) → inside i C ≡ true → queue_of list i ≡ queue_of ys i) where
-  fits-same : inside C 4 ≡ true → room * C ≤ length ys → each_caller C (few_at counts) ≡ true
+  fits_same : inside C 4 ≡ true → room * C ≤ length ys → each_caller C (few_at counts) ≡ true
       → each_caller C (fits_at u.functions list counts) ≡ each_caller C (λ i. tags_inside u.functions (waiting_of ys counts i))
-  fits-same c l few = each_same C (fits_at u.functions list counts) (λ i. tags_inside u.functions (waiting_of ys counts i))
+  fits_same c l few = each_same C (fits_at u.functions list counts) (λ i. tags_inside u.functions (waiting_of ys counts i))
       (λ i h. ap (tags_inside u.functions)
       (sym (line_part list i (count_of counts i) (leb-true _ _ (each_at C (few_at counts) i few h))) ∙ ap (take (count_of counts i)) (same c l i h)))
 
-  pub unit-same : unit_in u C turn (length ys) list counts ≡ unit_at u C turn ys counts
+  pub unit_same : unit_in u C turn (length ys) list counts ≡ unit_at u C turn ys counts
   unfolding unit_at
-  unit-same = by_test (sound_of u)
+  unit_same = by_test (sound_of u)
       (λ s. simp s (by_test (one_of C turn) (λ o. simp (o, long_queues ys C (within C 4 (and_left (inside C 4) _ o)).least) (rest (and_left (inside C 4) _ o))) (λ o. simp o)))
       (λ s. simp s)
     where
@@ -92,27 +92,27 @@ module _ (u : FunctionUnit) (C turn : ℕ) (list ys : List Waiting) (counts : Li
       rest c = by_test (leb (room * C) (length ys))
           (λ l. by_test (each_caller C (few_at counts))
           (λ f. ap (λ b. check (leb (room * C) (length ys)) ShortOutput (check (each_caller C (few_at counts)) TooManyWait (check b NoSuchTag Done)))
-          (fits-same c (leb-true _ _ l) f))
+          (fits_same c (leb-true _ _ l) f))
           (λ f. simp f))
           (λ l. simp l)
 
   -- what is started is the same
-  pub passed-same : (b : Bank) → passed_then (unit_in u C turn (length ys) list counts) (oldest b (waiting_of list counts (caller_of C turn counts))) ≡ passed_at u b C turn ys counts
+  pub passed_same : (b : Bank) → passed_then (unit_in u C turn (length ys) list counts) (oldest b (waiting_of list counts (caller_of C turn counts))) ≡ passed_at u b C turn ys counts
   unfolding passed_at
-  passed-same b =
-      ap (λ (a : Answer). passed_then a (oldest b (waiting_of list counts (caller_of C turn counts)))) unit-same ∙ go (unit_at u C turn ys counts) refl
+  passed_same b =
+      ap (λ (a : Answer). passed_then a (oldest b (waiting_of list counts (caller_of C turn counts)))) unit_same ∙ go (unit_at u C turn ys counts) refl
     where
       go : (a : Answer) → unit_at u C turn ys counts ≡ a
           → passed_then a (oldest b (waiting_of list counts (caller_of C turn counts))) ≡ passed_then a (oldest b (waiting_of ys counts (caller_of C turn counts)))
       go (Refused why) e = refl
       go Done e =
-          let d = unit_accepted u C turn (length ys) list counts (unit-same ∙ e) in
-          let o = caller-there C turn counts (one_of_lem C turn d.turn_there) in
+          let d = unit_accepted u C turn (length ys) list counts (unit_same ∙ e) in
+          let o = caller_there C turn counts (one_of_lem C turn d.turn_there) in
           ap (λ (q : List Waiting). oldest b (take (count_of counts (caller_of C turn counts)) q))
           (same (and_left (inside C 4) _ d.turn_there) (long e) (caller_of C turn counts) (inside_of _ C o.least o.most))
         where
           long : unit_at u C turn ys counts ≡ Done → room * C ≤ length ys
-          long e = unit_long u C turn (length ys) list counts (unit-same ∙ e)
+          long e = unit_long u C turn (length ys) list counts (unit_same ∙ e)
 
 -- A start: the caller is there, and its queue with a record in it
 pub record StartedThere (C i : ℕ) (ys : List Waiting) (counts : List ℕ) : Type 0 where
@@ -128,10 +128,10 @@ accepted_there : (u : FunctionUnit) (C turn : ℕ) (ys : List Waiting) (counts :
     → waiting_of ys counts (caller_of C turn counts) ≡ w ∷ line → StartedThere C (caller_of C turn counts) ys counts
 accepted_there u C turn ys counts w line e l =
     let i = caller_of C turn counts in
-    let p = unit-same u C turn ys ys counts (λ c m j h. refl) ∙ e in
+    let p = unit_same u C turn ys ys counts (λ c m j h. refl) ∙ e in
     let d = unit_accepted u C turn (length ys) ys counts p in
     let long = unit_long u C turn (length ys) ys counts p in
-    let o = caller-there C turn counts (one_of_lem C turn d.turn_there) in
+    let o = caller_there C turn counts (one_of_lem C turn d.turn_there) in
     record {
       four = and_left (inside C 4) _ d.turn_there;
       long = long;

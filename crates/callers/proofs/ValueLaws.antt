@@ -22,7 +22,7 @@ use Rattle.callers.specs.Queues.{queue_of, with_queue, count_of, with_count}
 use Rattle.callers.specs.Calls.{one_of, arrival_at, arrival_of, arrival_list, caller_of, turned_by, unit_of, list_by, unit_list, call_of, taken_of}
 use Rattle.callers.specs.Parts.{arrival_in, arrival_on_by, unit_in, unit_on_by}
 use Rattle.callers.proofs.TestedLaws.{caller_4}
-use Rattle.callers.proofs.SameLaws.{arrival-same, passed-same}
+use Rattle.callers.proofs.SameLaws.{arrival_same, passed_same}
 
 -- A time unit
 
@@ -38,13 +38,13 @@ module _ (u : FunctionUnit) (b : Bank) (s : Shared) (n : ℕ) (full : n ≡ leng
   unfolding unit_of
   turned =
       ap (λ (x : UnitOn). x.turned) found
-      ∙ ap (turned_by u b s.callers s.turn s.counts.each caller) (passed-same u s.callers s.turn s.list s.list s.counts.each (λ c l i h. refl) b)
+      ∙ ap (turned_by u b s.callers s.turn s.counts.each caller) (passed_same u s.callers s.turn s.list s.list s.counts.each (λ c l i h. refl) b)
 
   left : on.records.list ≡ unit_list u b s.callers s.turn s.list s.counts.each
   unfolding unit_list
   left =
       ap (λ (x : UnitOn). x.records.list) found
-      ∙ ap (list_by s.list s.counts.each caller) (passed-same u s.callers s.turn s.list s.list s.counts.each (λ c l i h. refl) b)
+      ∙ ap (list_by s.list s.counts.each caller) (passed_same u s.callers s.turn s.list s.list s.counts.each (λ c l i h. refl) b)
 
   pub takes : record {
     answer = on.turned.answer;
@@ -65,17 +65,17 @@ module _ (u : FunctionUnit) (s : Shared) (i : ℕ) (w : Waiting) (n count : ℕ)
   abbrev own : ℕ
   own = count_of s.counts.each i
 
-  abbrev answerAt : ℕ → Answer
-  answerAt k = arrival_at u s.callers i (queue_of s.list i) k w
+  abbrev answer_at : ℕ → Answer
+  answer_at k = arrival_at u s.callers i (queue_of s.list i) k w
 
   abbrev leaves : ℕ → Answer → ArrivalOn
   leaves k a = arrival_on_by i s.list k w a
 
-  found_at : on ≡ leaves count (answerAt count)
+  found_at : on ≡ leaves count (answer_at count)
   found_at =
       e
       ∙ ap (λ (k : ℕ). leaves count (arrival_in u s.callers i k s.list count w.tag)) full
-      ∙ ap (leaves count) (arrival-same u s.callers i s.list s.list (λ o l. refl) count w)
+      ∙ ap (leaves count) (arrival_same u s.callers i s.list s.list (λ o l. refl) count w)
 
   abbrev Calls : Type 0
   Calls = record { answer = on.arrival.answer; shared = record { callers = s.callers; turn = s.turn; list = on.records.list; counts = record { each = more } } } ≡ call_of u s i w
@@ -84,7 +84,7 @@ module _ (u : FunctionUnit) (s : Shared) (i : ℕ) (w : Waiting) (n count : ℕ)
   unfolding arrival_of arrival_list
   one t =
       let c : count ≡ own = there ∙ ap (λ b. cond b own 0) t in
-      let f : on ≡ leaves own (answerAt own) = found_at ∙ ap (λ (k : ℕ). leaves k (answerAt k)) c in
+      let f : on ≡ leaves own (answer_at own) = found_at ∙ ap (λ (k : ℕ). leaves k (answer_at k)) c in
       λ j. record {
         answer = (f j).arrival.answer;
         shared = record {
@@ -99,7 +99,7 @@ module _ (u : FunctionUnit) (s : Shared) (i : ℕ) (w : Waiting) (n count : ℕ)
       }
 
   -- refused, whatever the count
-  none : inside i 4 ≡ false → (why : Refusal) × ((k : ℕ) → answerAt k ≡ Refused why)
+  none : inside i 4 ≡ false → (why : Refusal) × ((k : ℕ) → answer_at k ≡ Refused why)
   unfolding arrival_at
   none t = by_test (one_of s.callers i)
       (λ o. nowhere (sym t ∙ caller_4 s.callers i o))
@@ -110,7 +110,7 @@ module _ (u : FunctionUnit) (s : Shared) (i : ℕ) (w : Waiting) (n count : ℕ)
   nobody t =
       let why = (none t).0 in
       let f : on ≡ leaves count (Refused why) = found_at ∙ ap (leaves count) ((none t).1 count) in
-      let a : Refused why ≡ answerAt own = sym ((none t).1 own) in
+      let a : Refused why ≡ answer_at own = sym ((none t).1 own) in
       λ j. record {
         answer = (ap (λ (x : ArrivalOn). x.arrival.answer) f ∙ a) j;
         shared = record {

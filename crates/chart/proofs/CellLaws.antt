@@ -57,26 +57,26 @@ cell_same a b f h n (suc c) m e =
     λ i. cond (leb c n && m c (omega arith) i && not (eqb (s i) none)) (s i) (r i)
 
 module _ (marked : Bool) (starts : ℕ → ℕ) (n c cell : ℕ) where
-  pub next-early : n < c → cell ≡ next_cell marked starts n c cell
-  next-early h = rw (lt-leb c n h)
+  pub next_early : n < c → cell ≡ next_cell marked starts n c cell
+  next_early h = rw (lt-leb c n h)
 
-  pub next-unmarked : marked ≡ false → cell ≡ next_cell marked starts n c cell
-  next-unmarked e = rw e (no (leb c n))
+  pub next_unmarked : marked ≡ false → cell ≡ next_cell marked starts n c cell
+  next_unmarked e = rw e (no (leb c n))
     where
       no : (b : Bool) → cell ≡ cond (b && false && not (eqb (starts (n - c)) none)) (starts (n - c)) cell
       no true = refl
       no false = refl
 
-  pub next-free : starts (n - c) ≡ none → cell ≡ next_cell marked starts n c cell
-  next-free e = rw (eq-eqb (starts (n - c)) none e) (no (leb c n) marked)
+  pub next_free : starts (n - c) ≡ none → cell ≡ next_cell marked starts n c cell
+  next_free e = rw (eq-eqb (starts (n - c)) none e) (no (leb c n) marked)
     where
       no : (b m : Bool) → cell ≡ cond (b && m && false) (starts (n - c)) cell
       no true true = refl
       no true false = refl
       no false m = refl
 
-  pub next-taken : c ≤ n → marked ≡ true → (starts (n - c) ≡ none → ⊥) → starts (n - c) ≡ next_cell marked starts n c cell
-  next-taken h e ne = rw (le-leb c n h, e, ne_eqb (starts (n - c)) none ne)
+  pub next_taken : c ≤ n → marked ≡ true → (starts (n - c) ≡ none → ⊥) → starts (n - c) ≡ next_cell marked starts n c cell
+  next_taken h e ne = rw (le-leb c n h, e, ne_eqb (starts (n - c)) none ne)
 
 -- Units
 
@@ -98,26 +98,26 @@ unfolding tasks_before count_below
 tasks_none u p = refl
 
 module _ (u : FunctionUnit) (p : Plan) (position : ℕ) (bank : Bank) (i : ℕ) (a : At u p position bank i) (x : UnitPlayed) (e : x ≡ play_of u p position bank) where
-  pub at-step : x ≡ unit_after u p i
-  at-step = e ∙ ap₂ (λ (j : ℕ) (b : Bank). play_of u p j b) a.position_is a.bank_is
+  pub at_step : x ≡ unit_after u p i
+  at_step = e ∙ ap₂ (λ (j : ℕ) (b : Bank). play_of u p j b) a.position_is a.bank_is
 
-  place-next : onward x ≡ place_after u p (i + 1)
+  place_next : onward x ≡ place_after u p (i + 1)
   unfolding place_after
-  place-next = ap onward at-step ∙ sym (ap (place_after u p) (add-one i))
+  place_next = ap onward at_step ∙ sym (ap (place_after u p) (add-one i))
 
   pub at_next : At u p x.position x.bank (i + 1)
-  at_next = record { position_is = ap (λ (y : Place). y.position) place-next; bank_is = ap (λ (y : Place). y.bank) place-next }
+  at_next = record { position_is = ap (λ (y : Place). y.position) place_next; bank_is = ap (λ (y : Place). y.bank) place_next }
 
-  pub tasks-next : (tasks : ℕ) → tasks ≡ tasks_before u p i → tasks + bool_byte x.started ≡ tasks_before u p (i + 1)
+  pub tasks_next : (tasks : ℕ) → tasks ≡ tasks_before u p i → tasks + bool_byte x.started ≡ tasks_before u p (i + 1)
   unfolding tasks_before
-  tasks-next tasks t =
+  tasks_next tasks t =
       let m = count_more i (λ k. (unit_after u p k).started) in
-      let s : bool_byte x.started ≡ cond (unit_after u p i).started 1 0 = byte_is x.started ∙ ap (λ (y : UnitPlayed). cond y.started 1 0) at-step in
+      let s : bool_byte x.started ≡ cond (unit_after u p i).started 1 0 = byte_is x.started ∙ ap (λ (y : UnitPlayed). cond y.started 1 0) at_step in
       omega (arith, m, s, t)
 
-  pub start-next : (tasks byte : ℕ) → tasks ≡ tasks_before u p i → byte ≡ start_byte x.started tasks → byte ≡ start_cell u p i
+  pub start_next : (tasks byte : ℕ) → tasks ≡ tasks_before u p i → byte ≡ start_byte x.started tasks → byte ≡ start_cell u p i
   unfolding start_cell
-  start-next tasks byte t b = b ∙ ap₂ (λ (y : UnitPlayed) (k : ℕ). start_byte y.started k) at-step t
+  start_next tasks byte t b = b ∙ ap₂ (λ (y : UnitPlayed) (k : ℕ). start_byte y.started k) at_step t
 
 -- Answers
 
@@ -140,13 +140,13 @@ module _ (u : FunctionUnit) (p : Plan) (n position : ℕ) (bank : Bank) (i : ℕ
     (x : UnitPlayed) (e : x ≡ play_of u p position bank) where
   one_more : units_answer u p (i + 1) ≡ x.answer
   one_more =
-      units_more u p i ∙ ap (λ (b : Answer). and_then b (unit_after u p i).answer) d ∙ sym (ap (λ (y : UnitPlayed). y.answer) (at-step u p position bank i a x e))
+      units_more u p i ∙ ap (λ (b : Answer). and_then b (unit_after u p i).answer) d ∙ sym (ap (λ (y : UnitPlayed). y.answer) (at_step u p position bank i a x e))
 
-  pub units-accepted : x.answer ≡ Done → units_answer u p (i + 1) ≡ Done
-  units-accepted f = one_more ∙ f
+  pub units_accepted : x.answer ≡ Done → units_answer u p (i + 1) ≡ Done
+  units_accepted f = one_more ∙ f
 
-  pub units-refused : i < n → (why : Refusal) → x.answer ≡ Refused why → Refused why ≡ units_answer u p n
-  units-refused h why f =
+  pub units_refused : i < n → (why : Refusal) → x.answer ≡ Refused why → Refused why ≡ units_answer u p n
+  units_refused h why f =
       let s : i + 1 + (n - (i + 1)) ≡ n = omega arith in
       sym (ap (units_answer u p) (sym s) ∙ units_stay u p why (i + 1) (n - (i + 1)) (one_more ∙ f))
 

@@ -31,7 +31,7 @@ use Rattle.diagram.specs.Answers.{written}
 use Rattle.plan_record.specs.Write.{holds_cycle}
 use Rattle.planner.specs.declared.Handed.{Handed}
 use Rattle.function_plan.specs.Own.{own_plan}
-use Rattle.function_plan.proofs.Claims.{own-says, own-hands}
+use Rattle.function_plan.proofs.Claims.{own_says, own_hands}
 use Rattle.chart.specs.declared.Charted.{Charted}
 use Rattle.chart.specs.declared.Charted.TheVariants as Charted
 use Rattle.chart.specs.Cells.{start_cell, segment_cell}
@@ -63,8 +63,8 @@ unfolding plan_answer
 plan_bad u p e h = rw (e, h)
 
 module _ (u : FunctionUnit) (p : Plan) (r : Ready u p) where
-  pub ready-sound : SoundUnit u
-  ready-sound = (sound_means u).0 (tag_accepted u p.tag r.tag).sound
+  pub ready_sound : SoundUnit u
+  ready_sound = (sound_means u).0 (tag_accepted u p.tag r.tag).sound
 
   -- The row of starts
 
@@ -80,8 +80,8 @@ module _ (u : FunctionUnit) (p : Plan) (r : Ready u p) where
     abbrev row : List ℕ
     row = list_below n (start_cell u p)
 
-    top-parts : (rest : List ℕ) → top_lines n (start_cell u p) ++ rest ≡ head ++ (row ++ (ascii "\n" ++ rest))
-    top-parts rest =
+    top_parts : (rest : List ℕ) → top_lines n (start_cell u p) ++ rest ≡ head ++ (row ++ (ascii "\n" ++ rest))
+    top_parts rest =
         let first = line (ascii "unit") n unit_digit ++ ascii "\n" in
         let name = at_left 8 (ascii "starts") in
         append_assoc (first ++ (name ++ row)) (ascii "\n") rest ∙ ap (λ l. l ++ (ascii "\n" ++ rest)) (sym (append_assoc first name row))
@@ -89,20 +89,20 @@ module _ (u : FunctionUnit) (p : Plan) (r : Ready u p) where
 
     row_at : (rest : List ℕ) (i : ℕ) → i < n → get_or (top_lines n (start_cell u p) ++ rest) (row_from n + i) 0 ≡ start_cell u p i
     row_at rest i h =
-        ap₂ (λ (l : List ℕ) (k : ℕ). get_or l (k + i) 0) (top-parts rest) (sym head_length) ∙ get_or-append-add head (row ++ (ascii "\n" ++ rest)) i 0
+        ap₂ (λ (l : List ℕ) (k : ℕ). get_or l (k + i) 0) (top_parts rest) (sym head_length) ∙ get_or-append-add head (row ++ (ascii "\n" ++ rest)) i 0
         ∙ get_or-append row (ascii "\n" ++ rest) 0 i (omega (arith, list_length n (start_cell u p))) ∙ list_at n (start_cell u p) i h
 
-    pub row-stands : {m : ℕ} {before mid : List ℕ} {e : ℕ} → Put m before 0 (top_lines n (start_cell u p)) mid e → (i : ℕ) → i < n → get_or mid (row_from n + i) 0 ≡ start_cell u p i
-    row-stands {before = before} w i h =
+    pub row_stands : {m : ℕ} {before mid : List ℕ} {e : ℕ} → Put m before 0 (top_lines n (start_cell u p)) mid e → (i : ℕ) → i < n → get_or mid (row_from n + i) 0 ≡ start_cell u p i
+    row_stands {before = before} w i h =
         ap (λ l. get_or l (row_from n + i) 0) (w.wrote.bytes ∙ placed_front before (top_lines n (start_cell u p))) ∙ row_at (drop (length (top_lines n (start_cell u p))) before) i h
 
-    pub top-end : {m : ℕ} {before mid : List ℕ} {e : ℕ} → Put m before 0 (top_lines n (start_cell u p)) mid e → e ≡ top_length n
-    top-end w = w.wrote.next ∙ zero-add (length (top_lines n (start_cell u p))) ∙ top_length_lem n (start_cell u p)
+    pub top_end : {m : ℕ} {before mid : List ℕ} {e : ℕ} → Put m before 0 (top_lines n (start_cell u p)) mid e → e ≡ top_length n
+    top_end w = w.wrote.next ∙ zero-add (length (top_lines n (start_cell u p))) ∙ top_length_lem n (start_cell u p)
 
     -- The lines of the segments
 
-    marks-same : (s c : ℕ) → s < 16 → c < 32 → marks_in (columns_of u p.tag) s (c + 1) ≡ marked u p.tag (s + 1) (c + 1)
-    marks-same s c s16 c32 =
+    marks_same : (s c : ℕ) → s < 16 → c < 32 → marks_in (columns_of u p.tag) s (c + 1) ≡ marked u p.tag (s + 1) (c + 1)
+    marks_same s c s16 c32 =
         let t = tag_range u p.tag r.tag in
         let m = columns_marked u p.tag (s + 1) (c + 1) t.least t.most (omega arith) (omega arith) (omega arith) (omega arith) in
         let e : s + 1 - 1 ≡ s = omega arith in
@@ -112,24 +112,24 @@ module _ (u : FunctionUnit) (p : Plan) (r : Ready u p) where
         → lines_text mid (row_from n) (columns_of u p.tag) u.columns n u.segments
         ≡ join_below u.segments (λ s. segment_line n (segment_cell u p (s + 1)) (s + 1))
     lines_same mid e =
-        let d = ready-sound in
+        let d = ready_sound in
         join_same u.segments _ _
         (λ s h. segment_same n (s + 1) _ _
-        (λ i k. cell_same _ _ _ _ i u.columns (λ c l. marks-same s c (omega (arith, d.segments.1)) (omega (arith, d.columns.1))) (λ j l. e j (omega arith))))
+        (λ i k. cell_same _ _ _ _ i u.columns (λ c l. marks_same s c (omega (arith, d.segments.1)) (omega (arith, d.columns.1))) (λ j l. e j (omega arith))))
 
     -- the chart in parts
-    pub chart-parts : (mid marks : List ℕ) → marks ≡ columns_of u p.tag → ((i : ℕ) → i < n → get_or mid (row_from n + i) 0 ≡ start_cell u p i)
+    pub chart_parts : (mid marks : List ℕ) → marks ≡ columns_of u p.tag → ((i : ℕ) → i < n → get_or mid (row_from n + i) 0 ≡ start_cell u p i)
         → top_lines n (start_cell u p) ++ lines_text mid (row_from n) marks u.columns n u.segments ≡ chart_of u p n
     unfolding chart_text
-    chart-parts mid marks m e =
+    chart_parts mid marks m e =
         ap (λ w. top_lines n (start_cell u p) ++ lines_text mid (row_from n) w u.columns n u.segments) m ∙ ap (λ l. top_lines n (start_cell u p) ++ l) (lines_same mid e)
 
-    pub chart-length : n < 2 ^ 32 → length (chart_of u p n) ≡ top_length n + line_length n * u.segments
+    pub chart_length : n < 2 ^ 32 → length (chart_of u p n) ≡ top_length n + line_length n * u.segments
     unfolding chart_text
-    chart-length w =
+    chart_length w =
         length-append (top_lines n (start_cell u p)) _
         ∙ ap₂ ◌+◌ (top_length_lem n (start_cell u p))
-        (lines_length n u.segments (λ s. segment_cell u p (s + 1)) w ready-sound.segments.1)
+        (lines_length n u.segments (λ s. segment_cell u p (s + 1)) w ready_sound.segments.1)
 
 -- How the call ends
 
@@ -138,44 +138,44 @@ ChartEnds u p n bytes r after = (r ≡ chart_answer u p n (length bytes)) × (af
 
 -- the tests in turn
 module _ (u : FunctionUnit) (p : Plan) (n room : ℕ) where
-  pub refused-plan : (why : Refusal) → plan_answer u p ≡ Refused why → Refused why ≡ chart_refusal u p n room
+  pub refused_plan : (why : Refusal) → plan_answer u p ≡ Refused why → Refused why ≡ chart_refusal u p n room
   unfolding chart_refusal
-  refused-plan why e = sym (ap (λ (a : Answer). and_then a (check (leb (length (chart_of u p n)) room) ShortOutput (units_answer u p n))) e)
+  refused_plan why e = sym (ap (λ (a : Answer). and_then a (check (leb (length (chart_of u p n)) room) ShortOutput (units_answer u p n))) e)
 
   module _ (w : n < 2 ^ 32) (e : plan_answer u p ≡ Done) (size : ℕ) (s : size ≡ top_length n + line_length n * u.segments) where
     long : length (chart_of u p n) ≡ size
-    long = chart-length u p (plan_ready u p e) n w ∙ sym s
+    long = chart_length u p (plan_ready u p e) n w ∙ sym s
 
     pub refused_short : room < size → Refused ShortOutput ≡ chart_refusal u p n room
     unfolding chart_refusal
     refused_short h = sym (simp (e, lt-leb (length (chart_of u p n)) room (omega (arith, long))))
 
-    pub refused-unit : size ≤ room → units_answer u p n ≡ chart_refusal u p n room
+    pub refused_unit : size ≤ room → units_answer u p n ≡ chart_refusal u p n room
     unfolding chart_refusal
-    refused-unit h = sym (simp (e, le-leb (length (chart_of u p n)) room (omega (arith, long))))
+    refused_unit h = sym (simp (e, le-leb (length (chart_of u p n)) room (omega (arith, long))))
 
   -- and where none refuses
-  pub none-refused : chart_refusal u p n room ≡ Done → Ready u p × (length (chart_of u p n) ≤ room)
+  pub none_refused : chart_refusal u p n room ≡ Done → Ready u p × (length (chart_of u p n) ≤ room)
   unfolding chart_refusal
-  none-refused e =
+  none_refused e =
       let b = then_both (plan_answer u p) (check (leb (length (chart_of u p n)) room) ShortOutput (units_answer u p n)) e in
       (plan_ready u p b.0, leb-true (length (chart_of u p n)) room (check_ok (leb (length (chart_of u p n)) room) ShortOutput (units_answer u p n) b.1))
 
-  pub chart-room : n < 2 ^ 32 → chart_refusal u p n room ≡ Done → top_length n + line_length n * u.segments ≤ room
-  chart-room w e = let d = none-refused e in omega (arith, chart-length u p d.0 n w, d.1)
+  pub chart_room : n < 2 ^ 32 → chart_refusal u p n room ≡ Done → top_length n + line_length n * u.segments ≤ room
+  chart_room w e = let d = none_refused e in omega (arith, chart_length u p d.0 n w, d.1)
 
 module _ (u : FunctionUnit) (p : Plan) (n : ℕ) (bytes : List ℕ) where
-  chart-ends : (a : Answer) → chart_refusal u p n (length bytes) ≡ a → ChartEnds u p n bytes (charted a (chart_of u p n)) (written a (chart_of u p n) bytes)
+  chart_ends : (a : Answer) → chart_refusal u p n (length bytes) ≡ a → ChartEnds u p n bytes (charted a (chart_of u p n)) (written a (chart_of u p n) bytes)
   unfolding chart_answer chart_out
-  chart-ends a e = (ap (λ x. charted x (chart_of u p n)) (sym e), ap (λ x. written x (chart_of u p n) bytes) (sym e))
+  chart_ends a e = (ap (λ x. charted x (chart_of u p n)) (sym e), ap (λ x. written x (chart_of u p n) bytes) (sym e))
 
-  pub chart-refused : (why : Refusal) → chart_refusal u p n (length bytes) ≡ Refused why → ChartEnds u p n bytes (Charted.Refused why) bytes
-  chart-refused why e = chart-ends (Refused why) e
+  pub chart_refused : (why : Refusal) → chart_refusal u p n (length bytes) ≡ Refused why → ChartEnds u p n bytes (Charted.Refused why) bytes
+  chart_refused why e = chart_ends (Refused why) e
 
-  pub chart-drawn : {m : ℕ} {after : List ℕ} {end : ℕ} → chart_refusal u p n (length bytes) ≡ Done → Put m bytes 0 (chart_of u p n) after end
+  pub chart_drawn : {m : ℕ} {after : List ℕ} {end : ℕ} → chart_refusal u p n (length bytes) ≡ Done → Put m bytes 0 (chart_of u p n) after end
       → ChartEnds u p n bytes (Charted.Length end) after
-  chart-drawn e t =
-      let r = chart-ends Done e in (
+  chart_drawn e t =
+      let r = chart_ends Done e in (
         ap Charted.Length (t.wrote.next ∙ zero-add (length (chart_of u p n))) ∙ r.0,
         t.wrote.bytes ∙ placed_front bytes (chart_of u p n) ∙ r.1,
       )
@@ -186,19 +186,19 @@ abbrev SimulateEnds : FunctionUnit → ℕ → ℕ → List ℕ → Charted → 
 SimulateEnds u q n bytes r after = (r ≡ simulate_answer u q n (length bytes)) × (after ≡ simulate_out u q n bytes)
 
 module _ (u : FunctionUnit) (q n : ℕ) (bytes : List ℕ) (h : Handed) (e : h ≡ own_plan u q) where
-  pub own-refused : (why : Refusal) → h.answer ≡ Refused why → SimulateEnds u q n bytes (Charted.Refused why) bytes
+  pub own_refused : (why : Refusal) → h.answer ≡ Refused why → SimulateEnds u q n bytes (Charted.Refused why) bytes
   unfolding simulate_answer simulate_out simulate_refusal
-  own-refused why d =
+  own_refused why d =
       let a : simulate_refusal u q n (length bytes) ≡ Refused why =
-      ap (λ (x : Answer). and_then x (chart_refusal u u.plan n (length bytes))) (sym (own-says u q h e) ∙ d) in
+      ap (λ (x : Answer). and_then x (chart_refusal u u.plan n (length bytes))) (sym (own_says u q h e) ∙ d) in
       (sym (ap (λ x. charted x (chart_of u u.plan n)) a), sym (ap (λ x. written x (chart_of u u.plan n) bytes) a))
 
-  pub own-drawn : (r : Charted) (after : List ℕ) → h.answer ≡ Done → ChartEnds u h.plan n bytes r after → SimulateEnds u q n bytes r after
+  pub own_drawn : (r : Charted) (after : List ℕ) → h.answer ≡ Done → ChartEnds u h.plan n bytes r after → SimulateEnds u q n bytes r after
   unfolding simulate_answer simulate_out simulate_refusal chart_answer chart_out
-  own-drawn r after d c =
-      let same = own-hands u q h e d in
+  own_drawn r after d c =
+      let same = own_hands u q h e d in
       let a : chart_refusal u u.plan n (length bytes) ≡ simulate_refusal u q n (length bytes) =
-      sym (ap (λ (x : Answer). and_then x (chart_refusal u u.plan n (length bytes))) (sym (own-says u q h e) ∙ d)) in (
+      sym (ap (λ (x : Answer). and_then x (chart_refusal u u.plan n (length bytes))) (sym (own_says u q h e) ∙ d)) in (
         c.0 ∙ ap (λ p. chart_answer u p n (length bytes)) same ∙ ap (λ x. charted x (chart_of u u.plan n)) a,
         c.1 ∙ ap (λ p. chart_out u p n bytes) same ∙ ap (λ x. written x (chart_of u u.plan n) bytes) a,
       )

@@ -31,22 +31,22 @@ pub counted_start : (number most : ℕ) → number ≤ most → most < 2 ^ 32 �
 counted_start number most h w = record { below = h; word = w; digits = omega arith }
 
 module _ (number most rest room spaces : ℕ) (c : Counted number most rest room spaces) where
-  pub counted-space : 10 ≤ room → rest < 10 → Counted number most (rest / 10) (room / 10) (spaces + 1)
-  counted-space h l = record {
+  pub counted_space : 10 ≤ room → rest < 10 → Counted number most (rest / 10) (room / 10) (spaces + 1)
+  counted_space h l = record {
     below = omega arith;
     word = omega (arith, c.word);
     digits = omega (arith, c.digits, decimal_longer room h c.word, one_digit rest l, one_digit (rest / 10) (omega arith));
   }
 
-  pub counted-digit : 10 ≤ room → 10 ≤ rest → Counted number most (rest / 10) (room / 10) spaces
-  counted-digit h l = record {
+  pub counted_digit : 10 ≤ room → 10 ≤ rest → Counted number most (rest / 10) (room / 10) spaces
+  counted_digit h l = record {
     below = omega (arith, c.below);
     word = omega (arith, c.word);
     digits = omega (arith, c.digits, decimal_longer room h c.word, decimal_longer rest l (omega (arith, c.below, c.word)));
   }
 
-  pub counted-few : spaces ≤ length (decimal most)
-  counted-few = omega (arith, c.digits, decimal_some number, decimal_some room, digits_most rest room c.word c.below)
+  pub counted_few : spaces ≤ length (decimal most)
+  counted_few = omega (arith, c.digits, decimal_some number, decimal_some room, digits_most rest room c.word c.below)
 
-  pub counted-end : room < 10 → spaces ≡ length (decimal most) - length (decimal number)
-  counted-end h = omega (arith, c.digits, one_digit room h, one_digit rest (omega (arith, c.below)))
+  pub counted_end : room < 10 → spaces ≡ length (decimal most) - length (decimal number)
+  counted_end h = omega (arith, c.digits, one_digit room h, one_digit rest (omega (arith, c.below)))

@@ -30,12 +30,12 @@ module _ (before : List ℕ) (at n : ℕ) (f : ℕ → ℕ) where
     bytes = ap₂ (λ (x : List ℕ) (y : ℕ). set x (at + i) y) w.bytes e ∙ list_more before at i f (omega (arith, w.room));
   }
 
-  pub filled-all : (i : ℕ) (now : List ℕ) → Filled before at n f i now → n ≤ i → now ≡ placed before at (list_below n f)
-  filled-all i now w h = let e : i ≡ n = omega (arith, w.inside) in w.bytes ∙ ap (λ k. placed before at (list_below k f)) e
+  pub filled_all : (i : ℕ) (now : List ℕ) → Filled before at n f i now → n ≤ i → now ≡ placed before at (list_below n f)
+  filled_all i now w h = let e : i ≡ n = omega (arith, w.inside) in w.bytes ∙ ap (λ k. placed before at (list_below k f)) e
 
-  pub filled-wrote : (i : ℕ) (now : List ℕ) → Filled before at n f i now → n ≤ i → Wrote before at (list_below n f) now (at + n)
-  filled-wrote i now w h = record {
-    bytes = filled-all i now w h;
+  pub filled_wrote : (i : ℕ) (now : List ℕ) → Filled before at n f i now → n ≤ i → Wrote before at (list_below n f) now (at + n)
+  filled_wrote i now w h = record {
+    bytes = filled_all i now w h;
     next = omega (arith, list_length n f);
     room = omega (arith, list_length n f, w.room);
   }

@@ -39,11 +39,11 @@ module _ (from n : ℕ) (marks : List ℕ) (columns : ℕ) where
   line_same a b segment s e = segment_same n s _ _ (cells_same a b segment e)
 
   -- the line in parts, by another list of bytes with the same row
-  pub segment-all : (a b : List ℕ) (segment s count : ℕ) → count ≡ busy n (cells_in a from marks columns segment)
+  pub segment_all : (a b : List ℕ) (segment s count : ℕ) → count ≡ busy n (cells_in a from marks columns segment)
       → ((i : ℕ) → i < n → get_or a (from + i) 0 ≡ get_or b (from + i) 0)
       → at_left 8 (decimal s) ++ list_below n (cells_in a from marks columns segment) ++ busy_text count n ≡ segment_line n (cells_in b from marks columns segment) s
   unfolding segment_line
-  segment-all a b segment s count c e =
+  segment_all a b segment s count c e =
       ap (λ k. at_left 8 (decimal s) ++ list_below n (cells_in a from marks columns segment) ++ busy_text k n) c ∙ line_same a b segment s e
 
   module _ {m : ℕ} {before : List ℕ} {at : ℕ} {text mid : List ℕ} {e : ℕ} (p : Put m before at text mid e) (h : from + n ≤ at) where
@@ -52,9 +52,9 @@ module _ (from n : ℕ) (marks : List ℕ) (columns : ℕ) where
     row_kept i l = put_before (from + i) p (omega arith)
 
     -- after the name the cells, by the row that was there before the name
-    pub cells-put : (segment : ℕ) (after : List ℕ) → after ≡ placed mid e (list_below n (cells_in mid from marks columns segment)) → e + n ≤ length mid
+    pub cells_put : (segment : ℕ) (after : List ℕ) → after ≡ placed mid e (list_below n (cells_in mid from marks columns segment)) → e + n ≤ length mid
         → Put (m + n) before at (text ++ list_below n (cells_in mid from marks columns segment)) after (e + n)
-    cells-put segment after q room = put_more p (record {
+    cells_put segment after q room = put_more p (record {
       wrote = record {
         bytes = q;
         next = omega (arith, list_length n (cells_in mid from marks columns segment));

@@ -9,7 +9,7 @@ use native.Mathlib.Decide.{dec_lt}
 use native.Mathlib.Nat.{le_dest, eq-or-lt_of_le, mul-le-mul}
 use native.Mathlib.Numerals.{add-one}
 use native.Mathlib.Omega.{arith}
-use borrow.Author.Tests.{lt-ltb, le-leb, leb-true, leb-false, ne_eqb, eqb-false, ltb-true, ltb-false, not-true}
+use borrow.Author.Tests.{lt-ltb, le-leb, leb-true, leb-false, ne_eqb, eqb-false, ltb-true, ltb-false, not_true}
 use lib.Dec.{leb, ltb, eqb}
 use lib.ListN.{length}
 use Rattle.words.proofs.Tests.{nowhere, and_left, and_right, and_true, not_passed}
@@ -49,7 +49,7 @@ use Rattle.chart_claims.specs.Claims.{PlaysShown, SearchCharted, TenAlone, Lette
 use Rattle.chart.specs.Inner.{Ready, line_length}
 use Rattle.chart.proofs.CellLaws.{tasks_none, units_none, units_more}
 use Rattle.chart.proofs.LineLaws.{line_is}
-use Rattle.chart.proofs.ChartLaws.{plan_ready, ready_plan, ready-sound, chart-length}
+use Rattle.chart.proofs.ChartLaws.{plan_ready, ready_plan, ready_sound, chart_length}
 
 -- Letters
 
@@ -158,31 +158,31 @@ module _ (u : FunctionUnit) (p : Plan) (plays : Plays u p) where
       omega (arith, m, s, t)
 
   -- d units after the k-th start, and up to the next, k + 1 tasks have started
-  tasks-between : (k d : ℕ) → tasks_before u p (start_at cycle k) ≡ k → start_at cycle k + suc d ≤ start_at cycle (suc k)
+  tasks_between : (k d : ℕ) → tasks_before u p (start_at cycle k) ≡ k → start_at cycle k + suc d ≤ start_at cycle (suc k)
       → tasks_before u p (start_at cycle k + suc d) ≡ suc k
-  tasks-between k zero t h =
+  tasks_between k zero t h =
       let e : start_at cycle k + 1 ≡ start_at cycle k + suc zero = omega arith in
       sym (ap (tasks_before u p) e) ∙ one_more (start_at cycle k) true k (falls k) t ∙ omega arith
-  tasks-between k (suc d) t h =
+  tasks_between k (suc d) t h =
       let e : start_at cycle k + suc d + 1 ≡ start_at cycle k + suc (suc d) = omega arith in
       sym (ap (tasks_before u p) e)
-      ∙ one_more (start_at cycle k + suc d) false (suc k) (between k (start_at cycle k + suc d) (omega arith) (omega arith)) (tasks-between k d t (omega arith))
+      ∙ one_more (start_at cycle k + suc d) false (suc k) (between k (start_at cycle k + suc d) (omega arith) (omega arith)) (tasks_between k d t (omega arith))
       ∙ omega arith
 
-  tasks-at : (k : ℕ) → tasks_before u p (start_at cycle k) ≡ k
-  tasks-at zero = sym (tasks_none u p)
-  tasks-at (suc k) =
+  tasks_at : (k : ℕ) → tasks_before u p (start_at cycle k) ≡ k
+  tasks_at zero = sym (tasks_none u p)
+  tasks_at (suc k) =
       let d : (m : ℕ) × (suc (start_at cycle k) + m ≡ start_at cycle (suc k)) = le_dest (apart k (suc k) (omega arith)) in
       let e : start_at cycle k + suc d.0 ≡ start_at cycle (suc k) = omega (arith, d.1) in
-      sym (ap (tasks_before u p) e) ∙ tasks-between k d.0 (tasks-at k) (omega (arith, e))
+      sym (ap (tasks_before u p) e) ∙ tasks_between k d.0 (tasks_at k) (omega (arith, e))
 
-  shown-start : (k : ℕ) → start_cell u p (start_at cycle k) ≡ letter k
+  shown_start : (k : ℕ) → start_cell u p (start_at cycle k) ≡ letter k
   unfolding start_cell
-  shown-start k = ap (λ b. cond b (letter (tasks_before u p (start_at cycle k))) none) (falls k) ∙ ap letter (tasks-at k)
+  shown_start k = ap (λ b. cond b (letter (tasks_before u p (start_at cycle k))) none) (falls k) ∙ ap letter (tasks_at k)
 
-  shown-quiet : (n : ℕ) → (FallsOn cycle n → ⊥) → start_cell u p n ≡ none
+  shown_quiet : (n : ℕ) → (FallsOn cycle n → ⊥) → start_cell u p n ≡ none
   unfolding start_cell
-  shown-quiet n f =
+  shown_quiet n f =
       ap (λ b. cond b (letter (tasks_before u p n)) none) (not_passed (unit_after u p n).started (λ e. f ((plays.starts n).0 e)))
 
   -- what a cell of the row of starts says
@@ -197,8 +197,8 @@ module _ (u : FunctionUnit) (p : Plan) (plays : Plays u p) where
   -- Cells
 
   -- two tasks that are in one cell are one
-  one-task : (s time j k : ℕ) → Serves (marked u) s time (task_at p.tag cycle j) → Serves (marked u) s time (task_at p.tag cycle k) → j ≡ k
-  one-task s time j k x y = go (dec_lt j k)
+  one_task : (s time j k : ℕ) → Serves (marked u) s time (task_at p.tag cycle j) → Serves (marked u) s time (task_at p.tag cycle k) → j ≡ k
+  one_task s time j k x y = go (dec_lt j k)
     where
       meet : (a b : ℕ) → a < b → Serves (marked u) s time (task_at p.tag cycle a) → Serves (marked u) s time (task_at p.tag cycle b) → ⊥
       meet a b h v w =
@@ -225,11 +225,11 @@ module _ (u : FunctionUnit) (p : Plan) (plays : Plays u p) where
     hit_has : (c : ℕ) → hit c ≡ true → Hit c
     hit_has c e =
         let first = and_left (leb c n && marked u p.tag s (c + 1)) _ e in
-        let f = told (n - c) (eqb-false (start_cell u p (n - c)) none (not-true (eqb (start_cell u p (n - c)) none) (and_right (leb c n && marked u p.tag s (c + 1)) _ e))) in
+        let f = told (n - c) (eqb-false (start_cell u p (n - c)) none (not_true (eqb (start_cell u p (n - c)) none) (and_right (leb c n && marked u p.tag s (c + 1)) _ e))) in
         record {
           task = f.index;
           serves = record { column = c + 1; marked = and_right (leb c n) _ first; moment = omega (arith, f.start, leb-true c n (and_left (leb c n) _ first)) };
-          letter_is = sym (ap (start_cell u p) f.start) ∙ shown-start f.index;
+          letter_is = sym (ap (start_cell u p) f.start) ∙ shown_start f.index;
         }
 
     -- the cell, where no column is hit
@@ -266,15 +266,15 @@ module _ (u : FunctionUnit) (p : Plan) (plays : Plays u p) where
     shown_busy k x =
         let c = x.column - 1 in
         let least = column_least u p.tag s x.column x.marked in
-        let most = ((ready-sound u p ready).marks p.tag s x.column x.marked).2 in
+        let most = ((ready_sound u p ready).marks p.tag s x.column x.marked).2 in
         let same : c + 1 ≡ x.column = omega arith in
         let back : n - c ≡ start_at cycle k = omega (arith, x.moment) in
-        let at : start_cell u p (n - c) ≡ letter k = ap (start_cell u p) back ∙ shown-start k in
+        let at : start_cell u p (n - c) ≡ letter k = ap (start_cell u p) back ∙ shown_start k in
         let here : hit c ≡ true =
         and_true (and_true (le-leb c n (omega (arith, x.moment))) (ap (marked u p.tag s) same ∙ x.marked))
         (ap not (ne_eqb (start_cell u p (n - c)) none (λ z. letter_some k (sym at ∙ z)))) in
         cell_hit (letter k) u.columns
-        (λ d e. let h = hit_has d e in h.letter_is ∙ ap letter (one-task s (n + 1) h.task k h.serves x))
+        (λ d e. let h = hit_has d e in h.letter_is ∙ ap letter (one_task s (n + 1) h.task k h.serves x))
         c (omega arith) here
 
   shown_played : (n : ℕ) → units_answer u p n ≡ Done
@@ -286,8 +286,8 @@ pub plays_shown : PlaysShown
 plays_shown u p plays = record {
   plan = sym (ready_plan u p (ready u p plays));
   played = shown_played u p plays;
-  start = shown-start u p plays;
-  quiet = shown-quiet u p plays;
+  start = shown_start u p plays;
+  quiet = shown_quiet u p plays;
   busy = shown_busy u p plays;
   idle = shown_idle u p plays;
 }
@@ -298,26 +298,26 @@ module _ (u : FunctionUnit) (p : Plan) (r : Ready u p) where
   some : 0 < p.sum
   some = let h = held p r.holds in omega (arith, h.holds.sum, total_least (cycle_in p) h.cycle)
 
-  after-below : (i : ℕ) → i < p.sum → position_after p i < p.sum
-  after-below i h = go (eqb (i + 1) p.sum) refl
+  after_below : (i : ℕ) → i < p.sum → position_after p i < p.sum
+  after_below i h = go (eqb (i + 1) p.sum) refl
     where
       go : (b : Bool) → eqb (i + 1) p.sum ≡ b → cond b 0 (i + 1) < p.sum
       go true e = some
       go false e = let n = eqb-false (i + 1) p.sum e in omega arith
 
   -- the ring stays on itself
-  place-below : (n : ℕ) → (place_after u p n).position < p.sum
+  place_below : (n : ℕ) → (place_after u p n).position < p.sum
   unfolding place_after play_of
-  place-below zero = some
-  place-below (suc n) = go (step_answer u p (place_after u p n).position (place_after u p n).bank) (place-below n)
+  place_below zero = some
+  place_below (suc n) = go (step_answer u p (place_after u p n).position (place_after u p n).bank) (place_below n)
     where
       go : (a : Answer) → (place_after u p n).position < p.sum → (playing a u p (place_after u p n).position (place_after u p n).bank).position < p.sum
-      go Done h = after-below (place_after u p n).position h
+      go Done h = after_below (place_after u p n).position h
       go (Refused why) h = h
 
-  ten-step : (i : ℕ) (b : Bank) (why : Refusal) → i < p.sum → (play_of u p i b).answer ≡ Refused why → why ≡ NotGranted
+  ten_step : (i : ℕ) (b : Bank) (why : Refusal) → i < p.sum → (play_of u p i b).answer ≡ Refused why → why ≡ NotGranted
   unfolding play_of step_answer
-  ten-step i b why h e =
+  ten_step i b why h e =
       let a = tag_accepted u p.tag r.tag in
       go (sound_of u) (inside p.tag u.functions) (holds_cycle p && ltb i p.sum) (bit_of p i || granted b p.tag) a.sound a.tag
       (and_true r.holds (lt-ltb i p.sum h)) (sym (step_says (step_answer u p i b) u p i b) ∙ e)
@@ -330,17 +330,17 @@ module _ (u : FunctionUnit) (p : Plan) (r : Ready u p) where
       go true false l g x y z e = nowhere y
       go false m l g x y z e = nowhere x
 
-  ten-units : (n : ℕ) (why : Refusal) → units_answer u p n ≡ Refused why → why ≡ NotGranted
+  ten_units : (n : ℕ) (why : Refusal) → units_answer u p n ≡ Refused why → why ≡ NotGranted
   unfolding units_answer
-  ten-units zero why e = never_done (sym e)
-  ten-units (suc n) why e = go (units_answer u p n) refl e (ten-units n why)
+  ten_units zero why e = never_done (sym e)
+  ten_units (suc n) why e = go (units_answer u p n) refl e (ten_units n why)
     where
       go : (a : Answer) → units_answer u p n ≡ a → and_then a (unit_after u p n).answer ≡ Refused why → (units_answer u p n ≡ Refused why → why ≡ NotGranted) → why ≡ NotGranted
-      go Done d e f = ten-step (place_after u p n).position (place_after u p n).bank why (place-below n) e
+      go Done d e f = ten_step (place_after u p n).position (place_after u p n).bank why (place_below n) e
       go (Refused w) d e f = f (d ∙ e)
 
 pub ten_alone : TenAlone
-ten_alone u p n why d e = ten-units u p (plan_ready u p d) n why e
+ten_alone u p n why d e = ten_units u p (plan_ready u p d) n why e
 
 -- After a search
 
@@ -409,9 +409,9 @@ chart_fits u p n room h r e = go (plan_answer u p) refl (leb (length (chart_of u
         let ready = plan_ready u p d in
         let digits = decimal_length n 4 (omega arith) (omega arith) in
         let long : line_length n ≤ 8216 = omega (arith, line_is n, digits) in
-        let few = (ready-sound u p ready).segments.1 in
+        let few = (ready_sound u p ready).segments.1 in
         let all : line_length n * u.segments ≤ 8216 * 16 = mul-le-mul long few in
-        omega (arith, chart-length u p ready n (omega arith), all)
+        omega (arith, chart_length u p ready n (omega arith), all)
 
     go : (a : Answer) → plan_answer u p ≡ a → (b : Bool) → leb (length (chart_of u p n)) room ≡ b → (c : Answer) → units_answer u p n ≡ c
         → charted (and_then a (check b ShortOutput c)) (chart_of u p n) ≡ Charted.Refused ShortOutput → ⊥

@@ -14,38 +14,38 @@ use Rattle.unit.specs.Table.{Table}
 use Rattle.collision.specs.Pipeline.{Forbidden, total}
 use Rattle.collision.specs.Vector.{collides, row_word, vector_word, bound_of}
 use Rattle.collision.specs.Meaning.{Bounded}
-use Rattle.collision.proofs.VectorLaws.{vector-bit, row_lt}
+use Rattle.collision.proofs.VectorLaws.{vector_bit, row_lt}
 use Rattle.diagram.specs.States.{has}
 use Rattle.clique.specs.Sets.{Clique, IsLargestClique}
 use Rattle.clique.proofs.SetLaws.{passing, passing_length, passing_clique, clique_count, clique_differ}
 
 module _ (T : Table) (b : Bounded T) (q : ℕ) where
-  pub set-forbidden : (x y : ℕ) → x < y → is_set (vector_word T q) (y - x - 1) ≡ true → Forbidden T q (y - x)
-  set-forbidden x y h = (vector-bit T b q (y - x) (omega arith)).0
+  pub set_forbidden : (x y : ℕ) → x < y → is_set (vector_word T q) (y - x - 1) ≡ true → Forbidden T q (y - x)
+  set_forbidden x y h = (vector_bit T b q (y - x) (omega arith)).0
 
   -- no clique is larger
-  pub clique-most : (set : List ℕ) → Clique T q set → length set ≤ bound_of T q
+  pub clique_most : (set : List ℕ) → Clique T q set → length set ≤ bound_of T q
   unfolding bound_of
-  clique-most set k =
+  clique_most set k =
       omega (arith, clique_count T q set k, count_largest (vector_word T q) (suc (total set)) (λ x. has x set) (row_lt T q q) apart)
     where
       apart : Apart (vector_word T q) (λ x. has x set)
       apart x y p r h =
           let e : y ≡ x + (y - x) = omega arith in
-          (vector-bit T b q (y - x) (omega arith)).1 (clique_differ T q set k x (y - x) (omega arith) p (rw e at r))
+          (vector_bit T b q (y - x) (omega arith)).1 (clique_differ T q set k x (y - x) (omega arith) p (rw e at r))
 
   -- one is as large
-  pub clique-reached : (set : List ℕ) × Clique T q set × (length set ≡ bound_of T q)
+  pub clique_reached : (set : List ℕ) × Clique T q set × (length set ≡ bound_of T q)
   unfolding bound_of
-  clique-reached =
+  clique_reached =
       let w = widest (vector_word T q) in (
         passing 33 w.test,
-        passing_clique T q 33 w.test (λ x y p r h. set-forbidden x y h (w.apart x y p r h)),
+        passing_clique T q 33 w.test (λ x y p r h. set_forbidden x y h (w.apart x y p r h)),
         passing_length 33 w.test ∙ w.count,
       )
 
-  pub largest-means : IsLargestClique T q (bound_of T q)
-  largest-means = record { reached = clique-reached; most = clique-most }
+  pub largest_means : IsLargestClique T q (bound_of T q)
+  largest_means = record { reached = clique_reached; most = clique_most }
 
 -- A set of one always counts, and a function without marks has no other
 

@@ -15,7 +15,7 @@ use Rattle.collision.proofs.StartLaws.{start_at_turns, latency_least}
 use Rattle.diagram.proofs.Pigeon.{pigeon}
 use Rattle.clique.specs.Sets.{Clique}
 use Rattle.clique.proofs.SetLaws.{at_most_total}
-use Rattle.clique.proofs.LargestLaws.{clique-reached}
+use Rattle.clique.proofs.LargestLaws.{clique_reached}
 
 -- what holds of every number of turns, up to a constant, holds of one
 pub per_turn : (a b e : ℕ) → suc e * a ≤ suc e * b + e → a ≤ b
@@ -30,8 +30,8 @@ module _ (T : Table) (q g : ℕ) (l set : List ℕ) (pos : 1 ≤ g) (c : Cycle g
   later i j h = omega (arith, start_at_mono l (suc i) j h, latency_least g l c i)
 
   -- no task is as far after a number of the set as another is after another
-  no-earlier : (i j a b : ℕ) → a < length set → b < length set → i < j → start_at l i + get_or set a 0 ≡ start_at l j + get_or set b 0 → ⊥
-  no-earlier i j a b ha hb h e =
+  no_earlier : (i j a b : ℕ) → a < length set → b < length set → i < j → start_at l i + get_or set a 0 ≡ start_at l j + get_or set b 0 → ⊥
+  no_earlier i j a b ha hb h e =
       let s = later i j h in
       let d : start_at l j - start_at l i ≡ get_or set a 0 - get_or set b 0 = omega arith in
       (never_forbidden T q l).0 never i j h (rw d (k.differ b a hb ha (omega arith)))
@@ -40,8 +40,8 @@ module _ (T : Table) (q g : ℕ) (l set : List ℕ) (pos : 1 ≤ g) (c : Cycle g
   same_start i j a b ha hb e = go (dec_lt i j) (dec_lt j i)
     where
       go : Dec (i < j) → Dec (j < i) → i ≡ j
-      go (yes h) x = absurd (no-earlier i j a b ha hb h e)
-      go (no h) (yes x) = absurd (no-earlier j i b a hb ha x (sym e))
+      go (yes h) x = absurd (no_earlier i j a b ha hb h e)
+      go (no h) (yes x) = absurd (no_earlier j i b a hb ha x (sym e))
       go (no h) (no x) = omega arith
 
   same_number : (a b : ℕ) → a < length set → b < length set → get_or set a 0 ≡ get_or set b 0 → a ≡ b
@@ -60,22 +60,22 @@ module _ (T : Table) (q g : ℕ) (l set : List ℕ) (pos : 1 ≤ g) (c : Cycle g
     place : (x : ℕ) → x % suc b < length set
     place x = rw size (mod-lt x (omega arith))
 
-    time-apart : (x y : ℕ) → time x ≡ time y → x ≡ y
+    time_apart : (x y : ℕ) → time x ≡ time y → x ≡ y
     unfolding time
-    time-apart x y e =
+    time_apart x y e =
         let s : x / suc b ≡ y / suc b = same_start (x / suc b) (y / suc b) (x % suc b) (y % suc b) (place x) (place y) e in
         let s2 : start_at l (x / suc b) ≡ start_at l (y / suc b) = ap (start_at l) s in
         let r : x % suc b ≡ y % suc b = same_number (x % suc b) (y % suc b) (place x) (place y) (omega arith) in
         sym (div-add-mod' x (suc b)) ∙ ap (λ z. z * suc b + x % suc b) s ∙ ap (λ z. y / suc b * suc b + z) r ∙ div-add-mod' y (suc b)
 
-    time-below : (x : ℕ) → x < m * suc b → time x < start_at l m + total set + 1
+    time_below : (x : ℕ) → x < m * suc b → time x < start_at l m + total set + 1
     unfolding time
-    time-below x h =
+    time_below x h =
         let d : x / suc b < m = (div-lt_iff_lt-mul {k = suc b} {x = x} {y = m} (omega arith)).1 h in
         omega (arith, start_at_mono l (x / suc b) m (le_of_lt d), at_most_total set (x % suc b) (place x))
 
     crowd : m * suc b ≤ start_at l m + total set + 1
-    crowd = pigeon (start_at l m + total set + 1) (m * suc b) time time-below (λ x y h h2 e. time-apart x y e)
+    crowd = pigeon (start_at l m + total set + 1) (m * suc b) time time_below (λ x y h h2 e. time_apart x y e)
 
   -- b × K ≤ S
   pub lower : length set * length l ≤ total l
@@ -93,5 +93,5 @@ module _ (T : Table) (q g : ℕ) (l set : List ℕ) (pos : 1 ≤ g) (c : Cycle g
 -- Bound × K ≤ S
 pub lower_bound : (T : Table) → Bounded T → (q g : ℕ) (l : List ℕ) → 1 ≤ g → Cycle g l → NeverCollides T q l → bound_of T q * length l ≤ total l
 lower_bound T b q g l pos c never =
-    let r = clique-reached T b q in
+    let r = clique_reached T b q in
     subst (λ n. n * length l ≤ total l) r.2 (lower T q g l r.0 pos c never r.1)

@@ -18,11 +18,11 @@ use Rattle.collision.specs.Vector.{vector_word, bound_of}
 use Rattle.collision.specs.Answers.{bound_answer}
 use Rattle.collision.specs.Meaning.{Bounded}
 use Rattle.collision.proofs.AnswerLaws.{answer_given}
-use Rattle.collision.proofs.VectorLaws.{marked_bounded, vector-bit}
+use Rattle.collision.proofs.VectorLaws.{marked_bounded, vector_bit}
 use Rattle.clique.specs.Sets.{Clique, IsLargestClique, SameVector, InColumns, IsRowMaximum, EveryBound}
 use Rattle.clique.proofs.SetLaws.{passing, passing_length}
 use Rattle.clique.proofs.SegmentLaws.{segment_clique}
-use Rattle.clique.proofs.LargestLaws.{clique-most, set-forbidden, largest-means}
+use Rattle.clique.proofs.LargestLaws.{clique_most, set_forbidden, largest_means}
 
 -- the table with a further row, in which the columns that pass the test are marked
 with_row : Table → (ℕ → Bool) → Table
@@ -30,15 +30,15 @@ with_row T f x s c = cond (eqb s 17) (f c) (T x s c)
 
 module _ (T : Table) (b : Bounded T) (q : ℕ) where
   -- a row of another table with the same vector
-  row-most : (U : Table) → SameVector T U q → (s columns : ℕ) → count_below columns (λ c. U q s c) ≤ bound_of T q
-  row-most U same s columns =
+  row_most : (U : Table) → SameVector T U q → (s columns : ℕ) → count_below columns (λ c. U q s c) ≤ bound_of T q
+  row_most U same s columns =
       let k = segment_clique U q s columns in
       let set : List ℕ = passing columns (λ c. U q s c) in
       let c : Clique T q set = record {
         distinct = k.distinct;
         differ = λ i j h l o. (same (get_or set j 0 - get_or set i 0) (omega arith)).1 (k.differ i j h l o);
       } in
-      omega (arith, clique-most T b q set c, passing_length columns (λ c. U q s c))
+      omega (arith, clique_most T b q set c, passing_length columns (λ c. U q s c))
 
   -- the numbers of a widest test as columns, number k in column k + 1
   module _ (w : Widest (vector_word T q)) where
@@ -50,7 +50,7 @@ module _ (T : Table) (b : Bounded T) (q : ℕ) where
     far zero p = omega arith
     far (suc k) p =
         let d : suc k - 1 ≡ k = omega arith in
-        let f = (vector-bit T b q (suc k) (omega arith)).0 (rw d (w.within k p)) in
+        let f = (vector_bit T b q (suc k) (omega arith)).0 (rw d (w.within k p)) in
         omega (arith, b.column_least q f.segment f.column f.later, b.column_lt q f.segment (f.column + suc k) f.earlier)
 
     columns : InColumns U
@@ -68,7 +68,7 @@ module _ (T : Table) (b : Bounded T) (q : ℕ) where
         let e : suc k + t ≡ suc (k + t) = omega arith in
         let d : k + t - k ≡ t = omega arith in
         let later : w.test (k + t) ≡ true = rw e at r in
-        rw d at (set-forbidden T b q k (k + t) (omega arith) (w.apart k (k + t) p later (omega arith)))
+        rw d at (set_forbidden T b q k (k + t) (omega arith) (w.apart k (k + t) p later (omega arith)))
 
     same : SameVector T U q
     unfolding with_row
@@ -100,10 +100,10 @@ module _ (T : Table) (b : Bounded T) (q : ℕ) where
         let all : cond (w.test 32) 1 0 + count_below 32 w.test ≡ bound_of T q = w.count in
         count_first 32 (behind false w.test) ∙ (rw last at all)
 
-  pub row-means : IsRowMaximum T q (bound_of T q)
-  row-means =
+  pub row_means : IsRowMaximum T q (bound_of T q)
+  row_means =
       let w = widest (vector_word T q) in
-      record { reached = (U w, columns w, same w, (17, omega arith, size w)); most = row-most }
+      record { reached = (U w, columns w, same w, (17, omega arith, size w)); most = row_most }
 
 -- what the call answers
 pub every_bound : EveryBound
@@ -111,4 +111,4 @@ unfolding bound_answer
 every_bound u q n e =
     let same = (answer_given (tag_answer u q) (bound_of (marked u) q) n e).value in
     subst (λ m. IsLargestClique (marked u) q m × IsRowMaximum (marked u) q m) same
-    (largest-means (marked u) (marked_bounded u) q, row-means (marked u) (marked_bounded u) q)
+    (largest_means (marked u) (marked_bounded u) q, row_means (marked u) (marked_bounded u) q)

@@ -11,10 +11,10 @@ use Rattle.collision.specs.Vector.{marks_of, bound_of}
 use Rattle.collision.specs.Answers.{marks_answer, bound_answer}
 use Rattle.collision.specs.Meaning.{Bounded}
 use Rattle.collision.proofs.AnswerLaws.{answer_given}
-use Rattle.collision.proofs.VectorLaws.{marked_bounded, marks-means}
+use Rattle.collision.proofs.VectorLaws.{marked_bounded, marks_means}
 use Rattle.clique.specs.Sets.{Clique, EveryMarks}
 use Rattle.clique.proofs.SetLaws.{passing, passing_length, passing_clique}
-use Rattle.clique.proofs.LargestLaws.{clique-most}
+use Rattle.clique.proofs.LargestLaws.{clique_most}
 
 -- two marks of one segment
 pub segment_differ : (T : Table) (q s x y : ℕ) → T q s x ≡ true → T q s y ≡ true → x < y → Forbidden T q (y - x)
@@ -33,8 +33,8 @@ marks_most T b q = go (marks_of T q) refl
     go : (n : ℕ) → marks_of T q ≡ n → n ≤ bound_of T q
     go zero e = zero-le
     go (suc m) e =
-        let r = (marks-means T b q).reached (omega arith) in
-        omega (arith, clique-most T b q (passing 33 (λ c. T q r.0 c)) (segment_clique T q r.0 33), passing_length 33 (λ c. T q r.0 c), r.1)
+        let r = (marks_means T b q).reached (omega arith) in
+        omega (arith, clique_most T b q (passing 33 (λ c. T q r.0 c)) (segment_clique T q r.0 33), passing_length 33 (λ c. T q r.0 c), r.1)
 
 -- what the calls answer
 pub every_marks : EveryMarks

@@ -15,7 +15,7 @@ pub record Clique (T : Table) (q : ℕ) (set : List ℕ) : Type 0 where
   pub distinct : Distinct set
   pub differ : (i j : ℕ) → i < length set → j < length set → get_or set i 0 < get_or set j 0 → Forbidden T q (get_or set j 0 - get_or set i 0)
 
--- n is the size of the largest such set (`largest-means`, proofs/LargestLaws.antt: Bound is)
+-- n is the size of the largest such set (`largest_means`, proofs/LargestLaws.antt: Bound is)
 pub record IsLargestClique (T : Table) (q n : ℕ) : Type 0 where
   pub reached : (set : List ℕ) × Clique T q set × (length set ≡ n)
   pub most : (set : List ℕ) → Clique T q set → length set ≤ n
@@ -30,7 +30,7 @@ SameVector T U q = (t : ℕ) → 1 ≤ t → Forbidden T q t ↔ Forbidden U q t
 abbrev pub InColumns : Table → Type 0
 InColumns U = (q s c : ℕ) → U q s c ≡ true → (1 ≤ c) × (c ≤ 32)
 
--- n is that number of marks (`row-means`, proofs/RowLaws.antt: Bound is): no row of such a table has more, however many columns it has, and one of 32
+-- n is that number of marks (`row_means`, proofs/RowLaws.antt: Bound is): no row of such a table has more, however many columns it has, and one of 32
 -- columns has as many
 pub record IsRowMaximum (T : Table) (q n : ℕ) : Type 0 where
   pub reached : (U : Table) × InColumns U × SameVector T U q × ((s : ℕ) × (1 ≤ s) × (count_below 33 (λ c. U q s c) ≡ n))

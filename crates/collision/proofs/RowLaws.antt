@@ -8,7 +8,7 @@ use native.Mathlib.Decide.{dec_lt}
 use lib.Bits.{bit_and, and_le_l}
 use lib.Dec.{eqb}
 use lib.ListN.{length, get_or, take, drop, replicate, length-take, length-replicate, get_or-replicate, get_or-eq_default}
-use borrow.Author.Tests.{eqb-false, ne_eqb, not-true}
+use borrow.Author.Tests.{eqb-false, ne_eqb, not_true}
 use Rattle.words.specs.Bits.{is_set, set_bit}
 use Rattle.words.specs.Below.{some_below, word_below}
 use Rattle.words.proofs.Tests.{nowhere, and_left, and_right, and_true, same_test, not_passed, by_test}
@@ -30,7 +30,7 @@ meet_and a b h = same_test (not (eqb (bit_and a b) 0)) (some_below 16 (λ s. is_
   where
     there : not (eqb (bit_and a b) 0) ≡ true → some_below 16 (λ s. is_set a s && is_set b s) ≡ true
     there e =
-        let r = some_bit 16 (bit_and a b) (omega (arith, and_le_l a b)) (eqb-false (bit_and a b) 0 (not-true (eqb (bit_and a b) 0) e)) in
+        let r = some_bit 16 (bit_and a b) (omega (arith, and_le_l a b)) (eqb-false (bit_and a b) 0 (not_true (eqb (bit_and a b) 0) e)) in
         some_intro 16 (λ s. is_set a s && is_set b s) r.at r.most (sym (set_and a b r.at) ∙ r.set)
 
     back : some_below 16 (λ s. is_set a s && is_set b s) ≡ true → not (eqb (bit_and a b) 0) ≡ true
@@ -144,9 +144,9 @@ module _ (u : FunctionUnit) (q r t : ℕ) where
   by : ℕ → ℕ → Bool
   by c s = is_set (get_or (columns_of u q) c 0) s && is_set (get_or (columns_of u r) (c + t) 0) s
 
-  shared-there : shared (columns_of u q) (columns_of u r) t ≡ true → collides (marked u) q r t ≡ true
+  shared_there : shared (columns_of u q) (columns_of u r) t ≡ true → collides (marked u) q r t ≡ true
   unfolding shared meet collides at by
-  shared-there e =
+  shared_there e =
       let c = some_elim 32 (λ c. meet (get_or (columns_of u q) c 0) (get_or (columns_of u r) (c + t) 0)) e in
       let s = some_elim 16 (by c.at) c.passed in
       let one = and_left (is_set (get_or (columns_of u q) c.at 0) s.at) _ s.passed in
@@ -175,12 +175,12 @@ module _ (u : FunctionUnit) (q r t : ℕ) where
       (and_true (column_mark_lem u q (s.at - 1) (c.at - 1) (omega arith) (omega arith) ∙ ap (λ k. marked u q k (c.at - 1 + 1)) es ∙ ap (marked u q s.at) ec ∙ one)
       (column_mark_lem u r (s.at - 1) (c.at - 1 + t) (omega arith) (omega arith) ∙ ap (λ k. marked u r k (c.at - 1 + t + 1)) es ∙ ap (marked u r s.at) et ∙ two)))
 
-  pub shared-collides : shared (columns_of u q) (columns_of u r) t ≡ collides (marked u) q r t
-  shared-collides = same_test (shared (columns_of u q) (columns_of u r) t) (collides (marked u) q r t) shared-there shared_back
+  pub shared_collides : shared (columns_of u q) (columns_of u r) t ≡ collides (marked u) q r t
+  shared_collides = same_test (shared (columns_of u q) (columns_of u r) t) (collides (marked u) q r t) shared_there shared_back
 
 -- the row that is found from the columns of two functions is that of the unit's table
 pub row_columns : (u : FunctionUnit) (q r : ℕ) → row_of_columns (columns_of u q) (columns_of u r) ≡ row_word (marked u) q r
 unfolding row_of_columns row_word
 row_columns u q r =
     word_same 32 (λ k. shared (columns_of u q) (columns_of u r) (k + 1)) (λ k. collides (marked u) q r (k + 1))
-    (λ k h. shared-collides u q r (k + 1))
+    (λ k h. shared_collides u q r (k + 1))

@@ -35,7 +35,7 @@ vector_word T q = row_word T q q
 unfoldable pub largest_forbidden : Table → ℕ → ℕ
 largest_forbidden T q = span_below 32 (λ k. collides T q q (k + 1))
 
--- the largest column with a 1 in any matrix of a unit, or 0 (`column-means`, proofs/MatrixLaws.antt)
+-- the largest column with a 1 in any matrix of a unit, or 0 (`column_means`, proofs/MatrixLaws.antt)
 unfoldable pub largest_column : Table → ℕ
 largest_column T = max_below 5 (λ q. max_below 5 (λ r. span_below 32 (λ k. collides T q r (k + 1))))
 

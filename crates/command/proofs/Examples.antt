@@ -100,9 +100,9 @@ pub a_record : meaning (ascii "record 1 plan") ≡ command (Verb.Show Show.Recor
 unfolding meaning text_of said words_of parts_of command_of among same name_at row_at all_numbers is_number digits_only number_said value
 a_record = refl
 
-pub record-of-a-letter : meaning (ascii "record x plan") ≡ Parsed.Bad (Trouble.Usage 22)
+pub record_of_a_letter : meaning (ascii "record x plan") ≡ Parsed.Bad (Trouble.Usage 22)
 unfolding meaning text_of said words_of parts_of command_of among same name_at row_at all_numbers is_number digits_only number_said value
-record-of-a-letter = refl
+record_of_a_letter = refl
 
 pub file_of_digits : meaning (ascii "record 1 2") ≡ command (Verb.Show Show.Record) 2 1 2 0
 unfolding meaning text_of said words_of parts_of command_of among same name_at row_at all_numbers is_number digits_only number_said value

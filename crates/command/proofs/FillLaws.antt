@@ -10,7 +10,7 @@ use lib.Seq.{take-suc, take_all, drop-cons, set_at, length-take-le}
 use Rattle.words.specs.Bytes.{narrow}
 use Rattle.command.specs.Lines.{is_blank, number_said, narrowed, in_front}
 use Rattle.command.specs.Inner.{word_from, words_from, Begins}
-use Rattle.command.proofs.WordLaws.{part, word-part, word_some, words_end, words-here}
+use Rattle.command.proofs.WordLaws.{part, word_part, word_some, words_end, words_here}
 use Rattle.command.proofs.ScanLaws.{number_none}
 
 -- The first n bytes of one list in front of another
@@ -65,8 +65,8 @@ pub fill_more : {text : List ℕ} {from : ℕ} {bytes list : List ℕ} {count at
 fill_more {text} {from} {bytes} {list} {count} {at} {start} end byte f h g e b s =
     let words : List (List ℕ) = words_from text from in
     let word : List ℕ = word_from text at in
-    let read : part at end text ≡ word = word-part text at end e in
-    let next : drop count words ≡ word ∷ words_from text end = sym f.rest ∙ words-here text at end e h (f.here h) in
+    let read : part at end text ≡ word = word_part text at end e in
+    let next : drop count words ≡ word ∷ words_from text end = sym f.rest ∙ words_here text at end e h (f.here h) in
     let some : length (drop count words) ≡ suc (length (words_from text end)) = ap length next in
     let within : count < length words = omega (arith, length-drop count words) in
     let place : drop count words ≡ get_or words count [] ∷ drop (suc count) words = drop-cons words count [] within in

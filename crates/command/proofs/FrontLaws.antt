@@ -8,11 +8,11 @@ use lib.Seq.{take_at}
 use Rattle.command.specs.Lines.{in_front}
 
 module _ (l zeros : List ℕ) {count : ℕ} {bytes : List ℕ} (n : count ≡ min (length l) (length zeros)) (e : bytes ≡ in_front l zeros) where
-  taken-length : length (take (length zeros) l) ≡ count
-  taken-length = length-take (length zeros) l ∙ omega arith
+  taken_length : length (take (length zeros) l) ≡ count
+  taken_length = length-take (length zeros) l ∙ omega arith
 
-  pub front-taken : take count bytes ≡ take (length zeros) l
-  front-taken = ap (take count) e ∙ take_at (take (length zeros) l) (drop (length l) zeros) count taken-length
+  pub front_taken : take count bytes ≡ take (length zeros) l
+  front_taken = ap (take count) e ∙ take_at (take (length zeros) l) (drop (length l) zeros) count taken_length
 
   pub front_length : count ≡ length (take count bytes)
-  front_length = sym (ap length front-taken ∙ taken-length)
+  front_length = sym (ap length front_taken ∙ taken_length)

@@ -23,7 +23,7 @@ use Rattle.command.specs.declared.Parsed.TheVariants as Parsed
 use Rattle.command.specs.declared.scan.Scan.{Scan}
 use Rattle.command.specs.Lines.{text_of, is_blank, words_of, word_at, all_numbers, fits, requested, named, is_comment, said, meaning, narrowed, latencies_in, tags_in, in_front, word_in}
 use Rattle.command.specs.Inner.{word_from, words_from, TextEnd, Begins, Passes, scanned, scan_fits}
-use Rattle.command.proofs.WordLaws.{part, word_byte, word-part, words_end, words-here, begins_first}
+use Rattle.command.proofs.WordLaws.{part, word_byte, word_part, words_end, words_here, begins_first}
 
 -- Where the text of a line ends
 
@@ -91,43 +91,43 @@ scan_fits_lem Form.List words = refl
 
 -- what a scan tells, form by form
 module _ (s : Scan) where
-  pub fit-numbers : (k : ℕ) → s.count ≡ k → s.good ≡ scan_fits (Form.Numbers k) s
-  fit-numbers k e = sym (ap (λ t. t && s.good) (eq-eqb s.count k e))
+  pub fit_numbers : (k : ℕ) → s.count ≡ k → s.good ≡ scan_fits (Form.Numbers k) s
+  fit_numbers k e = sym (ap (λ t. t && s.good) (eq-eqb s.count k e))
 
-  pub fit-numbers-not : (k : ℕ) → (s.count ≡ k → ⊥) → eqb s.count k ≡ scan_fits (Form.Numbers k) s
-  fit-numbers-not k n = let e : eqb s.count k ≡ false = ne_eqb s.count k n in e ∙ sym (ap (λ t. t && s.good) e)
+  pub fit_numbers_not : (k : ℕ) → (s.count ≡ k → ⊥) → eqb s.count k ≡ scan_fits (Form.Numbers k) s
+  fit_numbers_not k n = let e : eqb s.count k ≡ false = ne_eqb s.count k n in e ∙ sym (ap (λ t. t && s.good) e)
 
-  pub optional-few : (k : ℕ) → s.count < k → false ≡ scan_fits (Form.Optional k) s
-  optional-few k h = sym (ap (λ t. t && (leb s.count (k + 1) && s.good)) (lt-leb k s.count h))
+  pub optional_few : (k : ℕ) → s.count < k → false ≡ scan_fits (Form.Optional k) s
+  optional_few k h = sym (ap (λ t. t && (leb s.count (k + 1) && s.good)) (lt-leb k s.count h))
 
-  pub optional-many : (k : ℕ) → k ≤ s.count → 1 < s.count - k → false ≡ scan_fits (Form.Optional k) s
-  optional-many k l h =
+  pub optional_many : (k : ℕ) → k ≤ s.count → 1 < s.count - k → false ≡ scan_fits (Form.Optional k) s
+  optional_many k l h =
       sym (ap (λ t. t && (leb s.count (k + 1) && s.good)) (le-leb k s.count l) ∙ ap (λ t. t && s.good) (lt-leb s.count (k + 1) (omega arith)))
 
-  pub optional-fit : (k : ℕ) → k ≤ s.count → s.count - k ≤ 1 → s.good ≡ scan_fits (Form.Optional k) s
-  optional-fit k l h =
+  pub optional_fit : (k : ℕ) → k ≤ s.count → s.count - k ≤ 1 → s.good ≡ scan_fits (Form.Optional k) s
+  optional_fit k l h =
       sym (ap (λ t. t && (leb s.count (k + 1) && s.good)) (le-leb k s.count l) ∙ ap (λ t. t && s.good) (le-leb s.count (k + 1) (omega arith)))
 
-  pub file-none : (k : ℕ) → s.count ≡ 0 → false ≡ scan_fits (Form.File k) s
-  file-none k e = sym (ap (λ t. t && s.front) (ne_eqb s.count (k + 1) (λ q. omega arith)))
+  pub file_none : (k : ℕ) → s.count ≡ 0 → false ≡ scan_fits (Form.File k) s
+  file_none k e = sym (ap (λ t. t && s.front) (ne_eqb s.count (k + 1) (λ q. omega arith)))
 
-  pub file-not : (k : ℕ) → (s.count - 1 ≡ k → ⊥) → false ≡ scan_fits (Form.File k) s
-  file-not k n = sym (ap (λ t. t && s.front) (ne_eqb s.count (k + 1) (λ q. n (omega arith))))
+  pub file_not : (k : ℕ) → (s.count - 1 ≡ k → ⊥) → false ≡ scan_fits (Form.File k) s
+  file_not k n = sym (ap (λ t. t && s.front) (ne_eqb s.count (k + 1) (λ q. n (omega arith))))
 
-  pub file-fit : (k : ℕ) → (s.count ≡ 0 → ⊥) → s.count - 1 ≡ k → s.front ≡ scan_fits (Form.File k) s
-  file-fit k n e = sym (ap (λ t. t && s.front) (eq-eqb s.count (k + 1) (omega (arith, n))))
+  pub file_fit : (k : ℕ) → (s.count ≡ 0 → ⊥) → s.count - 1 ≡ k → s.front ≡ scan_fits (Form.File k) s
+  file_fit k n e = sym (ap (λ t. t && s.front) (eq-eqb s.count (k + 1) (omega (arith, n))))
 
-  pub optional-file-none : (k : ℕ) → s.count ≡ k → s.good ≡ scan_fits (Form.OptionalFile k) s
-  optional-file-none k e = sym (ap (λ t. cond t s.good (scan_fits (Form.File k) s)) (eq-eqb s.count k e))
+  pub optional_file_none : (k : ℕ) → s.count ≡ k → s.good ≡ scan_fits (Form.OptionalFile k) s
+  optional_file_none k e = sym (ap (λ t. cond t s.good (scan_fits (Form.File k) s)) (eq-eqb s.count k e))
 
-  pub optional-file-some : (k : ℕ) → (s.count ≡ k → ⊥) → scan_fits (Form.File k) s ≡ scan_fits (Form.OptionalFile k) s
-  optional-file-some k n = sym (ap (λ t. cond t s.good (scan_fits (Form.File k) s)) (ne_eqb s.count k n))
+  pub optional_file_some : (k : ℕ) → (s.count ≡ k → ⊥) → scan_fits (Form.File k) s ≡ scan_fits (Form.OptionalFile k) s
+  optional_file_some k n = sym (ap (λ t. cond t s.good (scan_fits (Form.File k) s)) (ne_eqb s.count k n))
 
-  pub fit-cycle : 1 ≤ s.count → s.good ≡ scan_fits Form.Cycle s
-  fit-cycle h = sym (ap (λ t. t && s.good) (le-leb 1 s.count h))
+  pub fit_cycle : 1 ≤ s.count → s.good ≡ scan_fits Form.Cycle s
+  fit_cycle h = sym (ap (λ t. t && s.good) (le-leb 1 s.count h))
 
-  pub fit-cycle-not : s.count < 1 → leb 1 s.count ≡ scan_fits Form.Cycle s
-  fit-cycle-not h = let e : leb 1 s.count ≡ false = lt-leb 1 s.count h in e ∙ sym (ap (λ t. t && s.good) e)
+  pub fit_cycle_not : s.count < 1 → leb 1 s.count ≡ scan_fits Form.Cycle s
+  fit_cycle_not h = let e : leb 1 s.count ≡ false = lt-leb 1 s.count h in e ∙ sym (ap (λ t. t && s.good) e)
 
 -- the command of a scan
 abbrev request_in : Verb → Scan → Request
@@ -137,45 +137,45 @@ module _ (e : Entry) (words : List (List ℕ)) {s : Scan} {fit : Bool} (told : s
   fits_told : fits e.form words ≡ fit
   fits_told = sym (fitting ∙ ap (scan_fits e.form) told ∙ scan_fits_lem e.form words)
 
-  pub rest-command : fit ≡ true
+  pub rest_command : fit ≡ true
       → Parsed.Command (record { verb = e.verb; count = s.count; first = s.first; second = s.second; third = s.third }) ≡ named (Named.Known e) words
-  rest-command t =
+  rest_command t =
       ap (λ x. Parsed.Command (request_in e.verb x)) told
       ∙ sym (ap (λ b. cond b (Parsed.Command (requested e.verb words)) (Parsed.Bad (Trouble.Usage e.row))) (fits_told ∙ t))
 
-  pub rest-usage : fit ≡ false → Parsed.Bad (Trouble.Usage e.row) ≡ named (Named.Known e) words
-  rest-usage t = sym (ap (λ b. cond b (Parsed.Command (requested e.verb words)) (Parsed.Bad (Trouble.Usage e.row))) (fits_told ∙ t))
+  pub rest_usage : fit ≡ false → Parsed.Bad (Trouble.Usage e.row) ≡ named (Named.Known e) words
+  rest_usage t = sym (ap (λ b. cond b (Parsed.Command (requested e.verb words)) (Parsed.Bad (Trouble.Usage e.row))) (fits_told ∙ t))
 
 -- The text of a line
 
 module _ (text : List ℕ) (from : ℕ) (b : Begins text 0 from) where
   -- no words
-  pub said-nothing : from ≡ length text → Parsed.Nothing ≡ said (words_of text)
+  pub said_nothing : from ≡ length text → Parsed.Nothing ≡ said (words_of text)
   unfolding said
-  said-nothing e = sym (ap said (sym b.same ∙ words_end text from (omega arith)))
+  said_nothing e = sym (ap said (sym b.same ∙ words_end text from (omega arith)))
 
   module _ (some : from ≡ length text → ⊥) where
     inside : from < length text
     inside = omega (arith, some, b.inside)
 
-    byte-first : word_from text from ≡ get_or text from 0 ∷ word_from text (from + 1)
-    byte-first = word_byte text from inside (b.here inside)
+    byte_first : word_from text from ≡ get_or text from 0 ∷ word_from text (from + 1)
+    byte_first = word_byte text from inside (b.here inside)
 
-    pub said-comment : get_or text from 0 ≡ 35 → Parsed.Nothing ≡ said (words_of text)
+    pub said_comment : get_or text from 0 ≡ 35 → Parsed.Nothing ≡ said (words_of text)
     unfolding said
-    said-comment e =
+    said_comment e =
         let end : ℕ = from + length (word_from text from) in
-        let c : is_comment (word_from text from) ≡ true = ap is_comment byte-first ∙ eq-eqb (get_or text from 0) 35 e in
-        sym (ap said (sym b.same ∙ words-here text from end refl inside (b.here inside))
+        let c : is_comment (word_from text from) ≡ true = ap is_comment byte_first ∙ eq-eqb (get_or text from 0) 35 e in
+        sym (ap said (sym b.same ∙ words_here text from end refl inside (b.here inside))
         ∙ ap (λ t. cond t Parsed.Nothing (named (command_of (word_from text from)) (words_from text end))) c)
 
-    pub said-named : (end : ℕ) (name : Named) → (get_or text from 0 ≡ 35 → ⊥) → end ≡ from + length (word_from text from) → name ≡ command_of (part from end text)
+    pub said_named : (end : ℕ) (name : Named) → (get_or text from 0 ≡ 35 → ⊥) → end ≡ from + length (word_from text from) → name ≡ command_of (part from end text)
         → named name (words_from text end) ≡ said (words_of text)
     unfolding said
-    said-named end name n e q =
-        let c : is_comment (word_from text from) ≡ false = ap is_comment byte-first ∙ ne_eqb (get_or text from 0) 35 n in
-        let same : name ≡ command_of (word_from text from) = q ∙ ap command_of (word-part text from end e) in
-        sym (ap said (sym b.same ∙ words-here text from end e inside (b.here inside))
+    said_named end name n e q =
+        let c : is_comment (word_from text from) ≡ false = ap is_comment byte_first ∙ ne_eqb (get_or text from 0) 35 n in
+        let same : name ≡ command_of (word_from text from) = q ∙ ap command_of (word_part text from end e) in
+        sym (ap said (sym b.same ∙ words_here text from end e inside (b.here inside))
         ∙ ap (λ t. cond t Parsed.Nothing (named (command_of (word_from text from)) (words_from text end))) c
         ∙ ap (λ x. named x (words_from text end)) (sym same))
 
@@ -218,7 +218,7 @@ pub word_read : (line : List ℕ) (end index before from to : ℕ) → TextEnd l
 unfolding word_in
 word_read line end index before from to t p b e =
     let text : List ℕ = take end line in
-    word-part text from to e ∙ sym (begins_first b) ∙ ap (λ w. word_at w 0) p.rest ∙ here index (words_of text)
+    word_part text from to e ∙ sym (begins_first b) ∙ ap (λ w. word_at w 0) p.rest ∙ here index (words_of text)
     ∙ ap (λ x. word_at (words_of x) index) t.text
   where
     here : (i : ℕ) (words : List (List ℕ)) → word_at (drop i words) 0 ≡ word_at words i

@@ -11,7 +11,7 @@ use Rattle.text.specs.Text.{value}
 use Rattle.command.specs.declared.scan.Scan.{Scan}
 use Rattle.command.specs.Lines.{is_blank, word_at, is_number, number_said, all_numbers}
 use Rattle.command.specs.Inner.{word_from, words_from, Begins, noted, with_word, before_last, scanned}
-use Rattle.command.proofs.WordLaws.{part, word-part, word_some, words_end, words-here}
+use Rattle.command.proofs.WordLaws.{part, word_part, word_some, words_end, words_here}
 
 -- a scan by its six parts
 abbrev scan : Bool → Bool → ℕ → ℕ → ℕ → ℕ → Scan
@@ -126,14 +126,14 @@ scan_start {text} {from} {at} b = record {
 pub scan_more : {text : List ℕ} {from : ℕ} {words : Scan} {at start : ℕ} (end : ℕ) (next : Scan) → Scanned text from words at → at < length text
     → end ≡ at + length (word_from text at) → next ≡ with_word words (part at end text) → Begins text end start → Scanned text from next start
 scan_more {text} {from} {words} {at} {start} end next s h e n b =
-    let step : next ≡ with_word words (word_from text at) = n ∙ ap (with_word words) (word-part text at end e) in
+    let step : next ≡ with_word words (word_from text at) = n ∙ ap (with_word words) (word_part text at end e) in
     record {
       few = omega (arith, ap (λ (x : Scan). x.count) step, s.few, word_some text at end e h (s.here h), b.after);
       inside = b.inside;
       here = b.here;
       rest =
           ap (scan_from next) b.same ∙ ap (λ x. scan_from x (words_from text end)) step
-          ∙ ap (scan_from words) (sym (words-here text at end e h (s.here h))) ∙ s.rest;
+          ∙ ap (scan_from words) (sym (words_here text at end e h (s.here h))) ∙ s.rest;
     }
 
 -- each turn goes on

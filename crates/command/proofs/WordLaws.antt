@@ -168,15 +168,15 @@ module _ (text : List ℕ) (from : ℕ) (end : ℕ) (ends : end ≡ from + lengt
   pub word_after : from ≤ end
   word_after = omega arith
 
-  pub word-part : part from end text ≡ word_from text from
-  word-part = let n : end - from ≡ length (word_from text from) = omega arith in ap (λ k. take k (drop from text)) n ∙ first_take (drop from text)
+  pub word_part : part from end text ≡ word_from text from
+  word_part = let n : end - from ≡ length (word_from text from) = omega arith in ap (λ k. take k (drop from text)) n ∙ first_take (drop from text)
 
   -- a word that begins has a byte, and the others come after it
   pub word_some : from < length text → is_blank (get_or text from 0) ≡ false → from < end
   word_some h e = let s : length (word_from text from) ≡ suc (length (word_from text (from + 1))) = ap length (word_byte text from h e) in omega arith
 
-  pub words-here : from < length text → is_blank (get_or text from 0) ≡ false → words_from text from ≡ word_from text from ∷ words_from text end
-  words-here h e =
+  pub words_here : from < length text → is_blank (get_or text from 0) ≡ false → words_from text from ≡ word_from text from ∷ words_from text end
+  words_here h e =
       let byte : drop from text ≡ get_or text from 0 ∷ drop (suc from) text = drop-cons text from 0 h in
       ap words_of byte ∙ words_first (get_or text from 0) (drop (suc from) text) e
       ∙ ap (λ l. word_at (parts_of l) 0 ∷ words_of (drop (length (word_at (parts_of l) 0)) l)) (sym byte)
@@ -207,7 +207,7 @@ pub begins_first : {text : List ℕ} {from at : ℕ} → Begins text from at →
 begins_first {text} {from} {at} b = ap (λ w. word_at w 0) (sym b.same) ∙ go (dec_lt at (length text))
   where
     go : Dec (at < length text) → word_at (words_from text at) 0 ≡ word_from text at
-    go (yes h) = ap (λ w. word_at w 0) (words-here text at (at + length (word_from text at)) refl h (b.here h))
+    go (yes h) = ap (λ w. word_at w 0) (words_here text at (at + length (word_from text at)) refl h (b.here h))
     go (no h) = ap (λ w. word_at w 0) (words_end text at (omega arith)) ∙ sym (word_none text at (omega arith))
 
 pub begins_rest : {text : List ℕ} {from at : ℕ} (end : ℕ) → Begins text from at → end ≡ at + length (word_from text at) → Passes text from 1 end
@@ -217,7 +217,7 @@ begins_rest {text} {from} {at} end b e = record {
 }
   where
     go : Dec (at < length text) → words_from text end ≡ drop 1 (words_from text at)
-    go (yes h) = sym (ap (drop 1) (words-here text at end e h (b.here h)))
+    go (yes h) = sym (ap (drop 1) (words_here text at end e h (b.here h)))
     go (no h) =
         let none : length (word_from text at) ≡ 0 = ap length (word_none text at (omega arith)) in
         words_end text end (omega arith) ∙ sym (ap (drop 1) (words_end text at (omega arith)))

@@ -75,44 +75,44 @@ module _ (i : ℕ) (h : i < length rows) where
   unfolding table_bytes row_at
   row_here = drop_row rows i refl h
 
-  row-wide : length (row_bytes r) ≡ 48
+  row_wide : length (row_bytes r) ≡ 48
   unfolding row_at
-  row-wide = eqb-true (length (row_bytes r)) 48 (every_at wide rows i refl h)
+  row_wide = eqb-true (length (row_bytes r)) 48 (every_at wide rows i refl h)
 
-  byte-here : (k : ℕ) → get_or table_bytes (i * 48 + k) 0 ≡ get_or (row_bytes r ++ rest) k 0
-  byte-here k = sym (get_or-drop (i * 48) table_bytes k 0) ∙ ap (λ l. get_or l k 0) row_here
+  byte_here : (k : ℕ) → get_or table_bytes (i * 48 + k) 0 ≡ get_or (row_bytes r ++ rest) k 0
+  byte_here k = sym (get_or-drop (i * 48) table_bytes k 0) ∙ ap (λ l. get_or l k 0) row_here
 
-  text-here : drop (i * 48 + 3) table_bytes ≡ name ++ (wanted ++ (replicate (45 - length (name ++ wanted)) 32 ++ rest))
-  text-here =
+  text_here : drop (i * 48 + 3) table_bytes ≡ name ++ (wanted ++ (replicate (45 - length (name ++ wanted)) 32 ++ rest))
+  text_here =
       sym (drop-drop 3 (i * 48) table_bytes) ∙ ap (drop 3) row_here ∙ append_assoc name (wanted ++ replicate (45 - length (name ++ wanted)) 32) rest
       ∙ ap (λ l. name ++ l) (append_assoc wanted (replicate (45 - length (name ++ wanted)) 32) rest)
 
-  form-here : form_of (form_number r.form) ≡ r.form
+  form_here : form_of (form_number r.form) ≡ r.form
   unfolding row_at form_of
-  form-here =
+  form_here =
       sym (get_or-map (λ (x : Row). form_of (form_number x.form)) rows i no_row)
       ∙ get_or-map (λ (x : Row). x.form) rows i no_row
 
-  row-short : length (name ++ wanted) ≤ 45
-  row-short =
+  row_short : length (name ++ wanted) ≤ 45
+  row_short =
       let l : length (name ++ (wanted ++ replicate (45 - length (name ++ wanted)) 32)) ≡ length name + (length wanted + (45 - length (name ++ wanted))) =
       simp (length-append, length-replicate)
       in
-      omega (arith, row-wide, length-append name wanted)
+      omega (arith, row_wide, length-append name wanted)
 
   pub held : (table : List ℕ) → table ≡ table_bytes → Held table i
   unfolding name_at usage_at
   held table e = subst (λ t. Held t i) (sym e) (record {
-    room = omega (arith, ap length row_here, length-append (row_bytes r) rest, length-drop (i * 48) table_bytes, row-wide);
-    names = let z : i * 48 ≡ i * 48 + 0 = omega arith in ap (λ k. get_or table_bytes k 0) z ∙ byte-here 0;
-    usages = byte-here 1;
-    form = ap form_of (byte-here 2) ∙ form-here;
-    name = ap (take (length name)) text-here ∙ take_at name (wanted ++ (replicate (45 - length (name ++ wanted)) 32 ++ rest)) (length name) refl;
+    room = omega (arith, ap length row_here, length-append (row_bytes r) rest, length-drop (i * 48) table_bytes, row_wide);
+    names = let z : i * 48 ≡ i * 48 + 0 = omega arith in ap (λ k. get_or table_bytes k 0) z ∙ byte_here 0;
+    usages = byte_here 1;
+    form = ap form_of (byte_here 2) ∙ form_here;
+    name = ap (take (length name)) text_here ∙ take_at name (wanted ++ (replicate (45 - length (name ++ wanted)) 32 ++ rest)) (length name) refl;
     usage =
-        ap (take (length (name ++ wanted))) (text-here ∙ sym (append_assoc name wanted (replicate (45 - length (name ++ wanted)) 32 ++ rest)))
+        ap (take (length (name ++ wanted))) (text_here ∙ sym (append_assoc name wanted (replicate (45 - length (name ++ wanted)) 32 ++ rest)))
         ∙ take_at (name ++ wanted) (replicate (45 - length (name ++ wanted)) 32 ++ rest) (length (name ++ wanted)) refl;
     front = omega (arith, length-append name wanted);
-    short = row-short;
+    short = row_short;
   })
 
 -- what a command does

@@ -5,7 +5,7 @@ use mathlib.Core.List.{List, [], ◌∷◌, ◌++◌, map, append_assoc, append-
 use Prim.Native.Nat.{ℕ, zero, suc, ◌+◌, ◌-◌, ◌^◌, ◌≤◌, ◌<◌}
 use native.Mathlib.Numerals.{add-one}
 use native.Mathlib.Omega.{arith}
-use borrow.Author.Tests.{eq-eqb, ne_eqb, eqb-true, eqb-false, not-true, le-leb, leb-true}
+use borrow.Author.Tests.{eq-eqb, ne_eqb, eqb-true, eqb-false, not_true, le-leb, leb-true}
 use lib.Dec.{eqb, leb}
 use lib.ListN.{length, get_or, take, drop, length-append}
 use lib.Seq.{take_all, take_at, drop_at, get_or_at}
@@ -42,7 +42,7 @@ blankless_each [] each = refl
 blankless_each (b ∷ word) each = and_true (ap not (each 0 (omega arith))) (blankless_each word (λ i h. each (suc i) (omega arith)))
 
 first_word : (b : ℕ) (word : List ℕ) → blankless (b ∷ word) ≡ true → is_blank b ≡ false
-first_word b word e = not-true (is_blank b) (and_left (not (is_blank b)) (blankless word) e)
+first_word b word e = not_true (is_blank b) (and_left (not (is_blank b)) (blankless word) e)
 
 -- a word before what begins with a blank, or is empty
 word_before : (word rest : List ℕ) → blankless word ≡ true → word_at (parts_of rest) 0 ≡ [] → word_at (parts_of (word ++ rest)) 0 ≡ word
@@ -83,7 +83,7 @@ returnless_join (x ∷ a) b p q =
 returnless_at : (line : List ℕ) (i : ℕ) → returnless line ≡ true → get_or line i 0 ≡ 13 → ⊥
 returnless_at [] i e q = omega arith
 returnless_at (b ∷ line) zero e q =
-    let t : eqb b 13 ≡ false = not-true (eqb b 13) (and_left (not (eqb b 13)) (returnless line) e) in eqb-false b 13 t q
+    let t : eqb b 13 ≡ false = not_true (eqb b 13) (and_left (not (eqb b 13)) (returnless line) e) in eqb-false b 13 t q
 returnless_at (b ∷ line) (suc i) e q = returnless_at line i (and_right (not (eqb b 13)) (returnless line) e) q
 
 whole_text : (line : List ℕ) → returnless line ≡ true → text_of line ≡ line
@@ -207,34 +207,34 @@ module _ (row : ℕ) (listed : row < length rows) where
   letters : letters_only (name_at row) ≡ true
   letters = name_letters row listed
 
-  said-name : (words : List (List ℕ)) → said (name_at row ∷ words) ≡ named (Named.Known (entry_at row)) words
+  said_name : (words : List (List ℕ)) → said (name_at row ∷ words) ≡ named (Named.Known (entry_at row)) words
   unfolding said
-  said-name words =
+  said_name words =
       ap (λ t. cond t Parsed.Nothing (named (command_of (name_at row)) words)) (letters_no_comment (name_at row) letters)
       ∙ ap (λ x. named x words) (name_command row listed)
 
   -- what a line of the name and words says
-  line-says : (rest : List ℕ) (words : List (List ℕ)) → length (name_at row ++ rest) ≤ 4096 → returnless rest ≡ true
+  line_says : (rest : List ℕ) (words : List (List ℕ)) → length (name_at row ++ rest) ≤ 4096 → returnless rest ≡ true
       → words_of (name_at row ++ rest) ≡ name_at row ∷ words → fits (row_at row).form words ≡ true
       → meaning (name_at row ++ rest) ≡ Parsed.Command (requested (row_at row).verb words)
-  line-says rest words l r w f =
+  line_says rest words l r w f =
       let text : text_of (name_at row ++ rest) ≡ name_at row ++ rest =
       whole_text (name_at row ++ rest) (returnless_join (name_at row) rest (letters_returnless (name_at row) letters) r)
       in
-      meaning_said (name_at row ++ rest) l ∙ ap (λ x. said (words_of x)) text ∙ ap said w ∙ said-name words
+      meaning_said (name_at row ++ rest) l ∙ ap (λ x. said (words_of x)) text ∙ ap said w ∙ said_name words
       ∙ ap (λ b. cond b (Parsed.Command (requested (row_at row).verb words)) (Parsed.Bad (Trouble.Usage row))) f
 
-  number-words : (numbers : List ℕ) → words_of (number_line row numbers) ≡ name_at row ∷ map decimal numbers
-  number-words numbers = words_numbers (name_at row) numbers (name_some row listed) (letters_blankless (name_at row) letters)
+  number_words : (numbers : List ℕ) → words_of (number_line row numbers) ≡ name_at row ∷ map decimal numbers
+  number_words numbers = words_numbers (name_at row) numbers (name_some row listed) (letters_blankless (name_at row) letters)
 
-  number-text : (numbers : List ℕ) → text_of (number_line row numbers) ≡ number_line row numbers
-  number-text numbers =
+  number_text : (numbers : List ℕ) → text_of (number_line row numbers) ≡ number_line row numbers
+  number_text numbers =
       whole_text (number_line row numbers)
       (returnless_join (name_at row) (spaced numbers) (letters_returnless (name_at row) letters) (spaced_returnless numbers))
 
   -- the words of the line from word k on, the name being word 0
-  bytes-from : (k : ℕ) (numbers : List ℕ) → narrowed (drop k (words_of (text_of (number_line row numbers)))) ≡ narrowed (drop k (name_at row ∷ map decimal numbers))
-  bytes-from k numbers = ap (λ x. narrowed (drop k (words_of x))) (number-text numbers) ∙ ap (λ w. narrowed (drop k w)) (number-words numbers)
+  bytes_from : (k : ℕ) (numbers : List ℕ) → narrowed (drop k (words_of (text_of (number_line row numbers)))) ≡ narrowed (drop k (name_at row ∷ map decimal numbers))
+  bytes_from k numbers = ap (λ x. narrowed (drop k (words_of x))) (number_text numbers) ∙ ap (λ w. narrowed (drop k w)) (number_words numbers)
 
 suits_fits : (form : Form) (numbers : List ℕ) → Small numbers → suits form numbers ≡ true → fits form (map decimal numbers) ≡ true
 suits_fits (Form.Numbers k) numbers s e = and_true (ap (λ n. eqb n k) (count_decimal numbers) ∙ e) (all_decimal numbers s)
@@ -263,7 +263,7 @@ pub numbers_parsed : (row : ℕ) (numbers : List ℕ) → row < length rows → 
     → meaning (number_line row numbers)
     ≡ Parsed.Command (record { verb = (row_at row).verb; count = length numbers; first = get_or numbers 0 0; second = get_or numbers 1 0; third = get_or numbers 2 0 })
 numbers_parsed row numbers h s e l =
-    line-says row h (spaced numbers) (map decimal numbers) l (spaced_returnless numbers) (number-words row h numbers) (suits_fits (row_at row).form numbers s e)
+    line_says row h (spaced numbers) (map decimal numbers) l (spaced_returnless numbers) (number_words row h numbers) (suits_fits (row_at row).form numbers s e)
     ∙ ap Parsed.Command
     (same_request (row_at row).verb (count_decimal numbers) (number_at numbers 0 s) (number_at numbers 1 s) (number_at numbers 2 s))
 
@@ -271,13 +271,13 @@ numbers_parsed row numbers h s e l =
 pub latencies_parsed : (row q : ℕ) (latencies : List ℕ) → row < length rows → ((i : ℕ) → i < length latencies → get_or latencies i 0 < 2 ^ 32)
     → latencies_in (number_line row (q ∷ latencies)) ≡ map narrow latencies
 unfolding latencies_in
-latencies_parsed row q latencies h s = bytes-from row h 2 (q ∷ latencies) ∙ narrow_decimal latencies s
+latencies_parsed row q latencies h s = bytes_from row h 2 (q ∷ latencies) ∙ narrow_decimal latencies s
 
 -- and the tags of a loop
 pub tags_parsed : (row : ℕ) (tags : List ℕ) → row < length rows → ((i : ℕ) → i < length tags → get_or tags i 0 < 2 ^ 32)
     → tags_in (number_line row tags) ≡ map narrow tags
 unfolding tags_in
-tags_parsed row tags h s = bytes-from row h 1 tags ∙ narrow_decimal tags s
+tags_parsed row tags h s = bytes_from row h 1 tags ∙ narrow_decimal tags s
 
 -- Lines with a file
 
@@ -292,23 +292,23 @@ module _ (numbers file : List ℕ) (small : Small numbers) (k : ℕ) (counted : 
   one_more : length (file_words numbers file) ≡ k + 1
   one_more = file_count numbers file ∙ ap (λ n. n + 1) (eqb-true (length numbers) k counted)
 
-  before-file : all_numbers (take k (file_words numbers file)) ≡ true
-  before-file =
+  before_file : all_numbers (take k (file_words numbers file)) ≡ true
+  before_file =
       ap all_numbers (take_at (map decimal numbers) (file ∷ []) k (count_decimal numbers ∙ eqb-true (length numbers) k counted)) ∙ all_decimal numbers small
 
-  file-wanted : fits (Form.File k) (file_words numbers file) ≡ true
-  file-wanted = and_true (eq-eqb (length (file_words numbers file)) (k + 1) one_more) before-file
+  file_wanted : fits (Form.File k) (file_words numbers file) ≡ true
+  file_wanted = and_true (eq-eqb (length (file_words numbers file)) (k + 1) one_more) before_file
 
-  file-allowed : fits (Form.OptionalFile k) (file_words numbers file) ≡ true
-  file-allowed =
+  file_allowed : fits (Form.OptionalFile k) (file_words numbers file) ≡ true
+  file_allowed =
       and_true (le-leb k (length (file_words numbers file)) (omega (arith, one_more)))
-      (and_true (le-leb (length (file_words numbers file)) (k + 1) (omega (arith, one_more))) before-file)
+      (and_true (le-leb (length (file_words numbers file)) (k + 1) (omega (arith, one_more))) before_file)
 
 file_fits : (form : Form) (numbers file : List ℕ) → Small numbers → suits_file form numbers ≡ true → fits form (file_words numbers file) ≡ true
 file_fits (Form.Numbers k) numbers file s e = nowhere e
 file_fits (Form.Optional k) numbers file s e = nowhere e
-file_fits (Form.File k) numbers file s e = file-wanted numbers file s k e
-file_fits (Form.OptionalFile k) numbers file s e = file-allowed numbers file s k e
+file_fits (Form.File k) numbers file s e = file_wanted numbers file s k e
+file_fits (Form.OptionalFile k) numbers file s e = file_allowed numbers file s k e
 file_fits Form.Cycle numbers file s e = nowhere e
 file_fits Form.List numbers file s e = nowhere e
 
@@ -341,7 +341,7 @@ file_parsed row numbers file h e s some each none l =
     let text : text_of (file_line row numbers file) ≡ file_line row numbers file =
     whole_text (file_line row numbers file) (returnless_join (name_at row) rest (letters_returnless (name_at row) (letters row h)) plain)
     in (
-      line-says row h rest (file_words numbers file) l plain words (file_fits (row_at row).form numbers file s e)
+      line_says row h rest (file_words numbers file) l plain words (file_fits (row_at row).form numbers file s e)
           ∙ ap Parsed.Command
           (same_request (row_at row).verb (file_count numbers file) (number_before numbers file 0 s) (number_before numbers file 1 s) (number_before numbers file 2 s)),
       ap (λ x. word_at (words_of x) (length numbers + 1)) text ∙ ap (λ w. word_at w (length numbers + 1)) words ∙ file_last (name_at row) numbers file,

@@ -19,7 +19,7 @@ use Rattle.questions.specs.declared.Question.{Question}
 use Rattle.questions.specs.declared.Question.TheVariants as Question
 use Rattle.questions.specs.Replies.{verdict_line, reply_to}
 use Rattle.command.specs.Lines.{latencies_in, in_front}
-use Rattle.command.proofs.FrontLaws.{front-taken}
+use Rattle.command.proofs.FrontLaws.{front_taken}
 use Rattle.session.specs.declared.Session.{Session}
 use Rattle.console.specs.Turns.{question}
 use Rattle.session.specs.Sessions.{Line}
@@ -68,11 +68,11 @@ reply_cut u (Question.Judge q) l = ap verdict_line (judge_cut u q.0 l)
 
 module _ (l zeros : List ℕ) {count : ℕ} {cycle : List ℕ} (n : count ≡ min (length l) (length zeros)) (e : cycle ≡ in_front l zeros) where
   -- the answer to the question
-  pub gives-told : {s : Session} (told asked : Question) (line before : List ℕ) {after : List ℕ} {end : ℕ} → told ≡ asked → length zeros ≡ 257 → latencies_in line ≡ l
+  pub gives_told : {s : Session} (told asked : Question) (line before : List ℕ) {after : List ℕ} {end : ℕ} → told ≡ asked → length zeros ≡ 257 → latencies_in line ≡ l
       → (end ≡ put_end before 0 (reply_to s.unit told (take count cycle))) × (after ≡ put_in before 0 (reply_to s.unit told (take count cycle)))
       → Gives (question s asked line) (λ x. x ≡ s) before after record { session = s; end = end }
-  gives-told {s} told asked line before q z h p =
-      let t = front-taken l zeros n e ∙ ap (λ k. take k l) z in
+  gives_told {s} told asked line before q z h p =
+      let t = front_taken l zeros n e ∙ ap (λ k. take k l) z in
       let same : reply_to s.unit told (take count cycle) ≡ question s asked line =
       ap (λ x. reply_to s.unit x (take count cycle)) q ∙ ap (reply_to s.unit asked) t ∙ reply_cut s.unit asked l ∙ ap (reply_to s.unit asked) (sym h)
       in

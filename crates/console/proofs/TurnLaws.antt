@@ -34,10 +34,10 @@ module _ {s : Session} {r : Request} {line before after : List ℕ} where
       }
 
   -- with a unit, by the verb
-  pub turned_by : {v : Verb} {t : Reply} → s.present ≡ true → r.verb ≡ v → Gives (unit_reply v s r line) (UnitNext v s r) before after t
+  pub turned_by_lem : {v : Verb} {t : Reply} → s.present ≡ true → r.verb ≡ v → Gives (unit_reply v s r line) (UnitNext v s r) before after t
       → Turned s r line before after t
   unfolding turn_reply
-  turned_by {v} {t} p e g =
+  turned_by_lem {v} {t} p e g =
       let same : unit_reply v s r line ≡ turn_reply s r line =
       ap (λ x. unit_reply x s r line) (sym e) ∙ ap (λ b. cond b (unit_reply r.verb s r line) no_unit) (sym p)
       in

@@ -14,7 +14,7 @@ use Rattle.unit.specs.declared.FunctionUnit.{FunctionUnit}
 use Rattle.unit.specs.Unit.{marked}
 use Rattle.collision.specs.Pipeline.{Collides}
 use Rattle.collision.specs.Vector.{row_word}
-use Rattle.collision.proofs.VectorLaws.{marked_bounded, row-bit}
+use Rattle.collision.proofs.VectorLaws.{marked_bounded, row_bit}
 use Rattle.controller.specs.declared.Bank.{Bank}
 use Rattle.controller.specs.Bank.{register, empty, shifted, row_for, started}
 
@@ -71,4 +71,4 @@ started_bit u q b r k l m h =
 pub row_says : (u : FunctionUnit) (q r k : ℕ) → (is_set (row_word (marked u) q r) k ≡ true) ↔ Collides (marked u) q r (k + 1)
 row_says u q r k =
     let e : k + 1 - 1 ≡ k = omega arith in
-    rw e at (row-bit (marked u) (marked_bounded u) q r (k + 1) (omega arith))
+    rw e at (row_bit (marked u) (marked_bounded u) q r (k + 1) (omega arith))

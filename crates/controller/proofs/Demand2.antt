@@ -59,8 +59,8 @@ pub record Kept (u : FunctionUnit) (c : Course) : Type 0 where
 -- Granted starts
 
 module _ (u : FunctionUnit) (b : Bank) (h : History) (q : ℕ) (i : inside q u.functions ≡ true) (past : Past h) (notes : Notes u b h) where
-  granted-free : granted b q ≡ true → Free (marked u) (task_now h q) h.tasks
-  granted-free e y m c =
+  granted_free : granted b q ≡ true → Free (marked u) (task_now h q) h.tasks
+  granted_free e y m c =
       let d = h.time - y.start in
       let l = past y m in
       let s : h.time ≡ y.start + d = omega arith in
@@ -74,8 +74,8 @@ module _ (u : FunctionUnit) (b : Bank) (h : History) (q : ℕ) (i : inside q u.f
       } in
       omega (arith, eqb-true (register b q % 2) 0 e, eqb-true (bit (register b q) 0) 1 x, bit_zero (register b q))
 
-  free-granted : Free (marked u) (task_now h q) h.tasks → granted b q ≡ true
-  free-granted f =
+  free_granted : Free (marked u) (task_now h q) h.tasks → granted b q ≡ true
+  free_granted f =
       let n : is_set (register b q) 0 ≡ false =
       not_passed (is_set (register b q) 0)
       (λ e.
@@ -103,8 +103,8 @@ module _ (u : FunctionUnit) (c : Course) (kept : Kept u c) where
       → (is_set (register c.bank r) (1 + k) ≡ true) ↔ Barred (marked u) r (c.history.time + 1 + k) c.history.tasks
   noted r k i = subst (λ (m : ℕ). (is_set (register c.bank r) (1 + k) ≡ true) ↔ Barred (marked u) r m c.history.tasks) (later k) (kept.notes r (1 + k) i)
 
-  kept-tick : Kept u (record { bank = shifted c.bank; history = accepted c.history Tick })
-  kept-tick = record {
+  kept_tick : Kept u (record { bank = shifted c.bank; history = accepted c.history Tick })
+  kept_tick = record {
     past = λ y m. omega (arith, kept.past y m);
     notes = λ r k i. (λ e. (noted r k i).0 (sym (shifted_bit c.bank r k) ∙ e), λ x. shifted_bit c.bank r k ∙ (noted r k i).1 x);
     apart = kept.apart;
@@ -114,17 +114,17 @@ module _ (u : FunctionUnit) (c : Course) (kept : Kept u c) where
     abbrev new : Task
     new = task_now c.history q
 
-    past-start : (y : Task) → Memᴰ y (new ∷ c.history.tasks) → y.start < c.history.time + 1
-    past-start y m = ⊎_elim (λ e. omega (arith, ap (λ (x : Task). x.start) e)) (λ n. omega (arith, kept.past y n)) (Memᴰ.cases_cons m)
+    past_start : (y : Task) → Memᴰ y (new ∷ c.history.tasks) → y.start < c.history.time + 1
+    past_start y m = ⊎_elim (λ e. omega (arith, ap (λ (x : Task). x.start) e)) (λ n. omega (arith, kept.past y n)) (Memᴰ.cases_cons m)
 
     -- bit k after the start
     both : (r k : ℕ) → inside r u.functions ≡ true
         → is_set (register (started u q c.bank) r) k ≡ is_set (register c.bank r) (1 + k) || is_set (row_word (marked u) r q) k
     both r k j = let w = within r u.functions j in started_bit u q c.bank r k w.least (omega arith) w.most
 
-    notes-there : (r k : ℕ) → inside r u.functions ≡ true → is_set (register (started u q c.bank) r) k ≡ true
+    notes_there : (r k : ℕ) → inside r u.functions ≡ true → is_set (register (started u q c.bank) r) k ≡ true
         → Barred (marked u) r (c.history.time + 1 + k) (new ∷ c.history.tasks)
-    notes-there r k j e = ⊎_elim old fresh (or_cases (is_set (register c.bank r) (1 + k)) _ (sym (both r k j) ∙ e))
+    notes_there r k j e = ⊎_elim old fresh (or_cases (is_set (register c.bank r) (1 + k)) _ (sym (both r k j) ∙ e))
       where
         old : is_set (register c.bank r) (1 + k) ≡ true → Barred (marked u) r (c.history.time + 1 + k) (new ∷ c.history.tasks)
         old e = let x = (noted r k j).0 e in barred_in x (Memᴰ.tail x.listed)
@@ -139,9 +139,9 @@ module _ (u : FunctionUnit) (c : Course) (kept : Kept u c) where
           collides = (row_says u r q k).0 e;
         }
 
-    notes-back : (r k : ℕ) → inside r u.functions ≡ true → Barred (marked u) r (c.history.time + 1 + k) (new ∷ c.history.tasks)
+    notes_back : (r k : ℕ) → inside r u.functions ≡ true → Barred (marked u) r (c.history.time + 1 + k) (new ∷ c.history.tasks)
         → is_set (register (started u q c.bank) r) k ≡ true
-    notes-back r k j x = both r k j ∙ ⊎_elim fresh old (Memᴰ.cases_cons x.listed)
+    notes_back r k j x = both r k j ∙ ⊎_elim fresh old (Memᴰ.cases_cons x.listed)
       where
         fresh : x.task ≡ new → is_set (register c.bank r) (1 + k) || is_set (row_word (marked u) r q) k ≡ true
         fresh e =
@@ -152,11 +152,11 @@ module _ (u : FunctionUnit) (c : Course) (kept : Kept u c) where
         old : Memᴰ x.task c.history.tasks → is_set (register c.bank r) (1 + k) || is_set (row_word (marked u) r q) k ≡ true
         old m = or_true_left (is_set (register c.bank r) (1 + k)) _ ((noted r k j).1 (barred_in x m))
 
-    kept-start : Kept u (record { bank = started u q c.bank; history = record { time = c.history.time + 1; tasks = new ∷ c.history.tasks } })
-    kept-start = record {
-      past = past-start;
-      notes = λ r k j. (notes-there r k j, notes-back r k j);
-      apart = (granted-free u c.bank c.history q i kept.past kept.notes g, kept.apart);
+    kept_start : Kept u (record { bank = started u q c.bank; history = record { time = c.history.time + 1; tasks = new ∷ c.history.tasks } })
+    kept_start = record {
+      past = past_start;
+      notes = λ r k j. (notes_there r k j, notes_back r k j);
+      apart = (granted_free u c.bank c.history q i kept.past kept.notes g, kept.apart);
     }
 
 -- A list of events
@@ -169,26 +169,26 @@ module _ (u : FunctionUnit) (sound : sound_of u ≡ true) where
       go : (e : Event) (a : Answer) → event_answer u c.bank e ≡ a
           → Kept u (record { bank = bank_then a c.bank (moved u c.bank e); history = history_then a c.history e })
       go e (Refused why) p = kept
-      go Tick Done p = kept-tick u c kept
+      go Tick Done p = kept_tick u c kept
       go (Start q) Done p =
           let s = start_accepted u c.bank q p in
-          kept-start u c kept q.0 s.tag (within u.functions 4 (sound_has u sound).functions).most s.granted
+          kept_start u c kept q.0 s.tag (within u.functions 4 (sound_has u sound).functions).most s.granted
 
-  kept-played : (events : List Event) (c : Course) → Kept u c → Kept u (played u c events)
+  kept_played : (events : List Event) (c : Course) → Kept u c → Kept u (played u c events)
   unfolding played
-  kept-played [] c kept = kept
-  kept-played (e ∷ events) c kept = kept-played events (next u c e) (kept_next c e kept)
+  kept_played [] c kept = kept
+  kept_played (e ∷ events) c kept = kept_played events (next u c e) (kept_next c e kept)
 
-  kept-after : (events : List Event) → Kept u (played u outset events)
-  kept-after events = kept-played events outset (kept_outset u)
+  kept_after : (events : List Event) → Kept u (played u outset events)
+  kept_after events = kept_played events outset (kept_outset u)
 
 pub granted_exactly : GrantedExactly
 granted_exactly u sound events q i =
     let c = played u outset events in
-    let kept = kept-after u sound events in (
-      λ e. granted-free u c.bank c.history q.0 i kept.past kept.notes (start_accepted u c.bank q e).granted,
-      λ f. start_answered u c.bank q sound i (free-granted u c.bank c.history q.0 i kept.past kept.notes f),
+    let kept = kept_after u sound events in (
+      λ e. granted_free u c.bank c.history q.0 i kept.past kept.notes (start_accepted u c.bank q e).granted,
+      λ f. start_answered u c.bank q sound i (free_granted u c.bank c.history q.0 i kept.past kept.notes f),
     )
 
 pub granted_apart : GrantedApart
-granted_apart u sound events = (kept-after u sound events).apart
+granted_apart u sound events = (kept_after u sound events).apart

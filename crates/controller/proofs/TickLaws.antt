@@ -27,13 +27,13 @@ use Rattle.controller.proofs.StepLaws.{step_done, start_accepted}
 -- a tick is never refused where the unit is sound, and shifts the bank
 
 module _ (u : FunctionUnit) (sound : sound_of u ≡ true) where
-  pub tick-answered : (b : Bank) → event_answer u b Tick ≡ Done
+  pub tick_answered : (b : Bank) → event_answer u b Tick ≡ Done
   unfolding event_answer
-  tick-answered b = simp sound
+  tick_answered b = simp sound
 
-  pub tick-shifts : (b : Bank) → (step_of u b Tick).bank ≡ shifted b
+  pub tick_shifts : (b : Bank) → (step_of u b Tick).bank ≡ shifted b
   unfolding moved
-  tick-shifts b = sym (ap (λ r. r.bank) (step_done u b Tick (tick-answered b)))
+  tick_shifts b = sym (ap (λ r. r.bank) (step_done u b Tick (tick_answered b)))
 
 -- the first of some ticks, or the last
 pub ticked_shifted : (m : ℕ) (b : Bank) → ticked m (shifted b) ≡ ticked (suc m) b

@@ -36,19 +36,19 @@ along_drop cv s (suc r) (t ∷ l) = along_drop cv (next cv s t) r l
 -- Walks
 
 module _ {g n cv : ℕ} where
-  pub walk-join : {s m e : ℕ} {a b : List ℕ} → Walk g n cv s a m → Walk g n cv m b e → Walk g n cv s (a ++ b) e
-  walk-join stay w = w
-  walk-join (step p v) w = step p (walk-join v w)
+  pub walk_join : {s m e : ℕ} {a b : List ℕ} → Walk g n cv s a m → Walk g n cv m b e → Walk g n cv s (a ++ b) e
+  walk_join stay w = w
+  walk_join (step p v) w = step p (walk_join v w)
 
-  pub walk-take : {s e : ℕ} {l : List ℕ} (r : ℕ) → Walk g n cv s l e → Walk g n cv s (take r l) (run cv s (take r l))
-  walk-take zero w = stay
-  walk-take (suc r) stay = stay
-  walk-take (suc r) (step p w) = step p (walk-take r w)
+  pub walk_take : {s e : ℕ} {l : List ℕ} (r : ℕ) → Walk g n cv s l e → Walk g n cv s (take r l) (run cv s (take r l))
+  walk_take zero w = stay
+  walk_take (suc r) stay = stay
+  walk_take (suc r) (step p w) = step p (walk_take r w)
 
-  pub walk-drop : {s e : ℕ} {l : List ℕ} (r : ℕ) → Walk g n cv s l e → Walk g n cv (run cv s (take r l)) (drop r l) e
-  walk-drop zero w = w
-  walk-drop (suc r) stay = stay
-  walk-drop (suc r) (step p w) = walk-drop r w
+  pub walk_drop : {s e : ℕ} {l : List ℕ} (r : ℕ) → Walk g n cv s l e → Walk g n cv (run cv s (take r l)) (drop r l) e
+  walk_drop zero w = w
+  walk_drop (suc r) stay = stay
+  walk_drop (suc r) (step p w) = walk_drop r w
 
-  pub reach-on : {s e : ℕ} {l : List ℕ} → Reachable g n cv s → Walk g n cv s l e → Reachable g n cv e
-  reach-on {l = l} r w = record { along = r.along ++ l; walk = walk-join r.walk w }
+  pub reach_on : {s e : ℕ} {l : List ℕ} → Reachable g n cv s → Walk g n cv s l e → Reachable g n cv e
+  reach_on {l = l} r w = record { along = r.along ++ l; walk = walk_join r.walk w }

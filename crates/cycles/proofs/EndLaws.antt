@@ -91,15 +91,15 @@ module _ (u : FunctionUnit) (q : ℕ) (work bytes : List ℕ) where
       (work_same (Refused why) work)
 
   module _ (w : ℕ) (v : Vector u q w) where
-    pub ends-short-work : length work < 16000 → Ends u q work work bytes bytes (GreedyAnswer.Refused ShortWork)
+    pub ends_short_work : length work < 16000 → Ends u q work work bytes bytes (GreedyAnswer.Refused ShortWork)
     unfolding greedy_refusal
-    ends-short-work h =
+    ends_short_work h =
         ends (Refused ShortWork) work (simp (v.accepted, lt-leb 16000 (length work) h)) (work_same (Refused ShortWork) work)
 
     module _ (room : 16000 ≤ length work) where
-      pub ends-short-out : length bytes < 256 → Ends u q work work bytes bytes (GreedyAnswer.Refused ShortOutput)
+      pub ends_short_out : length bytes < 256 → Ends u q work work bytes bytes (GreedyAnswer.Refused ShortOutput)
       unfolding greedy_refusal
-      ends-short-out h =
+      ends_short_out h =
           ends (Refused ShortOutput) work (simp (v.accepted, le-leb 16000 (length work) room, lt-leb 256 (length bytes) h))
           (work_same (Refused ShortOutput) work)
 
@@ -113,12 +113,12 @@ module _ (u : FunctionUnit) (q : ℕ) (work bytes : List ℕ) where
             (work_many work listed w k e)
 
         -- the cycle stands in the words after the walk, and was copied from there
-        pub ends-cycle : Few 1 w k → (after : List ℕ) (n : Noted) (sum : ℕ) (out : List ℕ) → Walked listed after w n
+        pub ends_cycle : Few 1 w k → (after : List ℕ) (n : Noted) (sum : ℕ) (out : List ℕ) → Walked listed after w n
             → (sum ≡ total (noted_in after n.from n.count))
             × (out ≡ noted_in after n.from n.count ++ drop n.count bytes)
             → Ends u q work after bytes out (GreedyAnswer.Cycle (record { count = n.count; sum = sum }))
         unfolding greedy_refusal
-        ends-cycle f after n sum out p c =
+        ends_cycle f after n sum out p c =
             let same : noted_in after n.from n.count ≡ greedy_of 1 (marked u) q = p.cycle ∙ ap (λ x. greedy_cycle 1 (width x) x) (sym v.word) in
             let few : length (states_of 1 (marked u) q) ≤ 256 = subst (λ (x : ℕ). length (states 256 1 (width x) x) ≤ 256) (sym v.word) f.few in
             let long : n.count ≡ length (greedy_of 1 (marked u) q) =

@@ -16,14 +16,14 @@ use Rattle.collision.specs.Pipeline.{NeverCollides}
 use Rattle.diagram.specs.Diagram.{next, longest, Permits, Walk, stay, step, Reachable}
 use Rattle.diagram.specs.States.{Each, Distinct, has, arc, states}
 use Rattle.diagram.proofs.ListLaws.{has_listed, add_distinct}
-use Rattle.diagram.proofs.Listing.{arc_permits, permits_arc, states-complete}
+use Rattle.diagram.proofs.Listing.{arc_permits, permits_arc, states_complete}
 use Rattle.diagram.proofs.Pigeon.{distinct_fits}
-use Rattle.diagram.proofs.Walks.{run, walk-run}
+use Rattle.diagram.proofs.Walks.{run, walk_run}
 use Rattle.diagram.proofs.Sound.{sound}
 use Rattle.diagram.proofs.Vectors.{IsVector}
 use Rattle.diagram.specs.Cycles.{states_along, CycleFrom}
 use Rattle.cycles.specs.Greedy.{least_latency, first_place, greedy_from, greedy_cycle}
-use Rattle.cycles.proofs.AlongLaws.{along_length, along_at, along_append, along_drop, walk-join, walk-take, walk-drop}
+use Rattle.cycles.proofs.AlongLaws.{along_length, along_at, along_append, along_drop, walk_join, walk_take, walk_drop}
 
 -- The least latency
 
@@ -81,51 +81,51 @@ pub trail_start : (g n cv : ℕ) → Trail g n cv [] [] cv
 trail_start g n cv = record { walk = stay; along = refl; apart = λ i j h k e. not-suc-le-zero k }
 
 module _ {g n cv : ℕ} {seen latencies : List ℕ} {s : ℕ} (r : Trail g n cv seen latencies s) where
-  pub trail-length : length seen ≡ length latencies
-  trail-length = ap length r.along ∙ along_length cv cv latencies
+  pub trail_length : length seen ≡ length latencies
+  trail_length = ap length r.along ∙ along_length cv cv latencies
 
   pub trail_more : (t : ℕ) → has s seen ≡ false → Permits g n s t → Trail g n cv (seen ++ (s ∷ [])) (latencies ++ (t ∷ [])) (next cv s t)
   trail_more t new p = record {
-    walk = walk-join r.walk (step p stay);
+    walk = walk_join r.walk (step p stay);
     along =
-        ap₂ (λ a x. a ++ (x ∷ [])) r.along (sym (walk-run r.walk))
+        ap₂ (λ a x. a ++ (x ∷ [])) r.along (sym (walk_run r.walk))
         ∙ sym (along_append cv cv latencies (t ∷ []));
     apart = subst (λ b. Distinct (cond b seen (seen ++ (s ∷ [])))) new (add_distinct s seen r.apart);
   }
 
   seen_at : (i : ℕ) → i < length seen → get_or seen i 0 ≡ run cv cv (take i latencies)
-  seen_at i h = ap (λ l. get_or l i 0) r.along ∙ along_at cv cv latencies i (omega (arith, trail-length))
+  seen_at i h = ap (λ l. get_or l i 0) r.along ∙ along_at cv cv latencies i (omega (arith, trail_length))
 
-  pub trail-reached : Each (Reachable g n cv) seen
-  trail-reached i h = rw (seen_at i h) (record { along = take i latencies; walk = walk-take i r.walk })
+  pub trail_reached : Each (Reachable g n cv) seen
+  trail_reached i h = rw (seen_at i h) (record { along = take i latencies; walk = walk_take i r.walk })
 
   -- no more states are seen than there are
-  pub trail-few : length (states 256 g n cv) ≤ 256 → length seen ≤ length (states 256 g n cv)
-  trail-few few =
+  pub trail_few : length (states 256 g n cv) ≤ 256 → length seen ≤ length (states 256 g n cv)
+  trail_few few =
       distinct_fits seen (states 256 g n cv) r.apart
-      (λ i h. states-complete g n cv 256 few (get_or seen i 0) (trail-reached i h))
+      (λ i h. states_complete g n cv 256 few (get_or seen i 0) (trail_reached i h))
 
   -- where s is among the states seen, the latencies from there on are a cycle
   module _ (j : ℕ) (inside : j < length seen) (again : get_or seen j 0 ≡ s) where
     back : run cv cv (take j latencies) ≡ s
     back = sym (seen_at j inside) ∙ again
 
-    drop-apart : (l : List ℕ) → Distinct l → Distinct (drop j l)
-    drop-apart l d a b h k e = d (j + a) (j + b) (omega arith) (omega (arith, length-drop j l)) (sym (get_or-drop j l a 0) ∙ e ∙ get_or-drop j l b 0)
+    drop_apart : (l : List ℕ) → Distinct l → Distinct (drop j l)
+    drop_apart l d a b h k e = d (j + a) (j + b) (omega arith) (omega (arith, length-drop j l)) (sym (get_or-drop j l a 0) ∙ e ∙ get_or-drop j l b 0)
 
-    pub trail-cycle : CycleFrom g n cv (drop j latencies)
-    trail-cycle = record {
+    pub trail_cycle : CycleFrom g n cv (drop j latencies)
+    trail_cycle = record {
       state = s;
       reached = record { along = latencies; walk = r.walk };
-      closed = subst (λ x. Walk g n cv x (drop j latencies) s) back (walk-drop j r.walk);
+      closed = subst (λ x. Walk g n cv x (drop j latencies) s) back (walk_drop j r.walk);
       apart =
           subst Distinct
           (ap (drop j) r.along ∙ sym (along_drop cv cv j latencies) ∙ ap (λ x. states_along cv x (drop j latencies)) back)
-          (drop-apart seen r.apart);
+          (drop_apart seen r.apart);
     }
 
-    pub trail-some : 0 < length (drop j latencies)
-    trail-some = omega (arith, length-drop j latencies, trail-length)
+    pub trail_some : 0 < length (drop j latencies)
+    trail_some = omega (arith, length-drop j latencies, trail_length)
 
 -- The steps of the calculation
 
@@ -150,7 +150,7 @@ pub record ShortCycle (g n cv : ℕ) (l : List ℕ) : Type 0 where
 
 greedy_from_lem : (g n cv : ℕ) → length (states 256 g n cv) ≤ 256 → (f : ℕ) (seen latencies : List ℕ) (s : ℕ)
     → Trail g n cv seen latencies s → length seen + f ≡ 257 → ShortCycle g n cv (greedy_from g n cv f seen latencies s)
-greedy_from_lem g n cv few zero seen latencies s r e = absurd (omega (arith, trail-few r few))
+greedy_from_lem g n cv few zero seen latencies s r e = absurd (omega (arith, trail_few r few))
 greedy_from_lem g n cv few (suc f) seen latencies s r e =
     by_test (has s seen)
     (λ old.
@@ -158,9 +158,9 @@ greedy_from_lem g n cv few (suc f) seen latencies s r e =
     let inside = place_inside s seen old in
     let again = place_holds s seen old in
     rw (greedy_end g n cv f seen latencies s old) (record {
-      cycle = trail-cycle r j inside again;
-      some = trail-some r j inside again;
-      few = omega (arith, length-drop j latencies, trail-length r, trail-few r few);
+      cycle = trail_cycle r j inside again;
+      some = trail_some r j inside again;
+      few = omega (arith, length-drop j latencies, trail_length r, trail_few r few);
     }))
     (λ new.
     let t : ℕ = least_latency g n s in

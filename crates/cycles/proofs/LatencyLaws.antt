@@ -25,8 +25,8 @@ pub try_start : (s n : ℕ) → Trying s n 1
 try_start s n = record { least = omega arith; most = omega arith; skipped = λ k h l. absurd (omega arith) }
 
 module _ {s n t : ℕ} (r : Trying s n t) where
-  pub try-more : t ≤ n → is_set s (t - 1) ≡ true → Trying s n (t + 1)
-  try-more h e = record {
+  pub try_more : t ≤ n → is_set s (t - 1) ≡ true → Trying s n (t + 1)
+  try_more h e = record {
     least = omega arith;
     most = omega arith;
     skipped = λ k a b. go k a b (ℕ_discrete k t);
@@ -53,11 +53,11 @@ module _ {s n t : ℕ} (r : Trying s n t) where
       passes (yes h) = rw (le-leb 1 t r.least, le-ltb n t h, eq-eqb (bit s (t - 1)) 0 (unset_zero s (t - 1) (e h)))
       passes (no h) = rw (le-leb 1 t r.least, lt-ltb n t (omega arith))
 
-  pub try-found : t ≤ n → is_set s (t - 1) ≡ false → t ≡ least_latency 1 n s
-  try-found h e = found (λ l. e)
+  pub try_found : t ≤ n → is_set s (t - 1) ≡ false → t ≡ least_latency 1 n s
+  try_found h e = found (λ l. e)
 
-  pub try-last : n < t → t ≡ least_latency 1 n s
-  try-last h = found (λ l. absurd (omega arith))
+  pub try_last : n < t → t ≡ least_latency 1 n s
+  try_last h = found (λ l. absurd (omega arith))
 
 -- the state shifted by its least latency, which is at most 33, OR the collision vector
 pub step_state : (cv n s t x : ℕ) → n ≤ 32 → t ≡ least_latency 1 n s → x ≡ s / 2 ^ (t % 64) → bit_or x cv ≡ next cv s (least_latency 1 n s)

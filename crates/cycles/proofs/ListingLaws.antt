@@ -9,8 +9,8 @@ use lib.Seq.{get_or-take, length-take-le, ext_get_or}
 use Rattle.diagram.specs.Diagram.{width, next, Permits}
 use Rattle.diagram.specs.States.{states}
 use Rattle.diagram.specs.Work.{state_in, head_in, link_in, bucket, place_in, Indexed}
-use Rattle.diagram.proofs.IndexLaws.{index_kept, place-some, place-listed}
-use Rattle.diagram.proofs.Listing.{list-extends, states-distinct, states-closed}
+use Rattle.diagram.proofs.IndexLaws.{index_kept, place_some, place_listed}
+use Rattle.diagram.proofs.Listing.{list_extends, states_distinct, states_closed}
 use Rattle.cycles.specs.Inner.{Walkable}
 
 -- Words that changed elsewhere
@@ -42,39 +42,39 @@ pub record Landed (w : List ℕ) (cv k at t r : ℕ) : Type 0 where
   pub state : state_in w r ≡ next cv (state_in w at) t
 
 module _ {w : List ℕ} {cv k : ℕ} (h : Walkable w cv k) where
-  pub listed-number : length (states 256 1 (width cv) cv) ≡ k
-  listed-number =
+  pub listed_number_lem : length (states 256 1 (width cv) cv) ≡ k
+  listed_number_lem =
       let few = h.index.few in
       let room = h.room in
       sym (ap length h.listed) ∙ length-take-le k w (omega arith)
 
-  pub listed-few : length (states 256 1 (width cv) cv) ≤ 256
-  listed-few = omega (arith, listed-number, h.index.few)
+  pub listed_few : length (states 256 1 (width cv) cv) ≤ 256
+  listed_few = omega (arith, listed_number_lem, h.index.few)
 
   pub listed_at : (i : ℕ) → i < k → get_or (states 256 1 (width cv) cv) i 0 ≡ state_in w i
   listed_at i l = ap (λ s. get_or s i 0) (sym h.listed) ∙ get_or-take k w i 0 l
 
-  pub listed-first : state_in w 0 ≡ cv
-  listed-first = sym (listed_at 0 h.some) ∙ (list-extends 1 (width cv) cv 257 0 (cv ∷ [])).same 0 (omega arith)
+  pub listed_first : state_in w 0 ≡ cv
+  listed_first = sym (listed_at 0 h.some) ∙ (list_extends 1 (width cv) cv 257 0 (cv ∷ [])).same 0 (omega arith)
 
-  pub listed-apart : (i j : ℕ) → i < k → j < k → state_in w i ≡ state_in w j → i ≡ j
-  listed-apart i j l m e = go (dec_lt i j) (dec_lt j i)
+  pub listed_apart : (i j : ℕ) → i < k → j < k → state_in w i ≡ state_in w j → i ≡ j
+  listed_apart i j l m e = go (dec_lt i j) (dec_lt j i)
     where
       same : get_or (states 256 1 (width cv) cv) i 0 ≡ get_or (states 256 1 (width cv) cv) j 0
       same = listed_at i l ∙ e ∙ sym (listed_at j m)
 
       go : Dec (i < j) → Dec (j < i) → i ≡ j
-      go (yes a) b = absurd (states-distinct 1 (width cv) cv 256 i j a (omega (arith, listed-number)) same)
-      go (no a) (yes b) = absurd (states-distinct 1 (width cv) cv 256 j i b (omega (arith, listed-number)) (sym same))
+      go (yes a) b = absurd (states_distinct 1 (width cv) cv 256 i j a (omega (arith, listed_number_lem)) same)
+      go (no a) (yes b) = absurd (states_distinct 1 (width cv) cv 256 j i b (omega (arith, listed_number_lem)) (sym same))
       go (no a) (no b) = omega arith
 
-  pub arc-lands : (at t r : ℕ) → at < k → Permits 1 (width cv) (state_in w at) t → r ≡ place_in w k (next cv (state_in w at) t)
+  pub arc_lands : (at t r : ℕ) → at < k → Permits 1 (width cv) (state_in w at) t → r ≡ place_in w k (next cv (state_in w at) t)
       → Landed w cv k at t r
-  arc-lands at t r l p e =
+  arc_lands at t r l p e =
       let x : ℕ = next cv (state_in w at) t in
       let q = subst (λ s. Permits 1 (width cv) s t) (sym (listed_at at l)) p in
-      let f = states-closed 1 (width cv) cv 256 listed-few at (omega (arith, listed-number)) t q in
-      let low : f.index < k = omega (arith, listed-number, f.inside) in
+      let f = states_closed 1 (width cv) cv 256 listed_few at (omega (arith, listed_number_lem)) t q in
+      let low : f.index < k = omega (arith, listed_number_lem, f.inside) in
       let here : state_in w f.index ≡ x = sym (listed_at f.index low) ∙ f.found ∙ ap (λ s. next cv s t) (listed_at at l) in
-      let some = place-some w k h.index x f.index low here in
-      record { inside = omega (arith, some); state = ap (state_in w) e ∙ place-listed w k h.index x some }
+      let some = place_some w k h.index x f.index low here in
+      record { inside = omega (arith, some); state = ap (state_in w) e ∙ place_listed w k h.index x some }

@@ -21,15 +21,15 @@ module _ (w : List ℕ) (from count : ℕ) (before : List ℕ) (h : Copyable w f
   long : length (noted_in w from count) ≡ count
   long = length-take-le count (drop from w) (omega (arith, length-drop from w, h.inside))
 
-  noted-at : (i : ℕ) → i < count → get_or (noted_in w from count) i 0 ≡ get_or w (from + i) 0
-  noted-at i l = get_or-take count (drop from w) i 0 l ∙ get_or-drop from w i 0
+  noted_at : (i : ℕ) → i < count → get_or (noted_in w from count) i 0 ≡ get_or w (from + i) 0
+  noted_at i l = get_or-take count (drop from w) i 0 l ∙ get_or-drop from w i 0
 
   pub copy_start : Copying w from count before before 0 0
   copy_start = record { most = omega arith; bytes = refl; adds = refl; small = omega arith }
 
   module _ (out : List ℕ) (sum i : ℕ) (r : Copying w from count before out sum i) where
-    pub copy-room : length out ≡ length before
-    copy-room =
+    pub copy_room : length out ≡ length before
+    copy_room =
         ap length r.bytes
         ∙ front_length (noted_in w from count) before i (omega (arith, long, r.most)) (omega (arith, h.fits, r.most))
 
@@ -38,9 +38,9 @@ module _ (w : List ℕ) (from count : ℕ) (before : List ℕ) (h : Copyable w f
       most = omega arith;
       bytes =
           ap (λ x. set x i (get_or w (from + i) 0)) r.bytes
-          ∙ ap (set (front (noted_in w from count) before i) i) (sym (noted-at i l))
+          ∙ ap (set (front (noted_in w from count) before i) i) (sym (noted_at i l))
           ∙ front_more (noted_in w from count) before i (omega (arith, long)) (omega (arith, h.fits));
-      adds = ap (λ x. sum + x) (sym (noted-at i l)) ∙ sum_more (noted_in w from count) i sum (omega (arith, long)) r.adds;
+      adds = ap (λ x. sum + x) (sym (noted_at i l)) ∙ sum_more (noted_in w from count) i sum (omega (arith, long)) r.adds;
       small = omega (arith, r.small, h.low i l);
     }
 

@@ -84,8 +84,8 @@ module _ (l : List ℕ) (one other : ℕ) where
   abbrev pub Comparing : ℕ → Type 0
   Comparing i = comes_first (drop i (rotate l one)) (drop i (rotate l other)) ≡ comes_first (rotate l one) (rotate l other)
 
-  pub compare-end : (i : ℕ) → Comparing i → length l ≤ i → true ≡ comes_first (rotate l one) (rotate l other)
-  compare-end i r h =
+  pub compare_end : (i : ℕ) → Comparing i → length l ≤ i → true ≡ comes_first (rotate l one) (rotate l other)
+  compare_end i r h =
       let all : length (rotate l one) ≤ i = omega (arith, rotate_length l one) in
       ap (λ a. comes_first a (drop i (rotate l other))) (sym (drop_of_length-le (rotate l one) all)) ∙ r
 
@@ -99,14 +99,14 @@ module _ (l : List ℕ) (one other : ℕ) where
         ≡ comes_first (rotate l one) (rotate l other)
     heads = ap₂ comes_first (sym (cut one low)) (sym (cut other high)) ∙ r
 
-    pub compare-less : turned l one i < turned l other i → true ≡ comes_first (rotate l one) (rotate l other)
-    compare-less h = sym (comes_less _ _ (drop (suc i) (rotate l one)) (drop (suc i) (rotate l other)) h) ∙ heads
+    pub compare_less : turned l one i < turned l other i → true ≡ comes_first (rotate l one) (rotate l other)
+    compare_less h = sym (comes_less _ _ (drop (suc i) (rotate l one)) (drop (suc i) (rotate l other)) h) ∙ heads
 
-    pub compare-more : turned l other i < turned l one i → false ≡ comes_first (rotate l one) (rotate l other)
-    compare-more h = sym (comes_more _ _ (drop (suc i) (rotate l one)) (drop (suc i) (rotate l other)) h) ∙ heads
+    pub compare_more : turned l other i < turned l one i → false ≡ comes_first (rotate l one) (rotate l other)
+    compare_more h = sym (comes_more _ _ (drop (suc i) (rotate l one)) (drop (suc i) (rotate l other)) h) ∙ heads
 
-    pub compare-on : turned l one i ≤ turned l other i → turned l other i ≤ turned l one i → Comparing (i + 1)
-    compare-on h k =
+    pub compare_on : turned l one i ≤ turned l other i → turned l other i ≤ turned l one i → Comparing (i + 1)
+    compare_on h k =
         let e : turned l one i ≡ turned l other i = omega arith in
         ap (λ j. comes_first (drop j (rotate l one)) (drop j (rotate l other))) (add-one i)
         ∙ sym (comes_same _ _ (drop (suc i) (rotate l one)) (drop (suc i) (rotate l other)) e) ∙ heads
@@ -129,16 +129,16 @@ lead_start l = record {
 }
 
 module _ {l : List ℕ} {best r : ℕ} (p : Leading l best r) where
-  pub lead-keep : comes_first (rotate l best) (rotate l r) ≡ true → Leading l best (r + 1)
-  lead-keep e = record {
+  pub lead_keep : comes_first (rotate l best) (rotate l r) ≡ true → Leading l best (r + 1)
+  lead_keep e = record {
     below = omega (arith, p.below);
     inside = p.inside;
     first = below_more (λ k. comes_first (rotate l best) (rotate l k) ≡ true) r p.first e;
     before = p.before;
   }
 
-  pub lead-change : r < length l → comes_first (rotate l best) (rotate l r) ≡ false → Leading l r (r + 1)
-  lead-change h e = record {
+  pub lead_change : r < length l → comes_first (rotate l best) (rotate l r) ≡ false → Leading l r (r + 1)
+  lead_change h e = record {
     below = omega arith;
     inside = λ o. h;
     first = below_more (λ k. comes_first (rotate l r) (rotate l k) ≡ true) r
@@ -149,9 +149,9 @@ module _ {l : List ℕ} {best r : ℕ} (p : Leading l best r) where
         (λ f. nowhere (sym e ∙ comes_trans (rotate l best) (rotate l k) (rotate l r) (p.first k o) f));
   }
 
-  pub lead-end : length l ≤ r → best ≡ first_rotation l
+  pub lead_end : length l ≤ r → best ≡ first_rotation l
   unfolding leads first_rotation
-  lead-end h = sym (least_is (length l) 0 (leads l) best (omega arith) inside (λ j o k. earlier j k) here)
+  lead_end h = sym (least_is (length l) 0 (leads l) best (omega arith) inside (λ j o k. earlier j k) here)
     where
       inside : best ≤ 0 + length l
       inside = go (dec_lt 0 best)
@@ -177,15 +177,15 @@ lead_some l (suc m) h = go (lead_some l m (omega arith))
     go q =
         let p : Leading l q.0 (suc m) = subst (Leading l q.0) (add-one m) q.1 in
         by_test (comes_first (rotate l q.0) (rotate l (suc m)))
-        (λ e. (q.0, lead-keep p e))
-        (λ e. (suc m, lead-change p h e))
+        (λ e. (q.0, lead_keep p e))
+        (λ e. (suc m, lead_change p h e))
 
 pub lead_all : (l : List ℕ) → 0 < length l → Leading l (first_rotation l) (length l)
 lead_all l h =
     let q = lead_some l (length l - 1) (omega arith) in
     let e : length l - 1 + 1 ≡ length l = omega arith in
     let p : Leading l q.0 (length l) = subst (Leading l q.0) e q.1 in
-    subst (λ b. Leading l b (length l)) (lead-end p (le_refl (length l))) p
+    subst (λ b. Leading l b (length l)) (lead_end p (le_refl (length l))) p
 
 pub first_inside : (l : List ℕ) → 0 < length l → first_rotation l < length l
 first_inside l h = (lead_all l h).below

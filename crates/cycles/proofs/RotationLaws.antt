@@ -11,11 +11,11 @@ use Rattle.unit.specs.Table.{Table}
 use Rattle.collision.specs.Pipeline.{Serves, NeverCollides, latency, start_at, task_at}
 use Rattle.diagram.specs.Diagram.{Walk, Reachable}
 use Rattle.diagram.specs.States.{Distinct}
-use Rattle.diagram.proofs.Walks.{run, walk-run}
+use Rattle.diagram.proofs.Walks.{run, walk_run}
 use Rattle.diagram.specs.Cycles.{states_along, CycleFrom}
 use Rattle.graphs.specs.Rotation.{rotate}
 use Rattle.graphs.proofs.Rotations.{rotate_length, rotate_at}
-use Rattle.cycles.proofs.AlongLaws.{along_length, along_append, along_take, along_drop, walk-join, walk-take, walk-drop, reach-on}
+use Rattle.cycles.proofs.AlongLaws.{along_length, along_append, along_take, along_drop, walk_join, walk_take, walk_drop, reach_on}
 
 -- the i-th latency of a rotation, repeated without end
 pub rotate_latency : (l : List ℕ) (r i : ℕ) → r ≤ length l → 0 < length l → latency (rotate l r) i ≡ latency l (r + i)
@@ -107,15 +107,15 @@ rotate_along : {g n cv s : ℕ} {l : List ℕ} (r : ℕ) → Walk g n cv s l s
     → states_along cv (run cv s (take r l)) (rotate l r) ≡ rotate (states_along cv s l) r
 rotate_along {cv = cv} {s} {l} r w =
     let m : ℕ = run cv s (take r l) in
-    let back : run cv m (drop r l) ≡ s = walk-run (walk-drop r w) in
+    let back : run cv m (drop r l) ≡ s = walk_run (walk_drop r w) in
     along_append cv m (drop r l) (take r l)
     ∙ ap₂ (λ a b. a ++ b) (along_drop cv s r l) (ap (λ x. states_along cv x (take r l)) back ∙ along_take cv s r l)
 
 pub rotate_walk : {g n cv s : ℕ} {l : List ℕ} (r : ℕ) → Walk g n cv s l s → r ≤ length l → RotatedWalk g n cv s l r
 rotate_walk {cv = cv} {s} {l} r w h = record {
   state = run cv s (take r l);
-  closed = walk-join (walk-drop r w) (walk-take r w);
-  reached = λ p. reach-on p (walk-take r w);
+  closed = walk_join (walk_drop r w) (walk_take r w);
+  reached = λ p. reach_on p (walk_take r w);
   apart = λ d.
       subst Distinct (sym (rotate_along r w))
       (rotate_distinct (states_along cv s l) r (omega (arith, along_length cv s l)) d);

@@ -17,11 +17,11 @@ use Rattle.diagram.specs.States.{has}
 use Rattle.diagram.specs.Work.{state_in, place_in}
 use Rattle.diagram.proofs.ListLaws.{listed_has}
 use Rattle.diagram.proofs.WidthLaws.{width_le}
-use Rattle.diagram.proofs.Walks.{walk-permits}
+use Rattle.diagram.proofs.Walks.{walk_permits}
 use Rattle.cycles.specs.Greedy.{least_latency, greedy_from, greedy_cycle}
 use Rattle.cycles.specs.Inner.{mark_in, step_in, noted_in, Unmarked, Ready, Stepped, Walkable, Walked}
-use Rattle.cycles.proofs.GreedyLaws.{least_permits, place_only, Trail, trail_start, trail-length, trail_more, trail-few, greedy_more, greedy_end}
-use Rattle.cycles.proofs.ListingLaws.{walkable_kept, listed-number, listed-few, listed-first, listed-apart, Landed, arc-lands}
+use Rattle.cycles.proofs.GreedyLaws.{least_permits, place_only, Trail, trail_start, trail_length, trail_more, trail_few, greedy_more, greedy_end}
+use Rattle.cycles.proofs.ListingLaws.{walkable_kept, listed_number_lem, listed_few, listed_first, listed_apart, Landed, arc_lands}
 
 -- Words that changed only where the walk writes: from 768 to 1279
 
@@ -38,23 +38,23 @@ module _ (w : List ℕ) (at i t : ℕ) (room : 2048 ≤ length w) (inside : at <
   other : (j : ℕ) → (j ≡ 768 + at → ⊥) → (j ≡ 1024 + i → ⊥) → get_or (stepped w at i t) j 0 ≡ get_or w j 0
   other j p q = get_or-set_other (set w (768 + at) (i + 1)) (1024 + i) j t 0 q ∙ get_or-set_other w (768 + at) j (i + 1) 0 p
 
-  step-frame : Frame w (stepped w at i t)
-  step-frame = record {
+  step_frame : Frame w (stepped w at i t)
+  step_frame = record {
     size = simp length-set;
     low = λ j l. other j (λ e. omega arith) (λ e. omega arith);
     high = λ j l. other j (λ e. omega arith) (λ e. omega arith);
   }
 
-  mark-here : mark_in (stepped w at i t) at ≡ i + 1
-  mark-here =
+  mark_here : mark_in (stepped w at i t) at ≡ i + 1
+  mark_here =
       get_or-set_other (set w (768 + at) (i + 1)) (1024 + i) (768 + at) t 0 (λ e. omega arith)
       ∙ get_or-set_same w (768 + at) (i + 1) 0 (omega arith)
 
-  mark-other : (v : ℕ) → v < 256 → (v ≡ at → ⊥) → mark_in (stepped w at i t) v ≡ mark_in w v
-  mark-other v l ne = other (768 + v) (λ e. ne (omega arith)) (λ e. omega arith)
+  mark_other : (v : ℕ) → v < 256 → (v ≡ at → ⊥) → mark_in (stepped w at i t) v ≡ mark_in w v
+  mark_other v l ne = other (768 + v) (λ e. ne (omega arith)) (λ e. omega arith)
 
-  step-here : step_in (stepped w at i t) i ≡ t
-  step-here = get_or-set_same (set w (768 + at) (i + 1)) (1024 + i) t 0 (simp length-set (omega arith))
+  step_here : step_in (stepped w at i t) i ≡ t
+  step_here = get_or-set_same (set w (768 + at) (i + 1)) (1024 + i) t 0 (simp length-set (omega arith))
 
   step_other : (j : ℕ) → j < i → step_in (stepped w at i t) j ≡ step_in w j
   step_other j l = other (1024 + j) (λ e. omega arith) (λ e. omega arith)
@@ -99,7 +99,7 @@ unfolding greedy_cycle
 walk_start {before} {w} {cv} {k} h c =
     let kept : Walkable w cv k = walkable_kept c.size c.below h in
     let few = h.index.few in
-    let first : state_in w 0 ≡ cv = listed-first kept in
+    let first : state_in w 0 ≡ cv = listed_first kept in
     record {
       listing = kept;
       frame = record { size = refl; low = λ i l. refl; high = λ i l. refl };
@@ -115,46 +115,46 @@ walk_start {before} {w} {cv} {k} h c =
     }
 
 module _ {before w : List ℕ} {cv k at i : ℕ} (r : Walking before w cv k at i) where
-  seen-length : length r.seen ≡ i
-  seen-length = trail-length r.trail ∙ r.count
+  seen_length : length r.seen ≡ i
+  seen_length = trail_length r.trail ∙ r.count
 
   pub walk_few : i ≤ k
-  walk_few = omega (arith, seen-length, trail-few r.trail (listed-few r.listing), listed-number r.listing)
+  walk_few = omega (arith, seen_length, trail_few r.trail (listed_few r.listing), listed_number_lem r.listing)
 
-  pub walk-room : 2048 ≤ length w
-  walk-room = omega (arith, r.frame.size, r.listing.room)
+  pub walk_room : 2048 ≤ length w
+  walk_room = omega (arith, r.frame.size, r.listing.room)
 
-  pub walk-place : at < 256
-  walk-place = omega (arith, r.inside, r.listing.index.few)
+  pub walk_place : at < 256
+  walk_place = omega (arith, r.inside, r.listing.index.few)
 
   module _ (new : mark_in w at ≡ 0) where
     fresh : has (state_in before at) r.seen ≡ false
     fresh = r.unmarked at r.inside new
 
-    next-trail : Trail 1 (width cv) cv (r.seen ++ (state_in before at ∷ [])) (r.latencies ++ (least cv before at ∷ [])) (next cv (state_in before at) (least cv before at))
-    next-trail = trail_more r.trail _ fresh (least_permits 1 (width cv) (state_in before at))
+    next_trail : Trail 1 (width cv) cv (r.seen ++ (state_in before at ∷ [])) (r.latencies ++ (least cv before at ∷ [])) (next cv (state_in before at) (least cv before at))
+    next_trail = trail_more r.trail _ fresh (least_permits 1 (width cv) (state_in before at))
 
     pub walk_fewer : i < k
     walk_fewer =
         omega (
           arith,
-          seen-length,
+          seen_length,
           length-append r.seen (state_in before at ∷ []),
-          trail-few next-trail (listed-few r.listing),
-          listed-number r.listing,
+          trail_few next_trail (listed_few r.listing),
+          listed_number_lem r.listing,
         )
 
-    pub walk-ready : Ready w (width cv) at i
-    walk-ready = record {
-      room = walk-room;
+    pub walk_ready : Ready w (width cv) at i
+    walk_ready = record {
+      room = walk_room;
       narrow = width_le cv;
-      inside = walk-place;
+      inside = walk_place;
       few = omega (arith, walk_fewer, r.listing.index.few);
     }
 
     module _ {after : List ℕ} {n to : ℕ} (wide : n ≡ width cv) (p : Stepped w after cv n k at i to) where
       state_kept : state_in w at ≡ state_in before at
-      state_kept = r.frame.low at (omega (arith, walk-place))
+      state_kept = r.frame.low at (omega (arith, walk_place))
 
       least_kept : least_latency 1 n (state_in w at) ≡ least cv before at
       least_kept = ap₂ (least_latency 1) wide state_kept
@@ -168,7 +168,7 @@ module _ {before w : List ℕ} {cv k at i : ℕ} (r : Walking before w cv k at i
       landed : Landed before cv k at (least cv before at) to
       landed =
           let l : Landed w cv k at (least cv before at) to =
-          arc-lands (walkable_kept r.frame.size r.frame.low r.listing) at (least cv before at) to r.inside
+          arc_lands (walkable_kept r.frame.size r.frame.low r.listing) at (least cv before at) to r.inside
           (subst (λ s. Permits 1 (width cv) s (least cv before at)) (sym state_kept) (least_permits 1 (width cv) (state_in before at)))
           (p.place ∙ ap (λ t. place_in w k (next cv (state_in w at) t)) least_kept) in
           record {
@@ -176,48 +176,48 @@ module _ {before w : List ℕ} {cv k at i : ℕ} (r : Walking before w cv k at i
             state = sym (r.frame.low to (omega (arith, l.inside, r.listing.index.few))) ∙ l.state ∙ ap (λ s. next cv s (least cv before at)) state_kept;
           }
 
-      next-marked : (v : ℕ) → v < k → 0 < mark_in (onward cv before w at i) v
+      next_marked : (v : ℕ) → v < k → 0 < mark_in (onward cv before w at i) v
           → Left before (onward cv before w at i) (r.seen ++ (state_in before at ∷ [])) (i + 1) v
-      next-marked v l pos = go (ℕ_discrete v at)
+      next_marked v l pos = go (ℕ_discrete v at)
         where
           go : Dec (v ≡ at) → Left before (onward cv before w at i) (r.seen ++ (state_in before at ∷ [])) (i + 1) v
           go (yes e) =
               let m : mark_in (onward cv before w at i) v ≡ i + 1 =
-              ap (mark_in (onward cv before w at i)) e ∙ mark-here w at i (least cv before at) walk-room walk-place few in
+              ap (mark_in (onward cv before w at i)) e ∙ mark_here w at i (least cv before at) walk_room walk_place few in
               record {
                 most = omega arith;
-                state = get_or_at r.seen (state_in before at) [] 0 _ (omega (arith, seen-length)) ∙ ap (state_in before) (sym e);
+                state = get_or_at r.seen (state_in before at) [] 0 _ (omega (arith, seen_length)) ∙ ap (state_in before) (sym e);
               }
           go (no e) =
               let m : mark_in (onward cv before w at i) v ≡ mark_in w v =
-              mark-other w at i (least cv before at) walk-room walk-place few v (omega (arith, r.listing.index.few)) e in
+              mark_other w at i (least cv before at) walk_room walk_place few v (omega (arith, r.listing.index.few)) e in
               let q = r.marked v l (omega arith) in
               let top = q.most in
               record {
                 most = omega arith;
                 state =
                     ap (λ x. get_or (r.seen ++ (state_in before at ∷ [])) (x - 1) 0) m
-                    ∙ get_or-append r.seen (state_in before at ∷ []) 0 (mark_in w v - 1) (omega (arith, seen-length)) ∙ q.state;
+                    ∙ get_or-append r.seen (state_in before at ∷ []) 0 (mark_in w v - 1) (omega (arith, seen_length)) ∙ q.state;
               }
 
-      next-unmarked : (v : ℕ) → v < k → mark_in (onward cv before w at i) v ≡ 0 → has (state_in before v) (r.seen ++ (state_in before at ∷ [])) ≡ false
-      next-unmarked v l z = go (ℕ_discrete v at)
+      next_unmarked : (v : ℕ) → v < k → mark_in (onward cv before w at i) v ≡ 0 → has (state_in before v) (r.seen ++ (state_in before at ∷ [])) ≡ false
+      next_unmarked v l z = go (ℕ_discrete v at)
         where
           go : Dec (v ≡ at) → has (state_in before v) (r.seen ++ (state_in before at ∷ [])) ≡ false
           go (yes e) =
               let m : mark_in (onward cv before w at i) v ≡ i + 1 =
-              ap (mark_in (onward cv before w at i)) e ∙ mark-here w at i (least cv before at) walk-room walk-place few in
+              ap (mark_in (onward cv before w at i)) e ∙ mark_here w at i (least cv before at) walk_room walk_place few in
               absurd (omega arith)
           go (no e) =
               let m : mark_in (onward cv before w at i) v ≡ mark_in w v =
-              mark-other w at i (least cv before at) walk-room walk-place few v (omega (arith, r.listing.index.few)) e in
+              mark_other w at i (least cv before at) walk_room walk_place few v (omega (arith, r.listing.index.few)) e in
               has_more (state_in before v) (state_in before at) r.seen (r.unmarked v l (omega arith))
-              (λ q. e (listed-apart r.listing v at l r.inside (sym q)))
+              (λ q. e (listed_apart r.listing v at l r.inside (sym q)))
 
-      walk-next : Walking before (onward cv before w at i) cv k to (i + 1)
-      walk-next =
+      walk_next : Walking before (onward cv before w at i) cv k to (i + 1)
+      walk_next =
           let t : ℕ = least cv before at in
-          let f = step-frame w at i t walk-room walk-place few in
+          let f = step_frame w at i t walk_room walk_place few in
           let fuel : 257 - (i + 1) ≡ 256 - i = omega arith in
           let more : suc (256 - i) ≡ 257 - i = omega (arith, few) in
           record {
@@ -230,14 +230,14 @@ module _ {before w : List ℕ} {cv k at i : ℕ} (r : Walking before w cv k at i
             inside = landed.inside;
             seen = r.seen ++ (state_in before at ∷ []);
             latencies = r.latencies ++ (t ∷ []);
-            trail = subst (Trail 1 (width cv) cv (r.seen ++ (state_in before at ∷ [])) (r.latencies ++ (t ∷ []))) (sym landed.state) next-trail;
+            trail = subst (Trail 1 (width cv) cv (r.seen ++ (state_in before at ∷ [])) (r.latencies ++ (t ∷ []))) (sym landed.state) next_trail;
             count = omega (arith, length-append r.latencies (t ∷ []), r.count);
             noted = below_more (λ j. step_in (stepped w at i t) j ≡ get_or (r.latencies ++ (t ∷ [])) j 0) i
-                (λ j l. step_other w at i t walk-room walk-place few j l ∙ r.noted j l
+                (λ j l. step_other w at i t walk_room walk_place few j l ∙ r.noted j l
                 ∙ sym (get_or-append r.latencies (t ∷ []) 0 j (omega (arith, r.count))))
-                (step-here w at i t walk-room walk-place few ∙ sym (get_or_at r.latencies t [] 0 i r.count));
-            unmarked = next-unmarked;
-            marked = next-marked;
+                (step_here w at i t walk_room walk_place few ∙ sym (get_or_at r.latencies t [] 0 i r.count));
+            unmarked = next_unmarked;
+            marked = next_marked;
             rest =
                 ap (λ x. greedy_from 1 (width cv) cv x (r.seen ++ (state_in before at ∷ [])) (r.latencies ++ (t ∷ [])) (state_in before to)) fuel
                 ∙ ap (greedy_from 1 (width cv) cv (256 - i) (r.seen ++ (state_in before at ∷ [])) (r.latencies ++ (t ∷ []))) landed.state
@@ -247,21 +247,21 @@ module _ {before w : List ℕ} {cv k at i : ℕ} (r : Walking before w cv k at i
           }
 
       pub walk_more : Walking before after cv k to (i + 1)
-      walk_more = subst (λ x. Walking before x cv k to (i + 1)) (sym words) walk-next
+      walk_more = subst (λ x. Walking before x cv k to (i + 1)) (sym words) walk_next
 
   -- the state at the place has a mark: it was left at that step, and the latencies from there on are the cycle
   module _ (old : mark_in w at ≡ 0 → ⊥) where
-    pub walk-back : (0 < mark_in w at) × (mark_in w at ≤ i)
-    walk-back = let p : 0 < mark_in w at = omega arith in (p, (r.marked at r.inside p).most)
+    pub walk_back : (0 < mark_in w at) × (mark_in w at ≤ i)
+    walk_back = let p : 0 < mark_in w at = omega arith in (p, (r.marked at r.inside p).most)
 
     again : get_or r.seen (mark_in w at - 1) 0 ≡ state_in before at
-    again = (r.marked at r.inside walk-back.0).state
+    again = (r.marked at r.inside walk_back.0).state
 
     cycle : drop (mark_in w at - 1) r.latencies ≡ greedy_cycle 1 (width cv) cv
     cycle =
-        let p = walk-back.0 in
-        let q = walk-back.1 in
-        let inside : mark_in w at - 1 < length r.seen = omega (arith, seen-length) in
+        let p = walk_back.0 in
+        let q = walk_back.1 in
+        let inside : mark_in w at - 1 < length r.seen = omega (arith, seen_length) in
         let more : 257 - i ≡ suc (256 - i) = omega (arith, walk_few, r.listing.index.few) in
         ap (λ j. drop j r.latencies) (sym (place_only (state_in before at) r.seen (mark_in w at - 1) r.trail.apart inside again))
         ∙ sym (greedy_end 1 (width cv) cv (256 - i) r.seen r.latencies (state_in before at)
@@ -269,32 +269,32 @@ module _ {before w : List ℕ} {cv k at i : ℕ} (r : Walking before w cv k at i
         ∙ ap (λ x. greedy_from 1 (width cv) cv x r.seen r.latencies (state_in before at)) (sym more)
         ∙ r.rest
 
-    noted-at : (j : ℕ) → j < i - (mark_in w at - 1) → get_or w (1024 + (mark_in w at - 1) + j) 0 ≡ get_or r.latencies (mark_in w at - 1 + j) 0
-    noted-at j l =
+    noted_at : (j : ℕ) → j < i - (mark_in w at - 1) → get_or w (1024 + (mark_in w at - 1) + j) 0 ≡ get_or r.latencies (mark_in w at - 1 + j) 0
+    noted_at j l =
         let e : 1024 + (mark_in w at - 1) + j ≡ 1024 + (mark_in w at - 1 + j) = omega arith in
         ap (λ x. get_or w x 0) e ∙ r.noted (mark_in w at - 1 + j) (omega arith)
 
-    noted-cycle : noted_in w (1024 + (mark_in w at - 1)) (i - (mark_in w at - 1)) ≡ greedy_cycle 1 (width cv) cv
-    noted-cycle =
+    noted_cycle : noted_in w (1024 + (mark_in w at - 1)) (i - (mark_in w at - 1)) ≡ greedy_cycle 1 (width cv) cv
+    noted_cycle =
         let from : ℕ = 1024 + (mark_in w at - 1) in
         let count : ℕ = i - (mark_in w at - 1) in
         let long : length (noted_in w from count) ≡ count =
-        length-take-le count (drop from w) (omega (arith, length-drop from w, walk-room, walk_few, r.listing.index.few, walk-back.1)) in
+        length-take-le count (drop from w) (omega (arith, length-drop from w, walk_room, walk_few, r.listing.index.few, walk_back.1)) in
         ext_get_or 0 (noted_in w from count) (drop (mark_in w at - 1) r.latencies)
         (long ∙ sym (length-drop (mark_in w at - 1) r.latencies ∙ ap (λ x. x - (mark_in w at - 1)) r.count))
         (λ j l.
         let low : j < count = omega arith in
-        get_or-take count (drop from w) j 0 low ∙ get_or-drop from w j 0 ∙ noted-at j low ∙ sym (get_or-drop (mark_in w at - 1) r.latencies j 0))
+        get_or-take count (drop from w) j 0 low ∙ get_or-drop from w j 0 ∙ noted_at j low ∙ sym (get_or-drop (mark_in w at - 1) r.latencies j 0))
         ∙ cycle
 
     pub walk_end : {entry : List ℕ} → Unmarked entry before → Walked entry w cv (record { from = 1024 + (mark_in w at - 1); count = i - (mark_in w at - 1) })
     walk_end c = record {
       size = r.frame.size ∙ c.size;
       beyond = λ j l. r.frame.high j (omega arith) ∙ c.above j (omega arith);
-      inside = omega (arith, walk-back.1, walk_few, r.listing.index.few);
+      inside = omega (arith, walk_back.1, walk_few, r.listing.index.few);
       few = omega (arith, walk_few, r.listing.index.few);
-      cycle = noted-cycle;
+      cycle = noted_cycle;
       low = λ j l.
-          let p = walk-permits r.trail.walk (mark_in w at - 1 + j) (omega (arith, r.count)) in
-          omega (arith, noted-at j l, p.small, width_le cv);
+          let p = walk_permits r.trail.walk (mark_in w at - 1 + j) (omega (arith, r.count)) in
+          omega (arith, noted_at j l, p.small, width_le cv);
     }

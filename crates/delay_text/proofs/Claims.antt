@@ -14,14 +14,14 @@ use Rattle.unit.specs.declared.Answer.TheVariants.{Done, Refused}
 use Rattle.unit.specs.Unit.{marked, sound_of}
 use Rattle.unit.specs.Calls.{and_then, tag_answer, unit_of, outcome}
 use Rattle.unit.proofs.Laws.{within, sound_has}
-use Rattle.unit.proofs.TableLaws.{unit-of-words, unit_of_same}
+use Rattle.unit.proofs.TableLaws.{unit_of_words, unit_of_same}
 use Rattle.unit_file.specs.File.{file_length}
 use Rattle.unit_file.specs.Read.{read_of}
 use Rattle.unit_file.specs.Write.{unit_file, write_refusal}
-use Rattle.unit_file.proofs.FileLaws.{file-length}
+use Rattle.unit_file.proofs.FileLaws.{file_length_lem}
 use Rattle.unit_file.proofs.RoundTrips.{unit_read}
 use Rattle.drawing.specs.Answers.{unit_table, table_refusal}
-use Rattle.drawing.proofs.AnswerLaws.{table-suffices}
+use Rattle.drawing.proofs.AnswerLaws.{table_suffices}
 use Rattle.delays.specs.Delays.{delays_answer, delayed_unit, delays_of}
 use Rattle.delays.proofs.Claims.{delays_permit}
 use Rattle.delay_text.specs.Shown.{delayed_table_refusal, delayed_file_refusal, delayed_file_out}
@@ -40,11 +40,11 @@ module _ (u : FunctionUnit) (q m : ℕ) (d : delays_answer u q m ≡ Done) where
   unfolding delays_of
   made = ap (λ (a : Answer). outcome a u v) d
 
-  unit-is : (delays_of u q m).unit ≡ v
-  unit-is = ap (λ (o : Outcome). o.unit) made
+  unit_is : (delays_of u q m).unit ≡ v
+  unit_is = ap (λ (o : Outcome). o.unit) made
 
   sound : sound_of v ≡ true
-  sound = ap sound_of (sym unit-is) ∙ (delays_permit u q m d).sound
+  sound = ap sound_of (sym unit_is) ∙ (delays_permit u q m d).sound
 
   tag : tag_answer v 1 ≡ Done
   unfolding tag_answer unit_of
@@ -52,31 +52,31 @@ module _ (u : FunctionUnit) (q m : ℕ) (d : delays_answer u q m ≡ Done) where
 
   table_taken : (room : ℕ) → 1700 ≤ room → table_refusal v 1 room ≡ Done
   unfolding table_refusal
-  table_taken room h = rw (tag, le-leb (length (unit_table v 1)) room (omega (arith, table-suffices v 1 tag)))
+  table_taken room h = rw (tag, le-leb (length (unit_table v 1)) room (omega (arith, table_suffices v 1 tag)))
 
   short : file_length 1 u.segments ≤ 70
   unfolding unit_of
   short = omega (arith, (within u.segments 16 (sound_has v sound).segments).most)
 
-  file-taken : (room : ℕ) → 70 ≤ room → write_refusal v room ≡ Done
+  file_taken : (room : ℕ) → 70 ≤ room → write_refusal v room ≡ Done
   unfolding write_refusal unit_of
-  file-taken room h = rw (sound, le-leb (file_length 1 u.segments) room (omega (arith, short)))
+  file_taken room h = rw (sound, le-leb (file_length 1 u.segments) room (omega (arith, short)))
 
   -- the file, read
   back : read_of (unit_file v) ≡ delays_of u q m
   back =
-      let same = unit_of_same v (marked v) (unit-of-words 1 u.segments _ _) (ap (λ (w : FunctionUnit). w.plan) (sym unit-is) ∙ (delays_permit u q m d).plan) refl in
+      let same = unit_of_same v (marked v) (unit_of_words 1 u.segments _ _) (ap (λ (w : FunctionUnit). w.plan) (sym unit_is) ∙ (delays_permit u q m d).plan) refl in
       unit_read v sound ∙ ap (λ (w : FunctionUnit). record { answer = Done; unit = w }) (sym same) ∙ sym made
 
   -- its length
   size : length (unit_file v) ≡ file_length 1 u.segments
   unfolding unit_of
-  size = file-length 1 u.segments v.columns (marked v)
+  size = file_length_lem 1 u.segments v.columns (marked v)
 
   front : (bytes : List ℕ) → 70 ≤ length bytes → take (file_length 1 u.segments) (delayed_file_out u q m bytes) ≡ unit_file v
   unfolding delayed_file_out delayed_file_refusal
   front bytes h =
-      rw (d, file-taken (length bytes) h) (take_at (unit_file v) (drop (length (unit_file v)) bytes) (file_length 1 u.segments) size)
+      rw (d, file_taken (length bytes) h) (take_at (unit_file v) (drop (length (unit_file v)) bytes) (file_length 1 u.segments) size)
 
 pub table_fits : TableFits
 unfolding delayed_table_refusal
@@ -84,7 +84,7 @@ table_fits u q m room h = only_these (delays_answer u q m) _ (λ d. table_taken 
 
 pub file_fits : FileFits
 unfolding delayed_file_refusal
-file_fits u q m room h = only_these (delays_answer u q m) _ (λ d. file-taken u q m d room h)
+file_fits u q m room h = only_these (delays_answer u q m) _ (λ d. file_taken u q m d room h)
 
 pub saved_read : SavedRead
 saved_read u q m bytes h d = ap read_of (front u q m d bytes h) ∙ back u q m d

@@ -59,10 +59,10 @@ module _ (u : FunctionUnit) (q m : ℕ) where
     pub table_refused : (before : List ℕ) (why : Refusal) → made.answer ≡ Refused why → TableEnds before before (Drawn.Refused why)
     table_refused before why d = table_ends before (Refused why) d
 
-    pub table-drawn : (before after : List ℕ) (r : Drawn) → made.answer ≡ Done
+    pub table_drawn : (before after : List ℕ) (r : Drawn) → made.answer ≡ Done
         → (r ≡ table_answer made.unit 1 (length before)) × (after ≡ table_out made.unit 1 before) → TableEnds before after r
     unfolding table_answer table_out
-    table-drawn before after r d w =
+    table_drawn before after r d w =
         let k = table_ends before Done d in (
           w.0 ∙ ap (λ (v : FunctionUnit). table_answer v 1 (length before)) (makes d) ∙ k.0,
           w.1 ∙ ap (λ (v : FunctionUnit). table_out v 1 before) (makes d) ∙ k.1,
@@ -70,20 +70,20 @@ module _ (u : FunctionUnit) (q m : ℕ) where
 
     -- the file
 
-    file-ends : (before : List ℕ) (a : Answer) → made.answer ≡ a → let all : Answer = and_then a (write_refusal (delayed_unit u q m) (length before)) in
+    file_ends : (before : List ℕ) (a : Answer) → made.answer ≡ a → let all : Answer = and_then a (write_refusal (delayed_unit u q m) (length before)) in
         FileEnds before (file_in_front all (unit_file (delayed_unit u q m)) before) (length_answer all (file_length 1 u.segments))
     unfolding delayed_file_answer delayed_file_out delayed_file_refusal
-    file-ends before a d =
+    file_ends before a d =
         ends (λ (b : Answer). length_answer b (file_length 1 u.segments)) (λ (b : Answer). file_in_front b (unit_file (delayed_unit u q m)) before) _ a d
 
     pub file_refused : (before : List ℕ) (why : Refusal) → made.answer ≡ Refused why → FileEnds before before (Written.Refused why)
-    file_refused before why d = file-ends before (Refused why) d
+    file_refused before why d = file_ends before (Refused why) d
 
     pub file_written : (before after : List ℕ) (r : Written) → made.answer ≡ Done
         → (r ≡ write_answer made.unit (length before)) × (after ≡ write_out made.unit before) → FileEnds before after r
     unfolding write_answer write_out unit_of
     file_written before after r d w =
-        let k = file-ends before Done d in (
+        let k = file_ends before Done d in (
           w.0 ∙ ap (λ (v : FunctionUnit). write_answer v (length before)) (makes d) ∙ k.0,
           w.1 ∙ ap (λ (v : FunctionUnit). write_out v before) (makes d) ∙ k.1,
         )

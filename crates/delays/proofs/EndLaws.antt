@@ -29,7 +29,7 @@ use Rattle.collision.specs.Vector.{marks_of}
 use Rattle.collision.specs.Answers.{answering, marks_answer}
 use Rattle.delays.specs.Delays.{Marks, place_of, places, width_of, moved_table, crowded, delays_answer, delays_of}
 use Rattle.delays.specs.Inner.{column_marks, two_in, Placed, Movable, left, Suited, placed_of}
-use Rattle.delays.proofs.PlaceLaws.{places-length, placeAt, place_at, place-first, place-order}
+use Rattle.delays.proofs.PlaceLaws.{places_length, place_at_lem, place_at, place_first, place_order}
 use Rattle.delays.proofs.WordLaws.{columns_say, crowded_words}
 
 -- The number of marks
@@ -39,11 +39,11 @@ module _ (u : FunctionUnit) (q : ℕ) (t : tag_answer u q ≡ Done) (n : Number)
   unfolding marks_answer
   value = e ∙ ap (λ (a : Answer). answering a (marks_of (marked u) q)) t
 
-  pub marks-given : (w : ℕ) → n ≡ Number.Value w → w ≡ marks_of (marked u) q
-  marks-given w g = let same : Number.Value w ≡ Number.Value (marks_of (marked u) q) = sym g ∙ value in cc
+  pub marks_given : (w : ℕ) → n ≡ Number.Value w → w ≡ marks_of (marked u) q
+  marks_given w g = let same : Number.Value w ≡ Number.Value (marks_of (marked u) q) = sym g ∙ value in cc
 
-  pub marks-never : (why : Refusal) → n ≡ Number.Refused why → ⊥
-  marks-never why g = let never : Number.Refused why ≡ Number.Value (marks_of (marked u) q) = sym g ∙ value in let z : ◌≡◌ {A = ℕ} 0 1 = cc in omega arith
+  pub marks_never : (why : Refusal) → n ≡ Number.Refused why → ⊥
+  marks_never why g = let never : Number.Refused why ≡ Number.Value (marks_of (marked u) q) = sym g ∙ value in let z : ◌≡◌ {A = ℕ} 0 1 = cc in omega arith
 
 -- The words of a sound unit
 
@@ -91,18 +91,18 @@ module _ (u : FunctionUnit) (columns : List ℕ) (m : ℕ) (s : Suited u columns
     width_is =
         let h : u.columns - 1 < u.columns = omega (arith, counts.columns.0) in
         let e : u.columns - 1 + 1 ≡ u.columns = omega (arith, counts.columns.0) in
-        p.each (u.columns - 1) h ∙ ap (place_of (places R m u.columns)) (e ∙ sym (places-length R m u.columns))
+        p.each (u.columns - 1) h ∙ ap (place_of (places R m u.columns)) (e ∙ sym (places_length R m u.columns))
 
-    spot_is : (i : ℕ) → i < u.columns → get_or spots i 0 ≡ placeAt R m i
+    spot_is : (i : ℕ) → i < u.columns → get_or spots i 0 ≡ place_at_lem R m i
     spot_is i h = p.each i h ∙ place_at R m u.columns i h
 
-    pub can-move : get_or spots (u.columns - 1) 0 ≤ 32 → Movable columns spots m u.columns u.segments (get_or spots (u.columns - 1) 0)
-    can-move near =
+    pub can_move : get_or spots (u.columns - 1) 0 ≤ 32 → Movable columns spots m u.columns u.segments (get_or spots (u.columns - 1) 0)
+    can_move near =
         let last : u.columns - 1 < u.columns = omega (arith, counts.columns.0) in
         record {
           segment1 = counts.segments.0;
           segment16 = counts.segments.1;
-          width1 = omega (arith, spot_is (u.columns - 1) last, place-first R m (u.columns - 1));
+          width1 = omega (arith, spot_is (u.columns - 1) last, place_first R m (u.columns - 1));
           width32 = near;
           few = counts.columns.1;
           placed = p;
@@ -115,36 +115,36 @@ module _ (u : FunctionUnit) (columns : List ℕ) (m : ℕ) (s : Suited u columns
 
         go : (i : ℕ) → i < u.columns → (i ≡ u.columns - 1) ⊎ (i < u.columns - 1) → get_or spots i 0 ≤ get_or spots (u.columns - 1) 0
         go i h (inl e) = omega (arith, ap (λ k. get_or spots k 0) e)
-        go i h (inr o) = omega (arith, spot_is i h, spot_is (u.columns - 1) (omega arith), place-order R m i (u.columns - 1) o)
+        go i h (inr o) = omega (arith, spot_is i h, spot_is (u.columns - 1) (omega arith), place_order R m i (u.columns - 1) o)
 
-    pub ends-beyond : 32 < get_or spots (u.columns - 1) 0 → left u PlaceBeyond ≡ placed_of u columns m
+    pub ends_beyond : 32 < get_or spots (u.columns - 1) 0 → left u PlaceBeyond ≡ placed_of u columns m
     unfolding placed_of
-    ends-beyond h = rw (lt-leb (width_of R m u.columns) 32 (omega (arith, width_is)))
+    ends_beyond h = rw (lt-leb (width_of R m u.columns) 32 (omega (arith, width_is)))
 
-    pub ends-placed : (r : FunctionUnit) → get_or spots (u.columns - 1) 0 ≤ 32
+    pub ends_placed : (r : FunctionUnit) → get_or spots (u.columns - 1) 0 ≤ 32
         → r ≡ unit_of 1 u.segments (get_or spots (u.columns - 1) 0) (moved_table R (places R m u.columns))
         → ◌≡◌ {A = Outcome} (record { answer = Done; unit = r }) (placed_of u columns m)
     unfolding placed_of
-    ends-placed r h e =
+    ends_placed r h e =
         rw (le-leb (width_of R m u.columns) 32 (omega (arith, width_is)))
         (ap (λ (x : FunctionUnit). record { answer = Done; unit = x }) (e ∙ ap (λ w. unit_of 1 u.segments w (moved_table R (places R m u.columns))) width_is))
 
 -- The call
 
 module _ (u : FunctionUnit) (q m : ℕ) where
-  pub tag-left : (why : Refusal) → tag_answer u q ≡ Refused why → left u why ≡ delays_of u q m
+  pub tag_left : (why : Refusal) → tag_answer u q ≡ Refused why → left u why ≡ delays_of u q m
   unfolding delays_of delays_answer
-  tag-left why e = rw e
+  tag_left why e = rw e
 
   module _ (t : tag_answer u q ≡ Done) where
-    pub crowded-left : crowded (marked u q) ≡ true → left u TwoMarks ≡ delays_of u q m
+    pub crowded_left : crowded (marked u q) ≡ true → left u TwoMarks ≡ delays_of u q m
     unfolding delays_of delays_answer
-    crowded-left e = rw (t, e)
+    crowded_left e = rw (t, e)
 
     module _ (single : crowded (marked u q) ≡ false) where
-      pub latency-left : inside m 32 && leb (marks_of (marked u) q) m ≡ false → left u BadInterval ≡ delays_of u q m
+      pub latency_left : inside m 32 && leb (marks_of (marked u) q) m ≡ false → left u BadInterval ≡ delays_of u q m
       unfolding delays_of delays_answer
-      latency-left e = rw (t, single, e)
+      latency_left e = rw (t, single, e)
 
       pub all_placed : (columns : List ℕ) → columns ≡ columns_of u q → inside m 32 && leb (marks_of (marked u) q) m ≡ true → placed_of u columns m ≡ delays_of u q m
       unfolding delays_of delays_answer placed_of

@@ -21,26 +21,26 @@ use Rattle.unit.proofs.Laws.{inside_of}
 use Rattle.unit.proofs.TableLaws.{column_changed, InCounts, unit_of_none, unit_of_column}
 use Rattle.delays.specs.Delays.{Marks, places, moved_table}
 use Rattle.delays.specs.Inner.{column_marks, Movable}
-use Rattle.delays.proofs.PlaceLaws.{placeAt, place_at, place-first, place-one}
+use Rattle.delays.proofs.PlaceLaws.{place_at_lem, place_at, place_first, place_one}
 use Rattle.delays.proofs.MovedLaws.{Old, moved_has, moved_of, moved_inside}
 use Rattle.delays.proofs.WordLaws.{mark_has}
 
 module _ (R : Marks) (m : ℕ) where
   abbrev spot : ℕ → ℕ
-  spot = placeAt R m
+  spot = place_at_lem R m
 
   abbrev moved_to : ℕ → Table
   moved_to n = moved_table R (places R m n)
 
-  moved-one : (n x s z : ℕ) → x ≡ 1 → Old R m n s z → moved_to n x s z ≡ true
-  moved-one n x s z e o = ap (λ k. moved_to n k s z) e ∙ moved_of R m n s z o
+  moved_one : (n x s z : ℕ) → x ≡ 1 → Old R m n s z → moved_to n x s z ≡ true
+  moved_one n x s z e o = ap (λ k. moved_to n k s z) e ∙ moved_of R m n s z o
 
   -- one column more
-  old-more : (n s z : ℕ) → Old R m n s z → Old R m (n + 1) s z
-  old-more n s z o = record { index = o.index; inside = omega (arith, o.inside); place = o.place; mark = o.mark }
+  old_more : (n s z : ℕ) → Old R m n s z → Old R m (n + 1) s z
+  old_more n s z o = record { index = o.index; inside = omega (arith, o.inside); place = o.place; mark = o.mark }
 
-  old-less : (n s z : ℕ) → Old R m (n + 1) s z → (z ≡ spot n → ⊥) → Old R m n s z
-  old-less n s z o other =
+  old_less : (n s z : ℕ) → Old R m (n + 1) s z → (z ≡ spot n → ⊥) → Old R m n s z
+  old_less n s z o other =
       ⊎_elim (λ e. absurd (other (sym o.place ∙ ap spot e)))
       (λ l. record { index = o.index; inside = l; place = o.place; mark = o.mark })
       (eq-or-lt_of_le (below o.inside))
@@ -60,16 +60,16 @@ module _ (R : Marks) (m : ℕ) where
               let q = eqb-true z (spot n) (and_right (eqb x 1) _ e) in
               word y
               ∙ same_test (R y (n + 1)) (moved_to (n + 1) x y z)
-              (λ h. moved-one (n + 1) x y z p (record { index = n; inside = omega arith; place = sym q; mark = h }))
+              (λ h. moved_one (n + 1) x y z p (record { index = n; inside = omega arith; place = sym q; mark = h }))
               (λ h.
               let o = (moved_has R m (n + 1) x y z h).1 in
-              ap (λ k. R y (k + 1)) (sym (place-one R m o.index n (o.place ∙ q))) ∙ o.mark)
+              ap (λ k. R y (k + 1)) (sym (place_one R m o.index n (o.place ∙ q))) ∙ o.mark)
           go false e =
               same_test (moved_to n x y z) (moved_to (n + 1) x y z)
-              (λ h. let k = moved_has R m n x y z h in moved-one (n + 1) x y z k.0 (old-more n y z k.1))
+              (λ h. let k = moved_has R m n x y z h in moved_one (n + 1) x y z k.0 (old_more n y z k.1))
               (λ h.
               let k = moved_has R m (n + 1) x y z h in
-              moved-one n x y z k.0 (old-less n y z k.1 (λ q. nowhere (sym e ∙ and_true (eq-eqb x 1 k.0) (eq-eqb z (spot n) q)))))
+              moved_one n x y z k.0 (old_less n y z k.1 (λ q. nowhere (sym e ∙ and_true (eq-eqb x 1 k.0) (eq-eqb z (spot n) q)))))
 
   table_none : empty ≡ moved_to 0
   unfolding moved_table places some_below
@@ -89,8 +89,8 @@ module _ (columns spots : List ℕ) (m n segments width : ℕ) (a : Movable colu
   abbrev unit_at : ℕ → FunctionUnit
   unit_at i = unit_of 1 segments width (moved_to M m i)
 
-  pub unit-none : blank 1 segments width ≡ unit_at 0
-  unit-none = unit_of_none 1 segments width (moved_to M m 0) (table_none M m)
+  pub unit_none : blank 1 segments width ≡ unit_at 0
+  unit_none = unit_of_none 1 segments width (moved_to M m 0) (table_none M m)
 
   spot_is : (i : ℕ) → i < n → get_or spots i 0 ≡ spot M m i
   spot_is i h = a.placed.each i h ∙ place_at M m n i h
@@ -98,32 +98,32 @@ module _ (columns spots : List ℕ) (m n segments width : ℕ) (a : Movable colu
   counts : good_counts 1 segments width ≡ true
   counts = and_true (inside_of segments 16 a.segment1 a.segment16) (inside_of width 32 a.width1 a.width32)
 
-  segment-most : (s i : ℕ) → M s (i + 1) ≡ true → (1 ≤ s) × (s ≤ segments)
-  segment-most s i e =
+  segment_most : (s i : ℕ) → M s (i + 1) ≡ true → (1 ≤ s) × (s ≤ segments)
+  segment_most s i e =
       let w = mark_has columns s (i + 1) e in
       let b : i + 1 - 1 < 32 = omega (arith, w.column.most) in
       let l : s - 1 < segments = set_below (get_or columns (i + 1 - 1) 0) segments (s - 1) (a.small (i + 1 - 1) b) w.bit in
       (w.segment.least, omega (arith, w.segment.least))
 
-  inside-counts : (i : ℕ) → i ≤ n → InCounts 1 segments width (moved_to M m i)
-  inside-counts i h =
-      moved_inside M m i segments width a.segment16 a.width32 (λ s k l. segment-most s k)
+  inside_counts : (i : ℕ) → i ≤ n → InCounts 1 segments width (moved_to M m i)
+  inside_counts i h =
+      moved_inside M m i segments width a.segment16 a.width32 (λ s k l. segment_most s k)
       (λ k l. omega (arith, spot_is k (omega arith), a.within k (omega arith)))
 
-  word-says : (i : ℕ) → i < 32 → (s : ℕ) → inside s 16 && is_set (get_or columns i 0) (s - 1) ≡ M s (i + 1)
+  word_says : (i : ℕ) → i < 32 → (s : ℕ) → inside s 16 && is_set (get_or columns i 0) (s - 1) ≡ M s (i + 1)
   unfolding column_marks
-  word-says i h s =
+  word_says i h s =
       let b : i ≡ i + 1 - 1 = omega arith in
       ap (λ k. inside s 16 && is_set (get_or columns k 0) (s - 1)) b
       ∙ ap (λ t. inside s 16 && (t && is_set (get_or columns (i + 1 - 1) 0) (s - 1))) (sym (inside_of (i + 1) 32 (omega arith) (omega arith)))
 
-  pub unit-more : (i : ℕ) → i < n → (column_of (unit_at i) 1 (get_or spots i 0) (get_or columns i 0)).unit ≡ unit_at (i + 1)
-  unit-more i h =
+  pub unit_more : (i : ℕ) → i < n → (column_of (unit_at i) 1 (get_or spots i 0) (get_or columns i 0)).unit ≡ unit_at (i + 1)
+  unit_more i h =
       let w = get_or columns i 0 in
       let c = get_or spots i 0 in
-      unit_of_column 1 segments width (moved_to M m i) (moved_to M m (i + 1)) 1 c w counts (inside-counts i (omega arith)) (inside_of 1 1 (omega arith) (omega arith))
-      (inside_of c width (omega (arith, spot_is i h, place-first M m i)) (a.within i h)) (a.small i (omega (arith, a.few)))
-      (ap (λ (k : ℕ). column_changed (moved_to M m i) 1 k w) (spot_is i h) ∙ table_more M m i w (word-says i (omega (arith, a.few))))
+      unit_of_column 1 segments width (moved_to M m i) (moved_to M m (i + 1)) 1 c w counts (inside_counts i (omega arith)) (inside_of 1 1 (omega arith) (omega arith))
+      (inside_of c width (omega (arith, spot_is i h, place_first M m i)) (a.within i h)) (a.small i (omega (arith, a.few)))
+      (ap (λ (k : ℕ). column_changed (moved_to M m i) 1 k w) (spot_is i h) ∙ table_more M m i w (word_says i (omega (arith, a.few))))
 
 pub fresh_is : (s w : ℕ) → (fresh_of 1 s w).unit ≡ blank 1 s w
 unfolding fresh_of

@@ -17,7 +17,7 @@ use Rattle.collision.specs.Meaning.{Bounded}
 use Rattle.collision.specs.Vector.{marks_of}
 use Rattle.delays.specs.Delays.{Marks, place_of, sharing, taken, places, crowded}
 use Rattle.delays.specs.Claims.{Barred, ByRule, OneWay}
-use Rattle.delays.proofs.PlaceLaws.{places-length, placeAt, place_at, place-before, place_after, place-skips, place-apart}
+use Rattle.delays.proofs.PlaceLaws.{places_length, place_at_lem, place_at, place_before, place_after_lem, place_skips, place_apart}
 
 -- The places that are found
 
@@ -26,11 +26,11 @@ module _ (R : Marks) (m n : ℕ) where
   l = places R m n
 
   -- column i + 1
-  taken-barred : (i p : ℕ) → i < n → taken R m (places R m i) p ≡ true → Barred R m l (i + 1) p
+  taken_barred : (i p : ℕ) → i < n → taken R m (places R m i) p ≡ true → Barred R m l (i + 1) p
   unfolding taken sharing
-  taken-barred i p h e =
+  taken_barred i p h e =
       let k = places R m i in
-      let size = places-length R m i in
+      let size = places_length R m i in
       let j = some_elim (length k) (λ j. sharing R (j + 1) (length k + 1) && eqb (place_of k (j + 1) % m) (p % m)) e in
       let s = some_elim 17 (λ s. R s (j.at + 1) && R s (length k + 1)) (and_left (sharing R (j.at + 1) (length k + 1)) _ j.passed) in
       let o : j.at < i = omega (arith, j.inside, size) in
@@ -51,38 +51,38 @@ module _ (R : Marks) (m n : ℕ) where
     next : c - 1 + 1 ≡ c
     next = omega arith
 
-    here : place_of l c ≡ placeAt R m (c - 1)
+    here : place_of l c ≡ place_at_lem R m (c - 1)
     here = ap (place_of l) (sym next) ∙ place_at R m n (c - 1) (omega arith)
 
-    pub rule-after : place_of l (c - 1) < place_of l c
-    rule-after = omega (arith, here, place-before R m n (c - 1) (omega arith), place_after R m (c - 1))
+    pub rule_after : place_of l (c - 1) < place_of l c
+    rule_after = omega (arith, here, place_before R m n (c - 1) (omega arith), place_after_lem R m (c - 1))
 
-    pub rule-first : (p : ℕ) → place_of l (c - 1) < p → p < place_of l c → Barred R m l c p
-    rule-first p low high =
+    pub rule_first_lem : (p : ℕ) → place_of l (c - 1) < p → p < place_of l c → Barred R m l c p
+    rule_first_lem p low high =
         subst (λ (d : ℕ). Barred R m l d p) next
-        (taken-barred (c - 1) p (omega arith)
-        (place-skips R m (c - 1) p (omega (arith, place-before R m n (c - 1) (omega arith))) (omega (arith, here))))
+        (taken_barred (c - 1) p (omega arith)
+        (place_skips R m (c - 1) p (omega (arith, place_before R m n (c - 1) (omega arith))) (omega (arith, here))))
 
 -- where no column has two marks and no segment more than m, the places are by the rule
 pub by_rule : (T : Table) (q m n : ℕ) → Bounded T → crowded (T q) ≡ false → marks_of T q ≤ m → ByRule (T q) m n (places (T q) m n)
 by_rule T q m n b single room = record {
-  count = places-length R m n;
-  after = rule-after R m n;
+  count = places_length R m n;
+  after = rule_after R m n;
   allowed = allowed;
-  first = λ c p h k. rule-first R m n c h k p;
+  first = λ c p h k. rule_first_lem R m n c h k p;
 }
   where
     R : Marks
     R = T q
 
-    at : (c : ℕ) → 1 ≤ c → c ≤ n → place_of (places R m n) c ≡ placeAt R m (c - 1)
+    at : (c : ℕ) → 1 ≤ c → c ≤ n → place_of (places R m n) c ≡ place_at_lem R m (c - 1)
     at c h k = here R m n c h k
 
     allowed : (c : ℕ) → 1 ≤ c → c ≤ n → Barred R m (places R m n) c (place_of (places R m n) c) → ⊥
     allowed c h k x =
         let e : c - 1 + 1 ≡ c = omega arith in
         let d : x.earlier - 1 + 1 ≡ x.earlier = omega (arith, x.least) in
-        place-apart T q m b single room x.segment (x.earlier - 1) (c - 1) (omega (arith, x.order, x.least))
+        place_apart T q m b single room x.segment (x.earlier - 1) (c - 1) (omega (arith, x.order, x.least))
         (ap (R x.segment) d ∙ x.other) (ap (R x.segment) e ∙ x.mark)
         (ap (λ z. z % m) (sym (at x.earlier x.least (omega (arith, x.order)))) ∙ x.remainder ∙ ap (λ z. z % m) (at c h k))
 
@@ -126,9 +126,9 @@ module _ (R : Marks) (m n : ℕ) (l k : List ℕ) (a : ByRule R m n l) (b : ByRu
           equal : (place_of l (suc c) < place_of k (suc c) → ⊥) → (place_of k (suc c) < place_of l (suc c) → ⊥) → place_of l (suc c) ≡ place_of k (suc c)
           equal f g = omega arith
 
-  pub same-places : l ≡ k
-  same-places =
+  pub same_places : l ≡ k
+  same_places =
       ext_get_or 0 l k (a.count ∙ sym b.count) (λ i h. same_place n (omega arith) (suc i) (omega (arith, a.count)))
 
 pub one_way : OneWay
-one_way R m n l k a b = same-places R m n l k a b
+one_way R m n l k a b = same_places R m n l k a b

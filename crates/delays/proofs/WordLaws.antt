@@ -26,7 +26,7 @@ use Rattle.collision.specs.Vector.{meet}
 use Rattle.collision.proofs.RowLaws.{meet_and}
 use Rattle.delays.specs.Delays.{Marks, place_of, sharing, last_of, taken, next_place, places, crowded}
 use Rattle.delays.specs.Inner.{column_marks, two_in, taken_at, first_for, place_for, Placed}
-use Rattle.delays.proofs.PlaceLaws.{places-length, placeAt, place_at, last-is}
+use Rattle.delays.proofs.PlaceLaws.{places_length, place_at_lem, place_at, last_is}
 
 -- Tests
 
@@ -180,9 +180,9 @@ module _ (columns : List ℕ) (m : ℕ) where
   R = column_marks columns
 
   -- two columns share a segment where their words meet
-  words-share : (i k : ℕ) → i < 32 → k < 32 → sharing R (i + 1) (k + 1) ≡ meet (get_or columns i 0) (get_or columns k 0)
+  words_share : (i k : ℕ) → i < 32 → k < 32 → sharing R (i + 1) (k + 1) ≡ meet (get_or columns i 0) (get_or columns k 0)
   unfolding sharing meet
-  words-share i k hi hk =
+  words_share i k hi hk =
       same_test (some_below 17 (λ s. R s (i + 1) && R s (k + 1))) (some_below 16 (λ s. is_set (get_or columns i 0) s && is_set (get_or columns k 0) s))
       (λ e.
       let p = some_elim 17 (λ s. R s (i + 1) && R s (k + 1)) e in
@@ -196,29 +196,29 @@ module _ (columns : List ℕ) (m : ℕ) where
       (and_true (mark_of columns p.at i p.inside hi (and_left (is_set (get_or columns i 0) p.at) _ p.passed))
       (mark_of columns p.at k p.inside hk (and_right (is_set (get_or columns i 0) p.at) _ p.passed))))
 
-  first-is : (spots : List ℕ) (n : ℕ) → Placed R m n spots → last_of (places R m n) + 1 ≡ first_for spots n
+  first_is : (spots : List ℕ) (n : ℕ) → Placed R m n spots → last_of (places R m n) + 1 ≡ first_for spots n
   unfolding first_for places
-  first-is spots zero p = refl
-  first-is spots (suc n) p =
+  first_is spots zero p = refl
+  first_is spots (suc n) p =
       let e : suc n - 1 ≡ n = omega arith in
-      ap (λ k. k + 1) (last-is R m n ∙ sym (place_at R m (suc n) n (omega arith)) ∙ sym (p.each n (omega arith)) ∙ ap (λ k. get_or spots k 0) (sym e))
+      ap (λ k. k + 1) (last_is R m n ∙ sym (place_at R m (suc n) n (omega arith)) ∙ sym (p.each n (omega arith)) ∙ ap (λ k. get_or spots k 0) (sym e))
       ∙ first_some spots (suc n) (λ z. omega (arith, z))
 
   taken_is : (spots : List ℕ) (n : ℕ) → n < 32 → Placed R m n spots → (x : ℕ) → taken R m (places R m n) x ≡ taken_at columns spots n m x
   unfolding taken taken_at
   taken_is spots n h p x =
-      ap (λ k. some_below k (λ i. sharing R (i + 1) (k + 1) && eqb (place_of (places R m n) (i + 1) % m) (x % m))) (places-length R m n)
+      ap (λ k. some_below k (λ i. sharing R (i + 1) (k + 1) && eqb (place_of (places R m n) (i + 1) % m) (x % m))) (places_length R m n)
       ∙ some_same n (λ i. sharing R (i + 1) (n + 1) && eqb (place_of (places R m n) (i + 1) % m) (x % m))
       (λ i. meet (get_or columns i 0) (get_or columns n 0) && eqb (get_or spots i 0 % m) (x % m))
-      (λ i l. ap₂ (λ (a b : Bool). a && b) (words-share i n (omega arith) h) (ap (λ k. eqb (k % m) (x % m)) (sym (p.each i l))))
+      (λ i l. ap₂ (λ (a b : Bool). a && b) (words_share i n (omega arith) h) (ap (λ k. eqb (k % m) (x % m)) (sym (p.each i l))))
 
-  next-is : (spots : List ℕ) (n : ℕ) → n < 32 → Placed R m n spots → next_place R m (places R m n) ≡ place_for columns spots n m
+  next_is : (spots : List ℕ) (n : ℕ) → n < 32 → Placed R m n spots → next_place R m (places R m n) ≡ place_for columns spots n m
   unfolding next_place place_for
-  next-is spots n h p = ap₂ (λ (a : ℕ) (f : ℕ → Bool). least_from m a f) (first-is spots n p) (λ i x. not (taken_is spots n h p x i))
+  next_is spots n h p = ap₂ (λ (a : ℕ) (f : ℕ → Bool). least_from m a f) (first_is spots n p) (λ i x. not (taken_is spots n h p x i))
 
-  place-at-is : (n : ℕ) → placeAt R m n ≡ next_place R m (places R m n)
-  unfolding placeAt
-  place-at-is n = refl
+  place_at_is : (n : ℕ) → place_at_lem R m n ≡ next_place R m (places R m n)
+  unfolding place_at_lem
+  place_at_is n = refl
 
   pub placed_more : (spots : List ℕ) (n place : ℕ) → n < 32 → Placed R m n spots → place ≡ place_for columns spots n m → Placed R m (n + 1) (set spots n place)
   placed_more spots n place h p e = record { size = length-set spots n place ∙ p.size; each = below_more _ n before here }
@@ -230,11 +230,11 @@ module _ (columns : List ℕ) (m : ℕ) where
 
       here : get_or (set spots n place) n 0 ≡ place_of (places R m (n + 1)) (n + 1)
       here =
-          get_or-set_same spots n place 0 (omega (arith, p.size)) ∙ e ∙ sym (next-is spots n h p) ∙ sym (place-at-is n)
+          get_or-set_same spots n place 0 (omega (arith, p.size)) ∙ e ∙ sym (next_is spots n h p) ∙ sym (place_at_is n)
           ∙ sym (place_at R m (n + 1) n (omega arith))
 
-  pub placed-low : (spots : List ℕ) (n place : ℕ) → n < 32 → length spots ≡ 32 → place ≤ 33 * n + 33 → first_for (set spots n place) (n + 1) ≤ 33 * (n + 1) + 1
-  placed-low spots n place h z l =
+  pub placed_low : (spots : List ℕ) (n place : ℕ) → n < 32 → length spots ≡ 32 → place ≤ 33 * n + 33 → first_for (set spots n place) (n + 1) ≤ 33 * (n + 1) + 1
+  placed_low spots n place h z l =
       let e : n + 1 - 1 ≡ n = omega arith in
       let f = first_some (set spots n place) (n + 1) (λ k. omega arith) in
       let g : get_or (set spots n place) (n + 1 - 1) 0 ≡ place = ap (λ k. get_or (set spots n place) k 0) e ∙ get_or-set_same spots n place 0 (omega arith) in

@@ -16,13 +16,13 @@ use Rattle.unit.specs.Calls.{check, tag_answer}
 use Rattle.collision.specs.Vector.{row_word, vector_word}
 use Rattle.collision.specs.Answers.{answering, tags_answer, row_answer}
 use Rattle.collision.proofs.ClashLaws.{clash_collides}
-use Rattle.collision.proofs.VectorLaws.{marked_bounded, row-bit}
+use Rattle.collision.proofs.VectorLaws.{marked_bounded, row_bit}
 use Rattle.diagram.specs.Diagram.{width}
 use Rattle.unit.specs.Lent.{written}
 use Rattle.diagram.specs.Answers.{states_of, states_refusal, states_answer, states_out}
 use Rattle.diagram.proofs.Vectors.{vector_is}
 use Rattle.diagram.proofs.StateLaws.{next-first}
-use Rattle.graphs.proofs.Listing.{states-distinct, states-reached, states-complete}
+use Rattle.graphs.proofs.Listing.{states_distinct, states_reached, states_complete}
 use Rattle.diagram.proofs.ArcLaws.{diagram_right}
 use Rattle.diagram.proofs.ManyLaws.{too_many}
 use Rattle.controller.proofs.Demand2.{granted_exactly}
@@ -40,7 +40,7 @@ matrix_exactly u q r s hq hr = (row_word (marked u) q r, simp (s, hq, hr), means
   where
     means : RowMeans (marked u) q r (row_word (marked u) q r)
     means x y t er eq h e =
-        let b = row-bit (marked u) (marked_bounded u) q r t h in
+        let b = row_bit (marked u) (marked_bounded u) q r t h in
         let c = clash_collides (marked u) x y t e in (
           (λ i. c.1 (rw (er, eq) (b.0 i))),
           (λ k. b.1 (rw (er, eq) at (c.0 k))),
@@ -65,18 +65,18 @@ module _ (u : FunctionUnit) (q : ℕ) (words : List ℕ) (s : sound_of u ≡ tru
   handed_out e = record {
     list = list;
     whole = record {
-      once = states-distinct (diagram_right 1 (width cv) cv) 256;
-      reached = states-reached (diagram_right 1 (width cv) cv) 256;
-      all = states-complete (diagram_right 1 (width cv) cv) 256 (leb-true (length list) 256 e);
+      once = states_distinct (diagram_right 1 (width cv) cv) 256;
+      reached = states_reached (diagram_right 1 (width cv) cv) 256;
+      all = states_complete (diagram_right 1 (width cv) cv) 256 (leb-true (length list) 256 e);
     };
     few = leb-true (length list) 256 e;
     answer = ap (λ a. answering a (length list)) (refusal true e);
     leaves = ap (λ a. written a list words) (refusal true e);
   }
 
-  too-many-states : leb (length (states_of 1 (marked u) q)) 256 ≡ false → TooMany u q words
+  too_many_states : leb (length (states_of 1 (marked u) q)) 256 ≡ false → TooMany u q words
   unfolding states_answer states_out cv list
-  too-many-states e = record {
+  too_many_states e = record {
     many = (too_many 1 (width cv) cv).1 (leb-false (length list) 256 e);
     answer = ap (λ a. answering a (length list)) (refusal false e);
     leaves = ap (λ a. written a list words) (refusal false e);
@@ -84,7 +84,7 @@ module _ (u : FunctionUnit) (q : ℕ) (words : List ℕ) (s : sound_of u ≡ tru
 
 pub diagram_exactly : DiagramExactly
 diagram_exactly u q words s h room =
-    by_test (leb (length (states_of 1 (marked u) q)) 256) (λ e. inl (handed_out u q words s h room e)) (λ e. inr (too-many-states u q words s h room e))
+    by_test (leb (length (states_of 1 (marked u) q)) 256) (λ e. inl (handed_out u q words s h room e)) (λ e. inr (too_many_states u q words s h room e))
 
 pub last_arc : LastArc
 last_arc u q s r =

@@ -15,7 +15,7 @@ use Rattle.collision.specs.Pipeline.{Task, NeverCollides}
 use Rattle.collision.specs.Vector.{collides, upper_of}
 use Rattle.collision.specs.Meaning.{Bounded, IsConstant, IsMostMarks}
 use Rattle.collision.proofs.ClashLaws.{clash_collides, never_forbidden}
-use Rattle.collision.proofs.VectorLaws.{collides-means}
+use Rattle.collision.proofs.VectorLaws.{collides_means}
 use Rattle.diagram.specs.Diagram.{stay, step, Reachable}
 use Rattle.graphs.specs.States.{expand, list_from}
 use Rattle.diagram.specs.States.{has, ManyStates}
@@ -45,7 +45,7 @@ not_exchanged means =
     let a : Task = record { tag = 1; start = 0 } in
     let b : Task = record { tag = 2; start = 1 } in
     let k = (means a b 1 refl refl (omega arith) refl).0 refl in
-    nowhere ((collides-means figure2 figure2_bounded 2 1 1).1 ((clash_collides figure2 a b 1 refl).0 k))
+    nowhere ((collides_means figure2 figure2_bounded 2 1 1).1 ((clash_collides figure2 a b 1 refl).0 k))
 
 -- nor 0010, in which a column that collides is missing
 pub not_missing : RowMeans figure2 2 1 0b0010 → ⊥
@@ -53,7 +53,7 @@ unfolding collides some_below
 not_missing means =
     let a : Task = record { tag = 1; start = 0 } in
     let b : Task = record { tag = 2; start = 4 } in
-    nowhere ((means a b 4 refl refl (omega arith) refl).1 ((clash_collides figure2 a b 4 refl).1 ((collides-means figure2 figure2_bounded 2 1 4).0 refl)))
+    nowhere ((means a b 4 refl refl (omega arith) refl).1 ((clash_collides figure2 a b 4 refl).1 ((collides_means figure2 figure2_bounded 2 1 4).0 refl)))
 
 -- The diagram of Fig. 1
 
@@ -81,16 +81,16 @@ not_many m = omega (arith, (too_many 1 8 0b10110001).0 m)
 -- column 1 is missing; a column of a latency that is permitted
 pub not_without_1 : VectorMeans figure1 1 0b10110000 → ⊥
 unfolding collides some_below
-not_without_1 v = nowhere ((v.columns 1 (omega arith)).1 ((collides-means figure1 figure1_bounded 1 1 1).0 refl))
+not_without_1 v = nowhere ((v.columns 1 (omega arith)).1 ((collides_means figure1 figure1_bounded 1 1 1).0 refl))
 
 pub not_with_2 : VectorMeans figure1 1 0b10110011 → ⊥
 unfolding collides some_below
-not_with_2 v = nowhere ((collides-means figure1 figure1_bounded 1 1 2).1 ((v.columns 2 (omega arith)).0 refl))
+not_with_2 v = nowhere ((collides_means figure1 figure1_bounded 1 1 2).1 ((v.columns 2 (omega arith)).0 refl))
 
 -- 8 is forbidden
 pub not_constant_8 : IsConstant figure1 1 8 → ⊥
 unfolding collides some_below
-not_constant_8 c = c.allowed 1 (omega arith) ((collides-means figure1 figure1_bounded 1 1 8).0 refl)
+not_constant_8 c = c.allowed 1 (omega arith) ((collides_means figure1 figure1_bounded 1 1 8).0 refl)
 
 -- the second segment has three marks
 pub not_two_marks : IsMostMarks figure1 1 2 → ⊥
@@ -100,7 +100,7 @@ not_two_marks m = omega (arith, m.most 2)
 -- repeated, 2 collides after three turns, though the latency is permitted
 pub two_collides : NeverCollides figure1 1 (2 ∷ []) → ⊥
 unfolding collides some_below
-two_collides never = (never_forbidden figure1 1 (2 ∷ [])).0 never 0 3 (omega arith) ((collides-means figure1 figure1_bounded 1 1 6).0 refl)
+two_collides never = (never_forbidden figure1 1 (2 ∷ [])).0 never 0 3 (omega arith) ((collides_means figure1 figure1_bounded 1 1 6).0 refl)
 
 -- Upper
 
@@ -187,4 +187,4 @@ turned_not_best b = nowhere (b.rotation 1 (omega arith))
 -- 1 collides, though its average is lower
 pub close_not_best : Best 1 figure1 1 (1 ∷ []) → ⊥
 unfolding collides some_below
-close_not_best b = (never_forbidden figure1 1 (1 ∷ [])).0 b.never 0 1 (omega arith) ((collides-means figure1 figure1_bounded 1 1 1).0 refl)
+close_not_best b = (never_forbidden figure1 1 (1 ∷ [])).0 b.never 0 1 (omega arith) ((collides_means figure1 figure1_bounded 1 1 1).0 refl)

@@ -20,8 +20,8 @@ use Rattle.collision.specs.Pipeline.{NeverCollides}
 use Rattle.collision.specs.Vector.{collides, vector_word, bound_of, marks_of, upper_of, constant_of}
 use Rattle.collision.specs.Meaning.{Bounded}
 use Rattle.collision.specs.Answers.{answering, vector_answer, bound_answer, marks_answer, upper_answer, constant_answer}
-use Rattle.collision.proofs.VectorLaws.{marked_bounded, collides-means, collides-near, vector-bit, largest_span, largest-means, constant-means, marks-means, upper_forbidden}
-use Rattle.clique.proofs.LargestLaws.{largest-means as largest-clique}
+use Rattle.collision.proofs.VectorLaws.{marked_bounded, collides_means, collides_near, vector_bit, largest_span, largest_means, constant_means, marks_means, upper_forbidden}
+use Rattle.clique.proofs.LargestLaws.{largest_means as largest-clique}
 use Rattle.clique.proofs.SetLaws.{passing, passing_length, passing_each, passing_distinct, passing_listed}
 use Rattle.judge.specs.declared.Verdict.TheVariants as Verdict
 use Rattle.judge.specs.Judge.{good_cycle, meets, cycle_answer, judge_answer}
@@ -40,8 +40,8 @@ every_vector u q s h = (
   vector_word (marked u) q,
   ap (λ a. answering a (vector_word (marked u) q)) (passed u q s h),
   record {
-    columns = vector-bit (marked u) (marked_bounded u) q;
-    largest = rw (largest_span (marked u) q) (largest-means (marked u) (marked_bounded u) q);
+    columns = vector_bit (marked u) (marked_bounded u) q;
+    largest = rw (largest_span (marked u) q) (largest_means (marked u) (marked_bounded u) q);
   },
 )
 
@@ -61,9 +61,9 @@ upper_means T b q = record {
   forbidden = λ i h.
       let t : ℕ = get_or (passing 33 (forbids T q)) i 0 in
       let p : forbids T q t ≡ true = (passing_each 33 (forbids T q) i h).passes in
-      (leb-true 1 t (and_left (leb 1 t) _ p), (collides-means T b q q t).0 (and_right (leb 1 t) _ p));
+      (leb-true 1 t (and_left (leb 1 t) _ p), (collides_means T b q q t).0 (and_right (leb 1 t) _ p));
   all = λ t h f.
-      passing_listed 33 (forbids T q) t (omega (arith, collides-near T b q q t f)) (and_true (le-leb 1 t h) ((collides-means T b q q t).1 f));
+      passing_listed 33 (forbids T q) t (omega (arith, collides_near T b q q t f)) (and_true (le-leb 1 t h) ((collides_means T b q q t).1 f));
   count = upper_forbidden T q ∙ ap (λ n. n + 1) (sym (passing_length 33 (forbids T q) ∙ forbids_count T q));
 }
 
@@ -88,7 +88,7 @@ unfolding constant_answer
 every_constant u q s h = (
   constant_of (marked u) q,
   ap (λ a. answering a (constant_of (marked u) q)) (passed u q s h),
-  constant-means (marked u) (marked_bounded u) q,
+  constant_means (marked u) (marked_bounded u) q,
 )
 
 pub every_most_marks : EveryMostMarks
@@ -96,14 +96,14 @@ unfolding marks_answer
 every_most_marks u q s h = (
   marks_of (marked u) q,
   ap (λ a. answering a (marks_of (marked u) q)) (passed u q s h),
-  marks-means (marked u) (marked_bounded u) q,
+  marks_means (marked u) (marked_bounded u) q,
 )
 
 pub judged_exactly : JudgedExactly
 unfolding judge_answer cycle_answer
 judged_exactly u q cycle s h some few each =
     by_test (meets (marked u) q cycle)
-    (λ m. inr (said true m, λ never. yes-no (sym (yes.1 never) ∙ said true m)))
+    (λ m. inr (said true m, λ never. yes_no (sym (yes.1 never) ∙ said true m)))
     (λ m. inl (said false m, yes.0 (said false m)))
   where
     good : good_cycle cycle ≡ true
@@ -115,5 +115,5 @@ judged_exactly u q cycle s h some few each =
     said : (b : Bool) → meets (marked u) q cycle ≡ b → judge_answer u q cycle ≡ cond b Verdict.No Verdict.Yes
     said b m = rw (passed u q s h, good, m)
 
-    yes-no : Verdict.Yes ≡ Verdict.No → ⊥
-    yes-no e = let z : ◌≡◌ {A = ℕ} 0 1 = cc in omega arith
+    yes_no : Verdict.Yes ≡ Verdict.No → ⊥
+    yes_no e = let z : ◌≡◌ {A = ℕ} 0 1 = cc in omega arith

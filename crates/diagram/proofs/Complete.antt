@@ -35,9 +35,9 @@ next_cut g n cv s t h = pick (dec_le t (longest g n))
     pick (no k) = next_far n cv s (cut g n t) t h (omega arith) (omega arith)
 
 module _ (T : Table) (q g n cv : ℕ) (l : List ℕ) (v : IsVector T q cv n) (c : Cycle g l) (pos : 1 ≤ g) (never : NeverCollides T q l) where
-  stateAt-lt : (j : ℕ) → state_at cv cv l j < 2 ^ n
-  stateAt-lt zero = v.fits
-  stateAt-lt (suc j) = next_lt n cv (state_at cv cv l j) (latency l j) v.fits (stateAt-lt j)
+  state_at_lt : (j : ℕ) → state_at cv cv l j < 2 ^ n
+  state_at_lt zero = v.fits
+  state_at_lt (suc j) = next_lt n cv (state_at cv cv l j) (latency l j) v.fits (state_at_lt j)
 
   permits : (j : ℕ) → Permits g n (state_at cv cv l j) (cut g n (latency l j))
   permits j =
@@ -59,13 +59,13 @@ module _ (T : Table) (q g n cv : ℕ) (l : List ℕ) (v : IsVector T q cv n) (c 
           let long : g ≤ latency l j = c.each (j % length l) (mod-lt j c.nonempty) in
           rw short (clear cv l j (latency l j - 1) (λ i k d e. off i k d e (omega arith)))
 
-  complete-at : (i r : ℕ) → Walk g n cv (state_at cv cv l i) (cuts g n l i r) (state_at cv cv l (i + r))
-  complete-at i zero = rw add-zero stay
-  complete-at i (suc r) =
+  complete_at : (i r : ℕ) → Walk g n cv (state_at cv cv l i) (cuts g n l i r) (state_at cv cv l (i + r))
+  complete_at i zero = rw add-zero stay
+  complete_at i (suc r) =
       let shift : i + suc r ≡ suc i + r = omega arith in
       let rest : Walk g n cv (next cv (state_at cv cv l i) (cut g n (latency l i))) (cuts g n l (suc i) r) (state_at cv cv l (i + suc r)) =
-      rw (next_cut g n cv (state_at cv cv l i) (latency l i) (stateAt-lt i), shift) (complete-at (suc i) r) in
+      rw (next_cut g n cv (state_at cv cv l i) (latency l i) (state_at_lt i), shift) (complete_at (suc i) r) in
       step (permits i) rest
 
   pub complete : (r : ℕ) → Walk g n cv cv (cuts g n l 0 r) (state_at cv cv l r)
-  complete r = rw zero-add at (complete-at 0 r)
+  complete r = rw zero-add at (complete_at 0 r)

@@ -16,7 +16,7 @@ use Rattle.diagram.specs.Work.{state_in, Indexed, enlist_answer, Enlisted}
 use Rattle.diagram.specs.Inner.{Confined, Held, Grown, Ready}
 use Rattle.diagram.proofs.WidthLaws.{width_le, width_lt}
 use Rattle.diagram.proofs.ListLaws.{append_each}
-use Rattle.diagram.proofs.Listing.{expand-extends, expand-each, list_more, list-end, list-extends}
+use Rattle.diagram.proofs.Listing.{expand_extends, expand_each, list_more, list_end, list_extends}
 use Rattle.diagram.proofs.StateLaws.{next_lt}
 use Rattle.diagram.proofs.ManyLaws.{answer_many, answer_all}
 use Rattle.diagram.proofs.FollowLaws.{confined_same, confined_trans, listed_length_lem}
@@ -50,10 +50,10 @@ explore_start w cv n e h held =
     }
 
 module _ {before w : List ℕ} {cv n count at : ℕ} (r : Exploring before w cv n count at) where
-  pub explore-end : count ≤ at → Grown before w (states 256 1 (width cv) cv) count
-  explore-end h =
+  pub explore_end : count ≤ at → Grown before w (states 256 1 (width cv) cv) count
+  explore_end h =
       let all : take count w ≡ states 256 1 n cv =
-      sym (list-end 1 n cv (257 - at) at (take count w) (omega (arith, listed_length_lem w count r.index))) ∙ r.rest in
+      sym (list_end 1 n cv (257 - at) at (take count w) (omega (arith, listed_length_lem w count r.index))) ∙ r.rest in
       record {
         confined = r.confined;
         held = λ l. record { listed = all ∙ ap (λ m. states 256 1 m cv) r.wide; index = r.index };
@@ -61,11 +61,11 @@ module _ {before w : List ℕ} {cv n count at : ℕ} (r : Exploring before w cv 
       }
 
   module _ (more : at < count) where
-    state-small : state_in w at < 2 ^ n
-    state-small = subst (λ s. s < 2 ^ n) (get_or-take count w at 0 more) (r.small at (omega (arith, listed_length_lem w count r.index)))
+    state_small : state_in w at < 2 ^ n
+    state_small = subst (λ s. s < 2 ^ n) (get_or-take count w at 0 more) (r.small at (omega (arith, listed_length_lem w count r.index)))
 
-    pub explore-ready : Ready w count n at
-    explore-ready = record { index = r.index; inside = more; narrow = rw r.wide (width_le cv); small = state-small }
+    pub explore_ready : Ready w count n at
+    explore_ready = record { index = r.index; inside = more; narrow = rw r.wide (width_le cv); small = state_small }
 
     one_on : list_from 1 n cv (256 - at) (suc at) (expand 1 n cv (state_in w at) 1 (longest 1 n) (take count w)) ≡ states 256 1 n cv
     one_on =
@@ -79,7 +79,7 @@ module _ {before w : List ℕ} {cv n count at : ℕ} (r : Exploring before w cv 
       pub explore_more : k ≤ 256 → Exploring before after cv n k (at + 1)
       explore_more h =
           let held = g.held h in
-          let longer = (expand-extends 1 n cv (state_in w at) 1 (longest 1 n) (take count w)).longer in
+          let longer = (expand_extends 1 n cv (state_in w at) 1 (longest 1 n) (take count w)).longer in
           let fuel : 257 - (at + 1) ≡ 256 - at = omega arith in
           record {
             wide = r.wide;
@@ -88,20 +88,20 @@ module _ {before w : List ℕ} {cv n count at : ℕ} (r : Exploring before w cv 
             index = held.index;
             reached = omega (arith, listed_length_lem w count r.index, listed_length_lem after k held.index, ap length held.listed);
             small = subst (Each (λ s. s < 2 ^ n)) (sym held.listed)
-                (expand-each 1 n cv (λ s. s < 2 ^ n) (state_in w at) 1 (longest 1 n) (take count w)
-                (λ u l m b. next_lt n cv (state_in w at) u r.first state-small) r.small);
+                (expand_each 1 n cv (λ s. s < 2 ^ n) (state_in w at) 1 (longest 1 n) (take count w)
+                (λ u l m b. next_lt n cv (state_in w at) u r.first state_small) r.small);
             rest = ap (λ f. list_from 1 n cv f (at + 1) (take k after)) fuel
                 ∙ ap (λ i. list_from 1 n cv (256 - at) i (take k after)) (add-one at)
                 ∙ ap (list_from 1 n cv (256 - at) (suc at)) held.listed ∙ one_on;
           }
 
-      pub explore-over : 256 < k → Grown before after (states 256 1 (width cv) cv) k
-      explore-over h = record {
+      pub explore_over : 256 < k → Grown before after (states 256 1 (width cv) cv) k
+      explore_over h = record {
         confined = confined_trans r.confined g.confined;
         held = λ l. absurd (omega arith);
         over = λ l. subst (λ m. 256 < length m) (one_on ∙ ap (λ m. states 256 1 m cv) r.wide)
             (lt_of_lt_of_le (g.over h)
-            (list-extends 1 n cv (256 - at) (suc at) (expand 1 n cv (state_in w at) 1 (longest 1 n) (take count w))).longer);
+            (list_extends 1 n cv (256 - at) (suc at) (expand 1 n cv (state_in w at) 1 (longest 1 n) (take count w))).longer);
       }
 
 -- What is listed in the end
@@ -128,8 +128,8 @@ module _ (cv : ℕ) {before after : List ℕ} {r : ℕ} (room : 768 ≤ length b
     short = λ l. absurd (omega arith);
   }
 
-  pub enlist-all : r ≤ 256 → Enlisted 1 cv before after r
-  enlist-all h =
+  pub enlist_all : r ≤ 256 → Enlisted 1 cv before after r
+  enlist_all h =
       let held = g.held h in
       let number : length (states 256 1 (width cv) cv) ≡ r = sym (ap length held.listed) ∙ listed_length_lem after r held.index in
       record {

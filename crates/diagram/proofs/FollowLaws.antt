@@ -17,9 +17,9 @@ use Rattle.diagram.specs.Diagram.{next, longest}
 use Rattle.diagram.specs.States.{has, add, arc, expand}
 use Rattle.diagram.specs.Work.{place_in, Indexed}
 use Rattle.diagram.specs.Inner.{Confined, Grown, visited}
-use Rattle.diagram.proofs.IndexLaws.{place-listed, place-some}
+use Rattle.diagram.proofs.IndexLaws.{place_listed, place_some}
 use Rattle.diagram.proofs.ListLaws.{has_listed, listed_has}
-use Rattle.diagram.proofs.Listing.{visit, expand-end, expand-more, expand-extends}
+use Rattle.diagram.proofs.Listing.{visit, expand_end, expand_more, expand_extends}
 use Rattle.diagram.proofs.StateLaws.{arc_test}
 
 -- Words that stay, and words that go on
@@ -46,12 +46,12 @@ module _ (w : List ℕ) (k x r : ℕ) (index : Indexed w k) (told : r ≡ place_
   inside : (i : ℕ) → i < k → i < length (take k w)
   inside i h = omega (arith, listed_length_lem w k index)
 
-  pub include-found : r < k → Grown w w (add x (take k w)) k
-  include-found h =
+  pub include_found : r < k → Grown w w (add x (take k w)) k
+  include_found h =
       let at : place_in w k x < k = omega arith in
       let here : has x (take k w) ≡ true =
       T_true (has x (take k w)) (listed_has x (take k w) (place_in w k x) (inside (place_in w k x) at)
-      (get_or-take k w (place_in w k x) 0 at ∙ place-listed w k index x at)) in
+      (get_or-take k w (place_in w k x) 0 at ∙ place_listed w k index x at)) in
       rw here (grown_same w k index)
 
   module _ (none : k ≤ r) where
@@ -62,7 +62,7 @@ module _ (w : List ℕ) (k x r : ℕ) (index : Indexed w k) (told : r ≡ place_
         missing e =
             let l = has_listed x (take k w) (true_T e) in
             let h : l.index < k = omega (arith, l.inside, listed_length_lem w k index) in
-            omega (arith, place-some w k index x l.index h (sym (get_or-take k w l.index 0 h) ∙ l.found))
+            omega (arith, place_some w k index x l.index h (sym (get_or-take k w l.index 0 h) ∙ l.found))
 
     pub include_full : 255 < k → Grown w w (add x (take k w)) 257
     include_full h = record {
@@ -71,8 +71,8 @@ module _ (w : List ℕ) (k x r : ℕ) (index : Indexed w k) (told : r ≡ place_
       over = λ l. rw (include_new, length-append) (omega (arith, listed_length_lem w k index));
     }
 
-    pub include-more : {after : List ℕ} → Grown w after (take k w ++ (x ∷ [])) (k + 1) → Grown w after (add x (take k w)) (k + 1)
-    include-more g = rw include_new g
+    pub include_more : {after : List ℕ} → Grown w after (take k w ++ (x ∷ [])) (k + 1) → Grown w after (add x (take k w)) (k + 1)
+    include_more g = rw include_new g
 
 -- One arc is visited
 
@@ -102,11 +102,11 @@ follow_start w count n cv s index = record {
 }
 
 module _ {before w : List ℕ} {count found n cv s t : ℕ} (r : Following before w count found n cv s t) where
-  pub follow-end : n + 1 < t → Grown before w (expand 1 n cv s 1 (longest 1 n) (take count before)) found
-  follow-end h =
+  pub follow_end : n + 1 < t → Grown before w (expand 1 n cv s 1 (longest 1 n) (take count before)) found
+  follow_end h =
       let e : n + 2 - t ≡ 0 = omega arith in
       let same : take found w ≡ expand 1 n cv s 1 (longest 1 n) (take count before) =
-      sym (expand-end 1 n cv s t (take found w)) ∙ ap (λ m. expand 1 n cv s t m (take found w)) (sym e) ∙ r.rest in
+      sym (expand_end 1 n cv s t (take found w)) ∙ ap (λ m. expand 1 n cv s t m (take found w)) (sym e) ∙ r.rest in
       record {
         confined = r.confined;
         held = λ l. record { listed = same; index = r.index };
@@ -115,8 +115,8 @@ module _ {before w : List ℕ} {count found n cv s t : ℕ} (r : Following befor
 
   module _ (small : s < 2 ^ n) (more : t ≤ n + 1) {after : List ℕ} {k : ℕ} (g : Grown w after (visited cv s t (take found w)) k) where
     -- the column's test is the diagram's
-    visit-same : visited cv s t (take found w) ≡ visit 1 n cv s t (take found w)
-    visit-same =
+    visit_same : visited cv s t (take found w) ≡ visit 1 n cv s t (take found w)
+    visit_same =
         let e = arc_test n s t small r.least more in
         go (is_set s (t - 1)) ∙ ap (λ b. cond b (add (next cv s t) (take found w)) (take found w)) (sym e)
       where
@@ -127,8 +127,8 @@ module _ {before w : List ℕ} {count found n cv s t : ℕ} (r : Following befor
     one_on : expand 1 n cv s (suc t) (n + 2 - suc t) (visited cv s t (take found w)) ≡ expand 1 n cv s 1 (longest 1 n) (take count before)
     one_on =
         let e : suc (n + 2 - suc t) ≡ n + 2 - t = omega arith in
-        ap (expand 1 n cv s (suc t) (n + 2 - suc t)) visit-same
-        ∙ sym (expand-more 1 n cv s t (n + 2 - suc t) (take found w))
+        ap (expand 1 n cv s (suc t) (n + 2 - suc t)) visit_same
+        ∙ sym (expand_more 1 n cv s t (n + 2 - suc t) (take found w))
         ∙ ap (λ m. expand 1 n cv s t m (take found w)) e ∙ r.rest
 
     pub follow_more : k ≤ 256 → Following before after count k n cv s (t + 1)
@@ -148,7 +148,7 @@ module _ {before w : List ℕ} {count found n cv s t : ℕ} (r : Following befor
       confined = confined_trans r.confined g.confined;
       held = λ l. absurd (omega arith);
       over = λ l. subst (λ m. 256 < length m) one_on
-          (lt_of_lt_of_le (g.over h) (expand-extends 1 n cv s (suc t) (n + 2 - suc t) (visited cv s t (take found w))).longer);
+          (lt_of_lt_of_le (g.over h) (expand_extends 1 n cv s (suc t) (n + 2 - suc t) (visited cv s t (take found w))).longer);
     }
 
 -- Columns that are 1 are passed over
@@ -162,7 +162,7 @@ expand_none n cv s t (suc m) k l small some most set =
     let f : suc t + m ≡ t + suc m = omega arith in
     let off : arc 1 n s t ≡ false = arc_test n s t small some (omega arith) ∙ ap not (set t (omega arith) (omega arith)) in
     ap (λ j. expand 1 n cv s t j l) e
-    ∙ expand-more 1 n cv s t (m + k) l
+    ∙ expand_more 1 n cv s t (m + k) l
     ∙ ap (λ b. expand 1 n cv s (suc t) (m + k) (cond b (add (next cv s t) l) l)) off
     ∙ expand_none n cv s (suc t) m k l small (omega arith) (omega arith) (λ i h o. set i (omega arith) (omega arith))
     ∙ ap (λ j. expand 1 n cv s j k l) f

@@ -16,8 +16,8 @@ abbrev pub inserted : List ℕ → ℕ → ℕ → ℕ → List ℕ
 inserted w k x b = set (set (set w k x) (512 + k) (head_in w b)) (256 + b) (k + 1)
 
 module _ (w : List ℕ) (k x b : ℕ) (room : 768 ≤ length w) (few : k < 256) (low : b < 256) where
-  inserted-size : length (inserted w k x b) ≡ length w
-  inserted-size = simp length-set
+  inserted_size : length (inserted w k x b) ≡ length w
+  inserted_size = simp length-set
 
   elsewhere : (i : ℕ) → (i ≡ k → ⊥) → (i ≡ 512 + k → ⊥) → (i ≡ 256 + b → ⊥) → get_or (inserted w k x b) i 0 ≡ get_or w i 0
   elsewhere i p q r =
@@ -27,41 +27,41 @@ module _ (w : List ℕ) (k x b : ℕ) (room : 768 ≤ length w) (few : k < 256) 
 
   -- The words of the new state
 
-  state-new : state_in (inserted w k x b) k ≡ x
-  state-new =
+  state_new : state_in (inserted w k x b) k ≡ x
+  state_new =
       get_or-set_other (set (set w k x) (512 + k) (head_in w b)) (256 + b) k (k + 1) 0 (λ e. omega arith)
       ∙ get_or-set_other (set w k x) (512 + k) k (head_in w b) 0 (λ e. omega arith)
       ∙ get_or-set_same w k x 0 (omega arith)
 
-  link-new : link_in (inserted w k x b) k ≡ head_in w b
-  link-new =
+  link_new : link_in (inserted w k x b) k ≡ head_in w b
+  link_new =
       get_or-set_other (set (set w k x) (512 + k) (head_in w b)) (256 + b) (512 + k) (k + 1) 0 (λ e. omega arith)
       ∙ get_or-set_same (set w k x) (512 + k) (head_in w b) 0 (simp length-set (omega arith))
 
-  head-new : head_in (inserted w k x b) b ≡ k + 1
-  head-new = get_or-set_same (set (set w k x) (512 + k) (head_in w b)) (256 + b) (k + 1) 0 (simp length-set (omega arith))
+  head_new : head_in (inserted w k x b) b ≡ k + 1
+  head_new = get_or-set_same (set (set w k x) (512 + k) (head_in w b)) (256 + b) (k + 1) 0 (simp length-set (omega arith))
 
   -- The words of the others
 
-  state-old : (i : ℕ) → i < k → state_in (inserted w k x b) i ≡ state_in w i
-  state-old i h = elsewhere i (λ e. omega arith) (λ e. omega arith) (λ e. omega arith)
+  state_old : (i : ℕ) → i < k → state_in (inserted w k x b) i ≡ state_in w i
+  state_old i h = elsewhere i (λ e. omega arith) (λ e. omega arith) (λ e. omega arith)
 
-  link-old : (i : ℕ) → i < k → link_in (inserted w k x b) i ≡ link_in w i
-  link-old i h = elsewhere (512 + i) (λ e. omega arith) (λ e. omega arith) (λ e. omega arith)
+  link_old : (i : ℕ) → i < k → link_in (inserted w k x b) i ≡ link_in w i
+  link_old i h = elsewhere (512 + i) (λ e. omega arith) (λ e. omega arith) (λ e. omega arith)
 
-  head-old : (c : ℕ) → c < 256 → (c ≡ b → ⊥) → head_in (inserted w k x b) c ≡ head_in w c
-  head-old c h ne = elsewhere (256 + c) (λ e. omega arith) (λ e. omega arith) (λ e. ne (omega arith))
+  head_old : (c : ℕ) → c < 256 → (c ≡ b → ⊥) → head_in (inserted w k x b) c ≡ head_in w c
+  head_old c h ne = elsewhere (256 + c) (λ e. omega arith) (λ e. omega arith) (λ e. ne (omega arith))
 
-  inserted-listed : take (k + 1) (inserted w k x b) ≡ take k w ++ (x ∷ [])
-  inserted-listed =
+  inserted_listed : take (k + 1) (inserted w k x b) ≡ take k w ++ (x ∷ [])
+  inserted_listed =
       ap (λ n. take n (inserted w k x b)) (add-one k)
       ∙ take-set-le (suc k) (set (set w k x) (512 + k) (head_in w b)) (256 + b) (k + 1) (omega arith)
       ∙ take-set-le (suc k) (set w k x) (512 + k) (head_in w b) (omega arith)
       ∙ take-suc-set w k x (omega arith)
 
-  inserted-confined : Confined w (inserted w k x b)
-  inserted-confined = record {
-    size = inserted-size;
+  inserted_confined : Confined w (inserted w k x b)
+  inserted_confined = record {
+    size = inserted_size;
     beyond = λ i h. elsewhere i (λ e. omega arith) (λ e. omega arith) (λ e. omega arith);
   }
 
@@ -86,68 +86,68 @@ module _ (w : List ℕ) (k x b : ℕ) (e : b ≡ bucket x) (few : k < 256) (old 
   low : b < 256
   low = rw e (bucket_lt x)
 
-  bucket-old : (i : ℕ) → i < k → bucket (state_in (inserted w k x b) i) ≡ bucket (state_in w i)
-  bucket-old i h = ap bucket (state-old w k x b room few low i h)
+  bucket_old : (i : ℕ) → i < k → bucket (state_in (inserted w k x b) i) ≡ bucket (state_in w i)
+  bucket_old i h = ap bucket (state_old w k x b room few low i h)
 
-  bucket-new : bucket (state_in (inserted w k x b) k) ≡ b
-  bucket-new = ap bucket (state-new w k x b room few low) ∙ sym e
+  bucket_new : bucket (state_in (inserted w k x b) k) ≡ b
+  bucket_new = ap bucket (state_new w k x b room few low) ∙ sym e
 
   head_low : (c : ℕ) → c < 256 → head_in (inserted w k x b) c ≤ k + 1
   head_low c h = go (ℕ_discrete c b)
     where
       go : Dec (c ≡ b) → head_in (inserted w k x b) c ≤ k + 1
-      go (yes s) = rw s (omega (arith, head-new w k x b room few low))
-      go (no s) = omega (arith, head-old w k x b room few low c h s, old.head_low c h)
+      go (yes s) = rw s (omega (arith, head_new w k x b room few low))
+      go (no s) = omega (arith, head_old w k x b room few low c h s, old.head_low c h)
 
-  head_in : (c : ℕ) → c < 256 → 0 < head_in (inserted w k x b) c
+  head_in_lem : (c : ℕ) → c < 256 → 0 < head_in (inserted w k x b) c
       → bucket (state_in (inserted w k x b) (head_in (inserted w k x b) c - 1)) ≡ c
-  head_in c h = go (ℕ_discrete c b)
+  head_in_lem c h = go (ℕ_discrete c b)
     where
       go : Dec (c ≡ b) → 0 < head_in (inserted w k x b) c → bucket (state_in (inserted w k x b) (head_in (inserted w k x b) c - 1)) ≡ c
       go (yes s) p =
-          let at : head_in (inserted w k x b) c - 1 ≡ k = omega (arith, ap (head_in (inserted w k x b)) s, head-new w k x b room few low) in
-          ap (λ i. bucket (state_in (inserted w k x b) i)) at ∙ bucket-new ∙ sym s
+          let at : head_in (inserted w k x b) c - 1 ≡ k = omega (arith, ap (head_in (inserted w k x b)) s, head_new w k x b room few low) in
+          ap (λ i. bucket (state_in (inserted w k x b) i)) at ∙ bucket_new ∙ sym s
       go (no s) p =
-          let at : head_in (inserted w k x b) c ≡ head_in w c = head-old w k x b room few low c h s in
+          let at : head_in (inserted w k x b) c ≡ head_in w c = head_old w k x b room few low c h s in
           ap (λ i. bucket (state_in (inserted w k x b) (i - 1))) at
-          ∙ bucket-old (head_in w c - 1) (omega (arith, old.head_low c h))
-          ∙ old.head_in c h (omega arith)
+          ∙ bucket_old (head_in w c - 1) (omega (arith, old.head_low c h))
+          ∙ old.head_in_lem c h (omega arith)
 
   head_last : (c : ℕ) → c < 256 → (j : ℕ) → head_in (inserted w k x b) c ≤ j → j < k + 1 → bucket (state_in (inserted w k x b) j) ≡ c → ⊥
   head_last c h j l m q = go (recent k j m) l q (ℕ_discrete c b)
     where
       go : {j : ℕ} → Recent k j → head_in (inserted w k x b) c ≤ j → bucket (state_in (inserted w k x b) j) ≡ c → Dec (c ≡ b) → ⊥
-      go newest l q (yes s) = omega (arith, ap (head_in (inserted w k x b)) s, head-new w k x b room few low)
-      go newest l q (no s) = s (sym q ∙ bucket-new)
-      go (older {i = j} o) l q (yes s) = omega (arith, ap (head_in (inserted w k x b)) s, head-new w k x b room few low)
+      go newest l q (yes s) = omega (arith, ap (head_in (inserted w k x b)) s, head_new w k x b room few low)
+      go newest l q (no s) = s (sym q ∙ bucket_new)
+      go (older {i = j} o) l q (yes s) = omega (arith, ap (head_in (inserted w k x b)) s, head_new w k x b room few low)
       go (older {i = j} o) l q (no s) =
-          old.head_last c h j (omega (arith, head-old w k x b room few low c h s)) o (sym (bucket-old j o) ∙ q)
+          old.head_last c h j (omega (arith, head_old w k x b room few low c h s)) o (sym (bucket_old j o) ∙ q)
 
   link_low : (i : ℕ) → i < k + 1 → link_in (inserted w k x b) i ≤ i
   link_low i h = go (recent k i h)
     where
       go : {i : ℕ} → Recent k i → link_in (inserted w k x b) i ≤ i
-      go newest = omega (arith, link-new w k x b room few low, old.head_low b low)
-      go (older {i = i} o) = omega (arith, link-old w k x b room few low i o, old.link_low i o)
+      go newest = omega (arith, link_new w k x b room few low, old.head_low b low)
+      go (older {i = i} o) = omega (arith, link_old w k x b room few low i o, old.link_low i o)
 
-  link_in : (i : ℕ) → i < k + 1 → 0 < link_in (inserted w k x b) i
+  link_in_lem : (i : ℕ) → i < k + 1 → 0 < link_in (inserted w k x b) i
       → bucket (state_in (inserted w k x b) (link_in (inserted w k x b) i - 1)) ≡ bucket (state_in (inserted w k x b) i)
-  link_in i h = go (recent k i h)
+  link_in_lem i h = go (recent k i h)
     where
       go : {i : ℕ} → Recent k i → 0 < link_in (inserted w k x b) i
           → bucket (state_in (inserted w k x b) (link_in (inserted w k x b) i - 1)) ≡ bucket (state_in (inserted w k x b) i)
       go newest p =
-          let at : link_in (inserted w k x b) k ≡ head_in w b = link-new w k x b room few low in
+          let at : link_in (inserted w k x b) k ≡ head_in w b = link_new w k x b room few low in
           ap (λ i. bucket (state_in (inserted w k x b) (i - 1))) at
-          ∙ bucket-old (head_in w b - 1) (omega (arith, old.head_low b low))
-          ∙ old.head_in b low (omega arith)
-          ∙ sym bucket-new
+          ∙ bucket_old (head_in w b - 1) (omega (arith, old.head_low b low))
+          ∙ old.head_in_lem b low (omega arith)
+          ∙ sym bucket_new
       go (older {i = i} o) p =
-          let at : link_in (inserted w k x b) i ≡ link_in w i = link-old w k x b room few low i o in
+          let at : link_in (inserted w k x b) i ≡ link_in w i = link_old w k x b room few low i o in
           ap (λ j. bucket (state_in (inserted w k x b) (j - 1))) at
-          ∙ bucket-old (link_in w i - 1) (omega (arith, old.link_low i o))
+          ∙ bucket_old (link_in w i - 1) (omega (arith, old.link_low i o))
           ∙ old.link_in i o (omega arith)
-          ∙ sym (bucket-old i o)
+          ∙ sym (bucket_old i o)
 
   link_last : (i : ℕ) → i < k + 1 → (j : ℕ) → link_in (inserted w k x b) i ≤ j → j < i
       → bucket (state_in (inserted w k x b) j) ≡ bucket (state_in (inserted w k x b) i) → ⊥
@@ -156,25 +156,25 @@ module _ (w : List ℕ) (k x b : ℕ) (e : b ≡ bucket x) (few : k < 256) (old 
       go : {i : ℕ} → Recent k i → (j : ℕ) → link_in (inserted w k x b) i ≤ j → j < i
           → bucket (state_in (inserted w k x b) j) ≡ bucket (state_in (inserted w k x b) i) → ⊥
       go newest j l m q =
-          old.head_last b low j (omega (arith, link-new w k x b room few low)) m (sym (bucket-old j m) ∙ q ∙ bucket-new)
+          old.head_last b low j (omega (arith, link_new w k x b room few low)) m (sym (bucket_old j m) ∙ q ∙ bucket_new)
       go (older {i = i} o) j l m q =
-          old.link_last i o j (omega (arith, link-old w k x b room few low i o)) m (sym (bucket-old j (omega arith)) ∙ q ∙ bucket-old i o)
+          old.link_last i o j (omega (arith, link_old w k x b room few low i o)) m (sym (bucket_old j (omega arith)) ∙ q ∙ bucket_old i o)
 
-  pub insert-indexed : Indexed (inserted w k x b) (k + 1)
-  insert-indexed = record {
-    room = omega (arith, inserted-size w k x b room few low, room);
+  pub insert_indexed : Indexed (inserted w k x b) (k + 1)
+  insert_indexed = record {
+    room = omega (arith, inserted_size w k x b room few low, room);
     few = omega arith;
     head_low = head_low;
-    head_in = head_in;
+    head_in_lem = head_in_lem;
     head_last = head_last;
     link_low = link_low;
-    link_in = link_in;
+    link_in_lem = link_in_lem;
     link_last = link_last;
   }
 
-  pub insert-grown : Grown w (inserted w k x b) (take k w ++ (x ∷ [])) (k + 1)
-  insert-grown = record {
-    confined = inserted-confined w k x b room few low;
-    held = λ h. record { listed = inserted-listed w k x b room few low; index = insert-indexed };
+  pub insert_grown : Grown w (inserted w k x b) (take k w ++ (x ∷ [])) (k + 1)
+  insert_grown = record {
+    confined = inserted_confined w k x b room few low;
+    held = λ h. record { listed = inserted_listed w k x b room few low; index = insert_indexed };
     over = λ h. absurd (omega arith);
   }

@@ -10,20 +10,20 @@ use borrow.Author.Tests.{le-leb, lt-leb}
 use Rattle.diagram.specs.Diagram.{width}
 use Rattle.diagram.specs.States.{states, ManyStates}
 use Rattle.diagram.specs.Work.{enlist_answer, Enlisted}
-use Rattle.diagram.proofs.Listing.{states-first, states-distinct, states-reached, states-complete}
+use Rattle.diagram.proofs.Listing.{states_first, states_distinct, states_reached, states_complete}
 use Rattle.diagram.proofs.Pigeon.{distinct_fits}
 
 module _ (g n cv : ℕ) where
-  pub listed-many : 256 < length (states 256 g n cv) → ManyStates g n cv
-  listed-many h = record {
+  pub listed_many : 256 < length (states 256 g n cv) → ManyStates g n cv
+  listed_many h = record {
     some = states 256 g n cv;
     many = h;
-    distinct = states-distinct g n cv 256;
-    reached = states-reached g n cv 256;
+    distinct = states_distinct g n cv 256;
+    reached = states_reached g n cv 256;
   }
 
-  pub many-listed : ManyStates g n cv → 256 < length (states 256 g n cv)
-  many-listed r = go (dec_lt 256 (length (states 256 g n cv)))
+  pub many_listed : ManyStates g n cv → 256 < length (states 256 g n cv)
+  many_listed r = go (dec_lt 256 (length (states 256 g n cv)))
     where
       go : Dec (256 < length (states 256 g n cv)) → 256 < length (states 256 g n cv)
       go (yes h) = h
@@ -33,11 +33,11 @@ module _ (g n cv : ℕ) where
           (omega (
             arith,
             distinct_fits r.some (states 256 g n cv) r.distinct
-                (λ i l. states-complete g n cv 256 (omega arith) (get_or r.some i 0) (r.reached i l)),
+                (λ i l. states_complete g n cv 256 (omega arith) (get_or r.some i 0) (r.reached i l)),
           ))
 
   pub too_many : ManyStates g n cv ↔ (256 < length (states 256 g n cv))
-  too_many = (many-listed, listed-many)
+  too_many = (many_listed, listed_many)
 
 -- The answer for enough words
 
@@ -52,13 +52,13 @@ answer_all room g cv h l = rw (le-leb 768 room h, le-leb (length (states 256 g (
 
 pub enlisted_zero : {g cv r : ℕ} {before after : List ℕ} → 768 ≤ length before → Enlisted g cv before after r
     → (r ≡ 0) ↔ ManyStates g (width cv) cv
-enlisted_zero {g} {cv} {r} {before} room e = (there, λ m. e.answer ∙ answer_many (length before) g cv room (many-listed g (width cv) cv m))
+enlisted_zero {g} {cv} {r} {before} room e = (there, λ m. e.answer ∙ answer_many (length before) g cv room (many_listed g (width cv) cv m))
   where
     there : r ≡ 0 → ManyStates g (width cv) cv
-    there z = listed-many g (width cv) cv (go (dec_lt 256 (length (states 256 g (width cv) cv))))
+    there z = listed_many g (width cv) cv (go (dec_lt 256 (length (states 256 g (width cv) cv))))
       where
         go : Dec (256 < length (states 256 g (width cv) cv)) → 256 < length (states 256 g (width cv) cv)
         go (yes h) = h
         go (no h) =
             let all : r ≡ length (states 256 g (width cv) cv) = e.answer ∙ answer_all (length before) g cv room (omega arith) in
-            absurd (omega (arith, (states-first g (width cv) cv 256).inside))
+            absurd (omega (arith, (states_first g (width cv) cv 256).inside))

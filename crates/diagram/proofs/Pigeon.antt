@@ -14,32 +14,32 @@ pick (no e) a b = b
 
 module _ (f : ℕ → ℕ) (m j : ℕ) (below : (i : ℕ) → i < suc j → f i < suc m)
     (apart : (i i' : ℕ) → i < suc j → i' < suc j → f i ≡ f i' → i ≡ i') where
-  pick-below : (i : ℕ) → i < j → (q : Dec (f i ≡ m)) → pick q (f j) (f i) < m
-  pick-below i l (yes e) =
+  pick_below : (i : ℕ) → i < j → (q : Dec (f i ≡ m)) → pick q (f j) (f i) < m
+  pick_below i l (yes e) =
       let b : f j < suc m = below j (omega arith) in
       let ne : (f j ≡ m → ⊥) = λ h. let s : i ≡ j = apart i j (omega arith) (omega arith) (e ∙ sym h) in omega arith in
       omega arith
-  pick-below i l (no e) =
+  pick_below i l (no e) =
       let b : f i < suc m = below i (omega arith) in
       omega arith
 
-  pick-apart : (i i' : ℕ) → i < j → i' < j → (q : Dec (f i ≡ m)) (q' : Dec (f i' ≡ m)) → pick q (f j) (f i) ≡ pick q' (f j) (f i') → i ≡ i'
-  pick-apart i i' l l' (yes e) (yes e') h = apart i i' (omega arith) (omega arith) (e ∙ sym e')
-  pick-apart i i' l l' (yes e) (no e') h =
+  pick_apart : (i i' : ℕ) → i < j → i' < j → (q : Dec (f i ≡ m)) (q' : Dec (f i' ≡ m)) → pick q (f j) (f i) ≡ pick q' (f j) (f i') → i ≡ i'
+  pick_apart i i' l l' (yes e) (yes e') h = apart i i' (omega arith) (omega arith) (e ∙ sym e')
+  pick_apart i i' l l' (yes e) (no e') h =
       let s : j ≡ i' = apart j i' (omega arith) (omega arith) h in
       omega arith
-  pick-apart i i' l l' (no e) (yes e') h =
+  pick_apart i i' l l' (no e) (yes e') h =
       let s : i ≡ j = apart i j (omega arith) (omega arith) h in
       omega arith
-  pick-apart i i' l l' (no e) (no e') h = apart i i' (omega arith) (omega arith) h
+  pick_apart i i' l l' (no e) (no e') h = apart i i' (omega arith) (omega arith) h
 
 pub pigeon : (n k : ℕ) (f : ℕ → ℕ) → ((i : ℕ) → i < k → f i < n) → ((i j : ℕ) → i < k → j < k → f i ≡ f j → i ≡ j) → k ≤ n
 pigeon n zero f below apart = zero-le
 pigeon zero (suc j) f below apart = absurd (not-suc-le-zero (below 0 (omega arith)))
 pigeon (suc m) (suc j) f below apart =
     let r : j ≤ m =
-    pigeon m j (λ i. pick (ℕ_discrete (f i) m) (f j) (f i)) (λ i l. pick-below f m j below apart i l (ℕ_discrete (f i) m))
-    (λ i i' l l' h. pick-apart f m j below apart i i' l l' (ℕ_discrete (f i) m) (ℕ_discrete (f i') m) h) in
+    pigeon m j (λ i. pick (ℕ_discrete (f i) m) (f j) (f i)) (λ i l. pick_below f m j below apart i l (ℕ_discrete (f i) m))
+    (λ i i' l l' h. pick_apart f m j below apart i i' l l' (ℕ_discrete (f i) m) (ℕ_discrete (f i') m) h) in
     omega arith
 
 -- the first place of x in a list, or its length

@@ -18,17 +18,17 @@ along_end zero w k x = refl
 along_end (suc f) w k x = refl
 
 module _ (f : ℕ) (w : List ℕ) (k x at : ℕ) (some : 0 < at) where
-  pub along-here : state_in w (at - 1) ≡ x → along (suc f) w k x at ≡ at - 1
+  pub along_here : state_in w (at - 1) ≡ x → along (suc f) w k x at ≡ at - 1
   unfolding along
-  along-here e = rw (ne_eqb at 0 (λ z. omega arith), eq-eqb (state_in w (at - 1)) x e)
+  along_here e = rw (ne_eqb at 0 (λ z. omega arith), eq-eqb (state_in w (at - 1)) x e)
 
-  pub along-stop : (state_in w (at - 1) ≡ x → ⊥) → at ≤ link_in w (at - 1) → along (suc f) w k x at ≡ k
+  pub along_stop : (state_in w (at - 1) ≡ x → ⊥) → at ≤ link_in w (at - 1) → along (suc f) w k x at ≡ k
   unfolding along
-  along-stop ne h = rw (ne_eqb at 0 (λ z. omega arith), ne_eqb (state_in w (at - 1)) x ne, le-ltb (link_in w (at - 1)) at h)
+  along_stop ne h = rw (ne_eqb at 0 (λ z. omega arith), ne_eqb (state_in w (at - 1)) x ne, le-ltb (link_in w (at - 1)) at h)
 
-  pub along-more : (state_in w (at - 1) ≡ x → ⊥) → link_in w (at - 1) < at → along (suc f) w k x at ≡ along f w k x (link_in w (at - 1))
+  pub along_more : (state_in w (at - 1) ≡ x → ⊥) → link_in w (at - 1) < at → along (suc f) w k x at ≡ along f w k x (link_in w (at - 1))
   unfolding along
-  along-more ne h = rw (ne_eqb at 0 (λ z. omega arith), ne_eqb (state_in w (at - 1)) x ne, lt-ltb (link_in w (at - 1)) at h)
+  along_more ne h = rw (ne_eqb at 0 (λ z. omega arith), ne_eqb (state_in w (at - 1)) x ne, lt-ltb (link_in w (at - 1)) at h)
 
 cond_cong : (b : Bool) (x y z : ℕ) → (b ≡ true → x ≡ y) → cond b x z ≡ cond b y z
 cond_cong true x y z h = h refl
@@ -59,9 +59,9 @@ module _ (w : List ℕ) (k x : ℕ) where
   place_short h = rw (lt-leb 768 (length w) h)
 
   module _ (room : 768 ≤ length w) (b : ℕ) (e : b ≡ bucket x) where
-    pub place-far : 256 < head_in w b → k ≡ place_in w k x
+    pub place_far : 256 < head_in w b → k ≡ place_in w k x
     unfolding place_in
-    place-far l = let far = rw e at l in rw (le-leb 768 (length w) room, lt-leb (head_in w (bucket x)) 256 far)
+    place_far l = let far = rw e at l in rw (le-leb 768 (length w) room, lt-leb (head_in w (bucket x)) 256 far)
 
     pub walk_start : head_in w b ≤ 256 → Walking w k x (head_in w b)
     unfolding place_in
@@ -76,15 +76,15 @@ module _ (w : List ℕ) (k x : ℕ) where
 
   module _ (at : ℕ) (r : Walking w k x at) (some : 0 < at) where
     pub walk_here : state_in w (at - 1) ≡ x → at - 1 ≡ place_in w k x
-    walk_here e = sym (r.same ∙ along-here 256 w k x at some e)
+    walk_here e = sym (r.same ∙ along_here 256 w k x at some e)
 
     module _ (other : state_in w (at - 1) ≡ x → ⊥) where
-      pub walk-stop : at ≤ link_in w (at - 1) → k ≡ place_in w k x
-      walk-stop h = sym (r.same ∙ along-stop 256 w k x at some other h)
+      pub walk_stop : at ≤ link_in w (at - 1) → k ≡ place_in w k x
+      walk_stop h = sym (r.same ∙ along_stop 256 w k x at some other h)
 
       pub walk_more : link_in w (at - 1) < at → Walking w k x (link_in w (at - 1))
       walk_more h = record {
         room = r.room;
         low = omega arith;
-        same = r.same ∙ along-more 256 w k x at some other h ∙ along_enough 256 257 w k x (link_in w (at - 1)) (omega arith) (omega arith);
+        same = r.same ∙ along_more 256 w k x at some other h ∙ along_enough 256 257 w k x (link_in w (at - 1)) (omega arith) (omega arith);
       }

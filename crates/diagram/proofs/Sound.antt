@@ -13,14 +13,14 @@ use Rattle.diagram.specs.Diagram.{Permits, Walk, Reachable}
 use Rattle.diagram.proofs.Vectors.{IsVector}
 use Rattle.diagram.proofs.StateLaws.{bit_next}
 use Rattle.collision.proofs.ClashLaws.{never_forbidden, start_at_mono}
-use Rattle.diagram.proofs.Walks.{Contains, state_at, stateAt-contains, walk-contains, walk-permits, cycle-permits}
+use Rattle.diagram.proofs.Walks.{Contains, state_at, state_at_contains, walk_contains, walk_permits, cycle_permits}
 
 -- the state at the j-th start contains, for each start so far, cv shifted by the time since
 remembers : (cv s : ℕ) (l : List ℕ) → Contains cv s → (i j : ℕ) → i ≤ j → (k d : ℕ) → start_at l i + d ≡ start_at l j + k
     → bit cv d ≡ 1 → bit (state_at cv s l j) k ≡ 1
 remembers cv s l c i j h =
     le_ind (λ (m : ℕ). (k d : ℕ) → start_at l i + d ≡ start_at l m + k → bit cv d ≡ 1 → bit (state_at cv s l m) k ≡ 1)
-    (λ k d e b. let same : d ≡ k = omega arith in stateAt-contains cv s l c i k (rw same at b))
+    (λ k d e b. let same : d ≡ k = omega arith in state_at_contains cv s l c i k (rw same at b))
     (λ m o ih k d e b. omega (arith, bit_next cv (state_at cv s l m) (latency l m) k, ih (latency l m + k) d (omega arith) b))
     j h
 
@@ -45,8 +45,8 @@ permitted_sound T q g n cv s l v c p = (never_forbidden T q l).1 apart
 pub sound : (T : Table) (q g n cv s : ℕ) (l : List ℕ) → IsVector T q cv n → Reachable g n cv s → Walk g n cv s l s → 0 < length l
     → NeverCollides T q l
 sound T q g n cv s l v r w h =
-    permitted_sound T q g n cv s l v (walk-contains r.walk (λ k b. b)) (cycle-permits w h)
+    permitted_sound T q g n cv s l v (walk_contains r.walk (λ k b. b)) (cycle_permits w h)
 
 -- and it keeps the least interval
 pub walk_cycle : {g n cv s e : ℕ} {l : List ℕ} → Walk g n cv s l e → 0 < length l → Cycle g l
-walk_cycle w h = record { nonempty = h; each = λ i k. (walk-permits w i k).spaced }
+walk_cycle w h = record { nonempty = h; each = λ i k. (walk_permits w i k).spaced }

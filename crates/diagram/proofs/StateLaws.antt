@@ -15,7 +15,7 @@ use Rattle.words.proofs.BitLaws.{bit_small, bit_or_lem, bit_shr, bit_above}
 use Rattle.diagram.specs.Diagram.{width, next, Walk, stay, step, Reachable}
 use Rattle.diagram.specs.States.{Each, arc, states}
 use Rattle.diagram.proofs.WidthLaws.{width_lt}
-use Rattle.diagram.proofs.Listing.{states-each}
+use Rattle.diagram.proofs.Listing.{states_each}
 
 -- Where an arc leads
 
@@ -41,7 +41,7 @@ reachable_below g n cv s h r = follow r.walk h
     follow (step {s = a} {t = t} p w) k = follow w (next_lt n cv a t h k)
 
 pub states_below : (cap g n cv : ℕ) → cv < 2 ^ n → Each (λ s. s < 2 ^ n) (states cap g n cv)
-states_below cap g n cv h = states-each g n cv cap (λ s. s < 2 ^ n) h (λ s t k p. next_lt n cv s t h k)
+states_below cap g n cv h = states_each g n cv cap (λ s. s < 2 ^ n) h (λ s t k p. next_lt n cv s t h k)
 
 -- every state of a 32-bit vector's diagram is below 2 ^ n
 pub states_width : (cap g cv : ℕ) → cv < 2 ^ 32 → Each (λ s. s < 2 ^ width cv) (states cap g (width cv) cv)

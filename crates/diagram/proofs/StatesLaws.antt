@@ -24,7 +24,7 @@ use Rattle.diagram.specs.Diagram.{width}
 use Rattle.diagram.specs.States.{states, Listed}
 use Rattle.diagram.specs.Work.{enlist_answer}
 use Rattle.diagram.specs.Answers.{states_of, few_states, states_refusal, states_answer, written, states_out}
-use Rattle.diagram.proofs.Listing.{states-first}
+use Rattle.diagram.proofs.Listing.{states_first}
 
 -- What the vector's answer says
 
@@ -77,7 +77,7 @@ unfolding enlist_answer
 enlist_many room g cv r h e z = by_test (leb (length (states 256 g (width cv) cv)) 256)
     (λ p.
     let f : r ≡ length (states 256 g (width cv) cv) = e ∙ simp (le-leb 768 room h, p) in
-    let l = (states-first g (width cv) cv 256).inside in
+    let l = (states_first g (width cv) cv 256).inside in
     absurd (omega arith))
     (λ p. leb-false _ _ p)
 

@@ -9,7 +9,7 @@ use Rattle.unit.specs.Table.{Table}
 use Rattle.collision.specs.Pipeline.{Forbidden, latency}
 use Rattle.collision.specs.Vector.{vector_word}
 use Rattle.collision.specs.Meaning.{Bounded}
-use Rattle.collision.proofs.VectorLaws.{vector-bit, largest_span, vector_fits, largest-means}
+use Rattle.collision.proofs.VectorLaws.{vector_bit, largest_span, vector_fits, largest_means}
 use Rattle.diagram.specs.Diagram.{longest, width}
 
 -- cv is the collision vector of q, in n bits: bit t - 1 is 1 exactly for a forbidden t, and none above n is forbidden
@@ -31,9 +31,9 @@ cuts g n l i (suc r) = cut g n (latency l i) ∷ cuts g n l (suc i) r
 pub vector_is : (T : Table) → Bounded T → (q : ℕ) → IsVector T q (vector_word T q) (width (vector_word T q))
 vector_is T b q = record {
   bits = λ t h. (
-    (λ e. (vector-bit T b q t h).0 (eq-eqb (bit (vector_word T q) (t - 1)) 1 e)),
-    (λ f. eqb-true (bit (vector_word T q) (t - 1)) 1 ((vector-bit T b q t h).1 f)),
+    (λ e. (vector_bit T b q t h).0 (eq-eqb (bit (vector_word T q) (t - 1)) 1 e)),
+    (λ f. eqb-true (bit (vector_word T q) (t - 1)) 1 ((vector_bit T b q t h).1 f)),
   );
   fits = rw (largest_span T q) (vector_fits T q);
-  bound = λ t h f. rw (largest_span T q) ((largest-means T b q).most t h f);
+  bound = λ t h f. rw (largest_span T q) ((largest_means T b q).most t h f);
 }

@@ -46,24 +46,24 @@ state_at_run cv s l h e (suc j) =
     turn (inr k) = rw (suc-mod j (length l), mod-eq_of_lt k)
 
 module _ {g n cv : ℕ} where
-  pub walk-contains : {s e : ℕ} {l : List ℕ} → Walk g n cv s l e → Contains cv s → Contains cv e
-  walk-contains stay h = h
-  walk-contains (step {s = s} {t = t} p w) h = walk-contains w (next_contains cv s t)
+  pub walk_contains : {s e : ℕ} {l : List ℕ} → Walk g n cv s l e → Contains cv s → Contains cv e
+  walk_contains stay h = h
+  walk_contains (step {s = s} {t = t} p w) h = walk_contains w (next_contains cv s t)
 
-  pub walk-run : {s e : ℕ} {l : List ℕ} → Walk g n cv s l e → run cv s l ≡ e
-  walk-run stay = refl
-  walk-run (step p w) = walk-run w
+  pub walk_run : {s e : ℕ} {l : List ℕ} → Walk g n cv s l e → run cv s l ≡ e
+  walk_run stay = refl
+  walk_run (step p w) = walk_run w
 
-  pub walk-permits : {s e : ℕ} {l : List ℕ} → Walk g n cv s l e → (i : ℕ) → i < length l → Permits g n (run cv s (take i l)) (get_or l i 0)
-  walk-permits stay i h = absurd (not-suc-le-zero h)
-  walk-permits (step p w) zero h = p
-  walk-permits (step p w) (suc i) h = walk-permits w i (le_of_suc-le-suc h)
+  pub walk_permits : {s e : ℕ} {l : List ℕ} → Walk g n cv s l e → (i : ℕ) → i < length l → Permits g n (run cv s (take i l)) (get_or l i 0)
+  walk_permits stay i h = absurd (not-suc-le-zero h)
+  walk_permits (step p w) zero h = p
+  walk_permits (step p w) (suc i) h = walk_permits w i (le_of_suc-le-suc h)
 
   -- a closed walk, repeated without end, goes on being permitted
-  pub cycle-permits : {s : ℕ} {l : List ℕ} → Walk g n cv s l s → 0 < length l → (j : ℕ) → Permits g n (state_at cv s l j) (latency l j)
-  cycle-permits {s} {l} w h j = rw (state_at_run cv s l h (walk-run w) j) (walk-permits w (j % length l) (mod-lt j h))
+  pub cycle_permits : {s : ℕ} {l : List ℕ} → Walk g n cv s l s → 0 < length l → (j : ℕ) → Permits g n (state_at cv s l j) (latency l j)
+  cycle_permits {s} {l} w h j = rw (state_at_run cv s l h (walk_run w) j) (walk_permits w (j % length l) (mod-lt j h))
 
 module _ (cv s : ℕ) (l : List ℕ) where
-  pub stateAt-contains : Contains cv s → (j : ℕ) → Contains cv (state_at cv s l j)
-  stateAt-contains h zero = h
-  stateAt-contains h (suc j) = next_contains cv (state_at cv s l j) (latency l j)
+  pub state_at_contains : Contains cv s → (j : ℕ) → Contains cv (state_at cv s l j)
+  state_at_contains h zero = h
+  state_at_contains h (suc j) = next_contains cv (state_at cv s l j) (latency l j)

@@ -23,7 +23,7 @@ use Rattle.drawing.specs.declared.Drawn.{Drawn}
 use Rattle.drawing.specs.declared.Drawn.TheVariants as Drawn
 use Rattle.drawing.specs.Answers.{drawn, unit_table, table_refusal, table_answer, table_out}
 use Rattle.drawing.specs.Inner.{line_length, lines_text}
-use Rattle.drawing.proofs.TableLaws.{table-length, lines_same, lines_few}
+use Rattle.drawing.proofs.TableLaws.{table_length, lines_same, lines_few}
 
 -- text written from the first byte on
 pub put_end_lem : {n : ℕ} {before text after : List ℕ} {end : ℕ} → Put n before 0 text after end → end ≡ length text
@@ -55,26 +55,26 @@ module _ (u : FunctionUnit) (q : ℕ) (e : tag_answer u q ≡ Done) where
   table_size : (size : ℕ) → size ≡ line_length u.columns * (u.segments + 1) → length (unit_table u q) ≡ size
   table_size size s =
       let d = sound_unit u q e in
-      table-length (marked u) q u.segments u.columns d.segments.1 d.columns.1 ∙ sym s
+      table_length (marked u) q u.segments u.columns d.segments.1 d.columns.1 ∙ sym s
 
   -- every table is short
-  pub table-suffices : length (unit_table u q) ≤ 1700
-  table-suffices =
+  pub table_suffices : length (unit_table u q) ≤ 1700
+  table_suffices =
       let d = sound_unit u q e in
       omega (arith, table_size (line_length u.columns * (u.segments + 1)) refl, lines_few u.segments u.columns d.segments.1 d.columns.1)
 
-  pub table-short : (bytes : List ℕ) (size : ℕ) → size ≡ line_length u.columns * (u.segments + 1) → length bytes < size
+  pub table_short : (bytes : List ℕ) (size : ℕ) → size ≡ line_length u.columns * (u.segments + 1) → length bytes < size
       → TableEnds u q bytes (Drawn.Refused ShortOutput) bytes
   unfolding table_refusal
-  table-short bytes size s h =
+  table_short bytes size s h =
       let n = table_size size s in
       table_ends u q bytes (Refused ShortOutput) (simp (e, lt-leb (length (unit_table u q)) (length bytes) (omega (arith, n))))
 
-  pub table-drawn : {n : ℕ} {after : List ℕ} {end : ℕ} {marks : List ℕ} (bytes : List ℕ) (size : ℕ) → size ≡ line_length u.columns * (u.segments + 1)
+  pub table_drawn : {n : ℕ} {after : List ℕ} {end : ℕ} {marks : List ℕ} (bytes : List ℕ) (size : ℕ) → size ≡ line_length u.columns * (u.segments + 1)
       → size ≤ length bytes → marks ≡ columns_of u q → Put n bytes 0 (lines_text marks u.segments u.columns) after end
       → TableEnds u q bytes (Drawn.Length end) after
   unfolding table_refusal
-  table-drawn bytes size s h m p =
+  table_drawn bytes size s h m p =
       let n = table_size size s in
       let r = table_ends u q bytes Done (simp (e, le-leb (length (unit_table u q)) (length bytes) (omega (arith, n)))) in
       let d = sound_unit u q e in

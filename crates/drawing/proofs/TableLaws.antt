@@ -59,23 +59,23 @@ unfolding head_text
 head_length columns h = line_length_lem (cell []) columns number_cell refl (λ c l. number_length (c + 1) (omega arith))
 
 module _ (T : Table) (q : ℕ) where
-  row-length : (columns s : ℕ) → s < 100 → length (row_text T q columns s) ≡ line_length columns
+  row_length : (columns s : ℕ) → s < 100 → length (row_text T q columns s) ≡ line_length columns
   unfolding row_text
-  row-length columns s h = line_length_lem (cell (decimal s)) columns (λ c. cell (mark_text (T q s (c + 1)))) (number_length s h) (λ c l. mark_length (T q s (c + 1)))
+  row_length columns s h = line_length_lem (cell (decimal s)) columns (λ c. cell (mark_text (T q s (c + 1)))) (number_length s h) (λ c l. mark_length (T q s (c + 1)))
 
   -- the length of a table
-  pub table-length : (segments columns : ℕ) → segments ≤ 16 → columns ≤ 32 → length (table_text T q segments columns) ≡ line_length columns * (segments + 1)
+  pub table_length : (segments columns : ℕ) → segments ≤ 16 → columns ≤ 32 → length (table_text T q segments columns) ≡ line_length columns * (segments + 1)
   unfolding table_text
-  table-length segments columns s16 c32 =
+  table_length segments columns s16 c32 =
       let a = length-append (head_text columns) (join_below segments (λ s. row_text T q columns (s + 1))) in
-      let j = join_length segments (line_length columns) (λ s. row_text T q columns (s + 1)) (λ s l. row-length columns (s + 1) (omega arith)) in
+      let j = join_length segments (line_length columns) (λ s. row_text T q columns (s + 1)) (λ s l. row_length columns (s + 1) (omega arith)) in
       omega (arith, a, j, head_length columns c32, mul-add (line_length columns) segments 1)
 
 -- The words of the columns
 
 module _ (u : FunctionUnit) (q : ℕ) (q1 : 1 ≤ q) (q4 : q ≤ 4) where
-  mark-same : (s c : ℕ) → s < 16 → c < 32 → mark_cell (columns_of u q) s c ≡ cell (mark_text (marked u q (s + 1) (c + 1)))
-  mark-same s c s16 c32 =
+  mark_same : (s c : ℕ) → s < 16 → c < 32 → mark_cell (columns_of u q) s c ≡ cell (mark_text (marked u q (s + 1) (c + 1)))
+  mark_same s c s16 c32 =
       let m = columns_marked u q (s + 1) (c + 1) q1 q4 (omega arith) (omega arith) (omega arith) (omega arith) in
       let es : s + 1 - 1 ≡ s = omega arith in
       let ec : c + 1 - 1 ≡ c = omega arith in
@@ -85,7 +85,7 @@ module _ (u : FunctionUnit) (q : ℕ) (q1 : 1 ≤ q) (q4 : q ≤ 4) where
   unfolding row_text
   row_same columns s c32 s16 =
       ap (λ t. cell (decimal (s + 1)) ++ t ++ ascii "\n")
-      (join_same columns (mark_cell (columns_of u q) s) (λ c. cell (mark_text (marked u q (s + 1) (c + 1)))) (λ c l. mark-same s c s16 (omega arith)))
+      (join_same columns (mark_cell (columns_of u q) s) (λ c. cell (mark_text (marked u q (s + 1) (c + 1)))) (λ c l. mark_same s c s16 (omega arith)))
 
   -- a table is written from the words of the function's columns
   pub lines_same : (segments columns : ℕ) → segments ≤ 16 → columns ≤ 32

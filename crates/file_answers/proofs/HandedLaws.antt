@@ -28,13 +28,13 @@ module _ (read : Answer) (asked : Number) (old : ℕ) where
   number_same : (n : Number) → read_then read asked ≡ n → NumberEnds read asked old (number_told n) (number_value n old)
   number_same n e = (ap number_told (sym e), ap (λ m. number_value m old) (sym e))
 
-  pub number-unread : {why : Refusal} {number : ℕ} → read ≡ Refused why → number ≡ number_in read → NumberEnds read asked old number old
-  number-unread {why} e c =
+  pub number_unread : {why : Refusal} {number : ℕ} → read ≡ Refused why → number ≡ number_in read → NumberEnds read asked old number old
+  number_unread {why} e c =
       let r = number_same (Number.Refused why) (ap (λ a. read_then a asked) e) in
       (c ∙ ap number_in e ∙ r.0, r.1)
 
-  pub number-value : {value : ℕ} → read ≡ Done → asked ≡ Number.Value value → NumberEnds read asked old 0 value
-  number-value {value} d e = number_same (Number.Value value) (ap (λ a. read_then a asked) d ∙ e)
+  pub number_value_lem : {value : ℕ} → read ≡ Done → asked ≡ Number.Value value → NumberEnds read asked old 0 value
+  number_value_lem {value} d e = number_same (Number.Value value) (ap (λ a. read_then a asked) d ∙ e)
 
   pub number_refused : {why : Refusal} {number : ℕ} → read ≡ Done → asked ≡ Number.Refused why → number ≡ number_of why
       → NumberEnds read asked old number old

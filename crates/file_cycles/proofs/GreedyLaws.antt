@@ -32,21 +32,21 @@ abbrev pub CycleEnds : GreedyAnswer → ℕ → ℕ → ℕ → ℕ → ℕ → 
 CycleEnds g count countAfter sum sumAfter r = (r ≡ cycle_told g) × ((countAfter ≡ cycle_count g count) × (sumAfter ≡ cycle_sum g sum))
 
 module _ (read : Answer) (found : GreedyAnswer) (count sum : ℕ) where
-  cycle-same : (g : GreedyAnswer) → read_then read found ≡ g → CycleEnds (read_then read found) count (cycle_count g count) sum (cycle_sum g sum) (cycle_told g)
-  cycle-same g e = (ap cycle_told (sym e), (ap (λ x. cycle_count x count) (sym e), ap (λ x. cycle_sum x sum) (sym e)))
+  cycle_same : (g : GreedyAnswer) → read_then read found ≡ g → CycleEnds (read_then read found) count (cycle_count g count) sum (cycle_sum g sum) (cycle_told g)
+  cycle_same g e = (ap cycle_told (sym e), (ap (λ x. cycle_count x count) (sym e), ap (λ x. cycle_sum x sum) (sym e)))
 
-  pub cycle-unread : {why : Refusal} {r : ℕ} → read ≡ Refused why → r ≡ number_in read → CycleEnds (read_then read found) count count sum sum r
-  cycle-unread {why} e n =
-      let s = cycle-same (GreedyAnswer.Refused why) (ap (λ a. read_then a found) e) in
+  pub cycle_unread : {why : Refusal} {r : ℕ} → read ≡ Refused why → r ≡ number_in read → CycleEnds (read_then read found) count count sum sum r
+  cycle_unread {why} e n =
+      let s = cycle_same (GreedyAnswer.Refused why) (ap (λ a. read_then a found) e) in
       (n ∙ ap number_in e ∙ s.0, s.1)
 
-  pub cycle-found : {n : Counted} → read ≡ Done → found ≡ GreedyAnswer.Cycle n → CycleEnds (read_then read found) count n.count sum n.sum 0
-  cycle-found {n} d e = cycle-same (GreedyAnswer.Cycle n) (ap (λ a. read_then a found) d ∙ e)
+  pub cycle_found : {n : Counted} → read ≡ Done → found ≡ GreedyAnswer.Cycle n → CycleEnds (read_then read found) count n.count sum n.sum 0
+  cycle_found {n} d e = cycle_same (GreedyAnswer.Cycle n) (ap (λ a. read_then a found) d ∙ e)
 
-  pub cycle-refused : {why : Refusal} {r : ℕ} → read ≡ Done → found ≡ GreedyAnswer.Refused why → r ≡ number_of why
+  pub cycle_refused : {why : Refusal} {r : ℕ} → read ≡ Done → found ≡ GreedyAnswer.Refused why → r ≡ number_of why
       → CycleEnds (read_then read found) count count sum sum r
-  cycle-refused {why} d e n =
-      let s = cycle-same (GreedyAnswer.Refused why) (ap (λ a. read_then a found) d ∙ e) in
+  cycle_refused {why} d e n =
+      let s = cycle_same (GreedyAnswer.Refused why) (ap (λ a. read_then a found) d ∙ e) in
       (n ∙ s.0, s.1)
 
 -- a cycle that was counted, by the answer
@@ -102,35 +102,35 @@ module _ (file : List ℕ) (q : ℕ) (work workAfter out outAfter : List ℕ) (b
       (subst (λ (o : Outcome). GreedyPromise o t work workAfter out outAfter found) read h)
 
   -- the file's answer, then what was found
-  greedy-says : read_then back.answer found ≡ counting (cycle_refusal file q (length work) (length out)) (greedy_of 1 (table_in file) (narrow q))
+  greedy_says : read_then back.answer found ≡ counting (cycle_refusal file q (length work) (length out)) (greedy_of 1 (table_in file) (narrow q))
   unfolding cycle_refusal greedy_answer
-  greedy-says =
+  greedy_says =
       ap₂ read_then (ap (λ (o : Outcome). o.answer) read ∙ read_answer_lem file) promised.0
       ∙ read_then_lem (read_answer file) (greedy_refusal (unit_in file) (narrow q) (length work) (length out)) (greedy_of 1 (table_in file) (narrow q))
 
-  greedy-writes : outAfter ≡ written (cycle_refusal file q (length work) (length out)) (greedy_of 1 (table_in file) (narrow q)) out
+  greedy_writes : outAfter ≡ written (cycle_refusal file q (length work) (length out)) (greedy_of 1 (table_in file) (narrow q)) out
   unfolding cycle_refusal greedy_out
-  greedy-writes =
+  greedy_writes =
       promised.1
       ∙ then_kept (λ a. written a (greedy_of 1 (table_in file) (narrow q)) out) (read_answer file) (greedy_refusal (unit_in file) (narrow q) (length work) (length out)) NotSound
       (λ v w. refl) (greedy_unread file (narrow q) (length work) (length out))
 
-  greedy-works : WorkAfter (cycle_refusal file q (length work) (length out)) work workAfter
+  greedy_works : WorkAfter (cycle_refusal file q (length work) (length out)) work workAfter
   unfolding cycle_refusal
-  greedy-works =
+  greedy_works =
       work_then (read_answer file) (greedy_refusal (unit_in file) (narrow q) (length work) (length out)) work workAfter
       (greedy_unread file (narrow q) (length work) (length out)) promised.2
 
-  pub greedy-handed : (count countAfter sum sumAfter r : ℕ) → CycleEnds (read_then back.answer found) count countAfter sum sumAfter r
+  pub greedy_handed : (count countAfter sum sumAfter r : ℕ) → CycleEnds (read_then back.answer found) count countAfter sum sumAfter r
       → GreedyEnds file q work workAfter out outAfter count countAfter sum sumAfter r
-  greedy-handed count countAfter sum sumAfter r ends =
+  greedy_handed count countAfter sum sumAfter r ends =
       let e = counted_ends (cycle_refusal file q (length work) (length out)) (greedy_of 1 (table_in file) (narrow q)) count sum in (
-        ends.0 ∙ ap cycle_told greedy-says ∙ e.0,
+        ends.0 ∙ ap cycle_told greedy_says ∙ e.0,
         (
-          greedy-writes,
+          greedy_writes,
           (
-            ends.1.0 ∙ ap (λ g. cycle_count g count) greedy-says ∙ e.1.0,
-            (ends.1.1 ∙ ap (λ g. cycle_sum g sum) greedy-says ∙ e.1.1, greedy-works),
+            ends.1.0 ∙ ap (λ g. cycle_count g count) greedy_says ∙ e.1.0,
+            (ends.1.1 ∙ ap (λ g. cycle_sum g sum) greedy_says ∙ e.1.1, greedy_works),
           ),
         ),
       )

@@ -37,31 +37,31 @@ use Rattle.file_cycles.specs.Inner.{search_check, plan_front}
 
 -- the ways that the check ends
 module _ (read tagged : Answer) (work out : ℕ) where
-  pub checked-read : {why : Refusal} → read ≡ Refused why → read ≡ search_check read tagged work out
+  pub checked_read : {why : Refusal} → read ≡ Refused why → read ≡ search_check read tagged work out
   unfolding search_check
-  checked-read e = e ∙ sym (then_first read _ e)
+  checked_read e = e ∙ sym (then_first read _ e)
 
-  pub checked-tag : {why : Refusal} → read ≡ Done → tagged ≡ Refused why → tagged ≡ search_check read tagged work out
+  pub checked_tag : {why : Refusal} → read ≡ Done → tagged ≡ Refused why → tagged ≡ search_check read tagged work out
   unfolding search_check
-  checked-tag r e = e ∙ sym (then_second read _ r ∙ then_first tagged _ e)
+  checked_tag r e = e ∙ sym (then_second read _ r ∙ then_first tagged _ e)
 
-  pub checked-work : read ≡ Done → tagged ≡ Done → work < 16000 → Refused ShortWork ≡ search_check read tagged work out
+  pub checked_work : read ≡ Done → tagged ≡ Done → work < 16000 → Refused ShortWork ≡ search_check read tagged work out
   unfolding search_check
-  checked-work r t h = sym (simp (r, t, lt-leb 16000 work h))
+  checked_work r t h = sym (simp (r, t, lt-leb 16000 work h))
 
-  pub checked-out : read ≡ Done → tagged ≡ Done → 16000 ≤ work → out < 256 → Refused ShortOutput ≡ search_check read tagged work out
+  pub checked_out : read ≡ Done → tagged ≡ Done → 16000 ≤ work → out < 256 → Refused ShortOutput ≡ search_check read tagged work out
   unfolding search_check
-  checked-out r t h k = sym (simp (r, t, le-leb 16000 work h, lt-leb 256 out k))
+  checked_out r t h k = sym (simp (r, t, le-leb 16000 work h, lt-leb 256 out k))
 
-  pub checked-done : read ≡ Done → tagged ≡ Done → 16000 ≤ work → 256 ≤ out → Done ≡ search_check read tagged work out
+  pub checked_done : read ≡ Done → tagged ≡ Done → 16000 ≤ work → 256 ≤ out → Done ≡ search_check read tagged work out
   unfolding search_check
-  checked-done r t h k = sym (simp (r, t, le-leb 16000 work h, le-leb 256 out k))
+  checked_done r t h k = sym (simp (r, t, le-leb 16000 work h, le-leb 256 out k))
 
 -- what its answer says of the call: the search's own tests are those that are left
 module _ (read : Answer) (u : FunctionUnit) (q work out : ℕ) where
-  check-refuses : {why : Refusal} → search_check read (tag_answer u q) work out ≡ Refused why → and_then read (greedy_refusal u q work out) ≡ Refused why
+  check_refuses : {why : Refusal} → search_check read (tag_answer u q) work out ≡ Refused why → and_then read (greedy_refusal u q work out) ≡ Refused why
   unfolding search_check greedy_refusal
-  check-refuses {why} e = go read (tag_answer u q) (leb 16000 work) (leb 256 out) e
+  check_refuses {why} e = go read (tag_answer u q) (leb 16000 work) (leb 256 out) e
     where
       go : (r a : Answer) (b d : Bool) → and_then r (and_then a (check b ShortWork (check d ShortOutput Done))) ≡ Refused why
           → and_then r (and_then a (check b ShortWork (check d ShortOutput (few_states 1 (marked u) q)))) ≡ Refused why
@@ -71,9 +71,9 @@ module _ (read : Answer) (u : FunctionUnit) (q work out : ℕ) where
       go Done Done true false h = h
       go Done Done true true h = never_done (sym h)
 
-  check-passes : search_check read (tag_answer u q) work out ≡ Done → and_then read (greedy_refusal u q work out) ≡ search_answer u q work
+  check_passes : search_check read (tag_answer u q) work out ≡ Done → and_then read (greedy_refusal u q work out) ≡ search_answer u q work
   unfolding search_check greedy_refusal search_answer
-  check-passes e = go read (tag_answer u q) (leb 16000 work) (leb 256 out) e
+  check_passes e = go read (tag_answer u q) (leb 16000 work) (leb 256 out) e
     where
       go : (r a : Answer) (b d : Bool) → and_then r (and_then a (check b ShortWork (check d ShortOutput Done))) ≡ Done
           → and_then r (and_then a (check b ShortWork (check d ShortOutput (few_states 1 (marked u) q)))) ≡ and_then a (check b ShortWork (few_states 1 (marked u) q))
@@ -83,9 +83,9 @@ module _ (read : Answer) (u : FunctionUnit) (q work out : ℕ) where
       go Done Done true false h = never_done h
       go Done Done true true h = refl
 
-  check-room : search_check read (tag_answer u q) work out ≡ Done → 256 ≤ out
+  check_room : search_check read (tag_answer u q) work out ≡ Done → 256 ≤ out
   unfolding search_check
-  check-room e = leb-true 256 out (go read (tag_answer u q) (leb 16000 work) (leb 256 out) e)
+  check_room e = leb-true 256 out (go read (tag_answer u q) (leb 16000 work) (leb 256 out) e)
     where
       go : (r a : Answer) (b d : Bool) → and_then r (and_then a (check b ShortWork (check d ShortOutput Done))) ≡ Done → d ≡ true
       go (Refused other) a b d h = never_done h
@@ -126,9 +126,9 @@ PlanEnds a p out outAfter count countAfter sum sumAfter r =
     × ((outAfter ≡ handed a (plan_front p out) out) × ((countAfter ≡ handed a p.count count) × (sumAfter ≡ handed a p.sum sum)))
 
 module _ (answer : Answer) (p : Plan) (out : List ℕ) (count sum : ℕ) where
-  plan-ends : (a : Answer) → answer ≡ a
+  plan_ends : (a : Answer) → answer ≡ a
       → PlanEnds answer p out (handed a (plan_front p out) out) count (handed a p.count count) sum (handed a p.sum sum) (number_in a)
-  plan-ends a e = (
+  plan_ends a e = (
     ap number_in (sym e),
     (
       ap (λ x. handed x (plan_front p out) out) (sym e),
@@ -137,10 +137,10 @@ module _ (answer : Answer) (p : Plan) (out : List ℕ) (count sum : ℕ) where
   )
 
   pub plan_refused : {why : Refusal} {r : ℕ} → answer ≡ Refused why → r ≡ number_in answer → PlanEnds answer p out out count count sum sum r
-  plan_refused {why} e n = (n, (plan-ends (Refused why) e).1)
+  plan_refused {why} e n = (n, (plan_ends (Refused why) e).1)
 
-  pub plan-handed : {outAfter : List ℕ} → answer ≡ Done → outAfter ≡ plan_front p out → PlanEnds answer p out outAfter count p.count sum p.sum 0
-  plan-handed e put = let l = plan-ends Done e in (l.0, (put ∙ l.1.0, l.1.1))
+  pub plan_handed : {outAfter : List ℕ} → answer ≡ Done → outAfter ≡ plan_front p out → PlanEnds answer p out outAfter count p.count sum p.sum 0
+  plan_handed e put = let l = plan_ends Done e in (l.0, (put ∙ l.1.0, l.1.1))
 
 -- The ways that the call ends
 
@@ -151,9 +151,9 @@ module _ (file : List ℕ) (q : ℕ) (work out : List ℕ) (count sum : ℕ) (ba
   checks = tried ∙ ap (λ a. search_check back.answer a (length work) (length out)) looked
 
   -- the unit that was read decides
-  cycle-read : cycle_refusal file q (length work) (length out) ≡ and_then back.answer (greedy_refusal back.unit t (length work) (length out))
+  cycle_read : cycle_refusal file q (length work) (length out) ≡ and_then back.answer (greedy_refusal back.unit t (length work) (length out))
   unfolding cycle_refusal
-  cycle-read =
+  cycle_read =
       ap₂ and_then (read_gives file back read refl)
       (ap₂ (λ (o : Outcome) s. greedy_refusal o.unit s (length work) (length out)) (sym read) (sym tag))
 
@@ -173,23 +173,23 @@ module _ (file : List ℕ) (q : ℕ) (work out : List ℕ) (count sum : ℕ) (ba
       }
 
   -- the check refuses
-  pub search-checked : {why : Refusal} (r : ℕ) → checked ≡ Refused why → r ≡ number_in checked → SearchHanded file q work work out out count count sum sum r
-  search-checked r e n =
+  pub search_checked : {why : Refusal} (r : ℕ) → checked ≡ Refused why → r ≡ number_in checked → SearchHanded file q work work out out count count sum sum r
+  search_checked r e n =
       nothing work checked r
-      (cycle-read ∙ check-refuses back.answer back.unit t (length work) (length out) (sym checks ∙ e) ∙ sym e) e (work_same checked work) n
+      (cycle_read ∙ check_refuses back.answer back.unit t (length work) (length out) (sym checks ∙ e) ∙ sym e) e (work_same checked work) n
 
   module _ (workAfter : List ℕ) (o : Outcome) (d : checked ≡ Done) (p : SearchPromise back.unit t work workAfter o.answer o.unit) where
     -- where the check passes, the search's answer
-    search-says : cycle_refusal file q (length work) (length out) ≡ o.answer
-    search-says = cycle-read ∙ check-passes back.answer back.unit t (length work) (length out) (sym checks ∙ d) ∙ sym p.says
+    search_says : cycle_refusal file q (length work) (length out) ≡ o.answer
+    search_says = cycle_read ∙ check_passes back.answer back.unit t (length work) (length out) (sym checks ∙ d) ∙ sym p.says
 
     -- the cycle of the plan is put to the front of the bytes
     search_found : o.answer ≡ Done → SearchHanded file q work workAfter out (plan_front o.unit.plan out) count o.unit.plan.count sum o.unit.plan.sum 0
     search_found e =
         let f = p.found e in
         let l = planned back.unit t o.unit f in
-        let done : cycle_refusal file q (length work) (length out) ≡ Done = search-says ∙ e in
-        let room = check-room back.answer back.unit t (length work) (length out) (sym checks ∙ d) in
+        let done : cycle_refusal file q (length work) (length out) ≡ Done = search_says ∙ e in
+        let room = check_room back.answer back.unit t (length work) (length out) (sym checks ∙ d) in
         let fits : 0 + length f.cycle ≤ length out = omega (arith, f.few) in
         record {
           cycle = f.cycle;
@@ -199,12 +199,12 @@ module _ (file : List ℕ) (q : ℕ) (work out : List ℕ) (count sum : ℕ) (ba
           bytes = ap (put_in out 0) l.latencies ∙ put_fits out 0 f.cycle fits ∙ placed_front out f.cycle ∙ ap (λ x. written x f.cycle out) (sym done);
           counted = l.count ∙ ap (λ x. handed x (length f.cycle) count) (sym done);
           summed = l.sum ∙ ap (λ x. handed x (total f.cycle) sum) (sym done);
-          words = subst (λ x. WorkAfter x work workAfter) (sym search-says) p.work;
+          words = subst (λ x. WorkAfter x work workAfter) (sym search_says) p.work;
         }
 
-    pub search-ends : (outAfter : List ℕ) (countAfter sumAfter r : ℕ) → PlanEnds o.answer o.unit.plan out outAfter count countAfter sum sumAfter r
+    pub search_ends : (outAfter : List ℕ) (countAfter sumAfter r : ℕ) → PlanEnds o.answer o.unit.plan out outAfter count countAfter sum sumAfter r
         → SearchHanded file q work workAfter out outAfter count countAfter sum sumAfter r
-    search-ends outAfter countAfter sumAfter r h =
+    search_ends outAfter countAfter sumAfter r h =
         let bytes = handed o.answer (plan_front o.unit.plan out) out in
         let counted = handed o.answer o.unit.plan.count count in
         subst (λ (x : ℕ). SearchHanded file q work workAfter out outAfter count countAfter sum sumAfter x) (sym h.0)
@@ -216,4 +216,4 @@ module _ (file : List ℕ) (q : ℕ) (work out : List ℕ) (count sum : ℕ) (ba
             → SearchHanded file q work workAfter out (handed a (plan_front o.unit.plan out) out) count (handed a o.unit.plan.count count)
             sum (handed a o.unit.plan.sum sum) (number_in a)
         go Done e = search_found e
-        go (Refused why) e = nothing workAfter (Refused why) _ (search-says ∙ e) refl (subst (λ x. WorkAfter x work workAfter) e p.work) refl
+        go (Refused why) e = nothing workAfter (Refused why) _ (search_says ∙ e) refl (subst (λ x. WorkAfter x work workAfter) e p.work) refl

@@ -29,7 +29,7 @@ use Rattle.unit_file.specs.declared.Written.TheVariants as Written
 use Rattle.unit_file.specs.File.{file_length, file_of}
 use Rattle.unit_file.specs.Read.{read_of, unit_in}
 use Rattle.unit_file.specs.Write.{unit_file, write_refusal, length_answer, write_answer, file_in_front, write_out}
-use Rattle.unit_file.proofs.FileLaws.{file-length}
+use Rattle.unit_file.proofs.FileLaws.{file_length_lem}
 use Rattle.unit_file.proofs.AcceptedLaws.{accepted}
 use Rattle.unit_file.proofs.AskedLaws.{read_gives}
 use Rattle.file_edits.specs.Edits.{fresh_refusal, fresh_file, edit_refusal}
@@ -42,7 +42,7 @@ written_whole : (u : FunctionUnit) (bytes : List ℕ) → sound_of u ≡ true �
 unfolding write_out write_refusal
 written_whole u bytes sound size =
     let room = le-leb (file_length u.functions u.segments) (length bytes) (omega arith) in
-    let same : length (unit_file u) ≡ length bytes = file-length u.functions u.segments u.columns (marked u) ∙ sym size in
+    let same : length (unit_file u) ≡ length bytes = file_length_lem u.functions u.segments u.columns (marked u) ∙ sym size in
     rw (sound, room) (ap (λ k. unit_file u ++ drop k bytes) same ∙ ap (λ l. unit_file u ++ l) (drop-length bytes) ∙ append-nil (unit_file u))
 
 -- an edit tries its place, and leaves a sound unit of the same counts
@@ -64,20 +64,20 @@ edited_in edit file q s c = edit (unit_in file) (narrow q) (narrow s) (narrow c)
 module _ {edit : FunctionUnit → ℕ → ℕ → ℕ → Outcome} {b : Bool} (d : Edit edit b) (file : List ℕ) (q s c : ℕ) {back made : Outcome} {x y z : ℕ}
     (read : back ≡ read_of file) (tag : x ≡ narrow q) (segment : y ≡ narrow s) (column : z ≡ narrow c)
     (edited : made ≡ edit back.unit x y z) where
-  made-new : made ≡ edited_in edit file q s c
-  made-new = edited ∙ rw (read, tag, segment, column)
+  made_new : made ≡ edited_in edit file q s c
+  made_new = edited ∙ rw (read, tag, segment, column)
 
   spot : spot_answer (unit_in file) (narrow q) (narrow s) (narrow c) ≡ made.answer
-  spot = sym (d.answer (unit_in file) (narrow q) (narrow s) (narrow c)) ∙ ap (λ o. o.answer) (sym made-new)
+  spot = sym (d.answer (unit_in file) (narrow q) (narrow s) (narrow c)) ∙ ap (λ o. o.answer) (sym made_new)
 
   refusal : edit_refusal file q s c ≡ and_then back.answer made.answer
   unfolding edit_refusal
   refusal = ap₂ and_then (read_gives file back read refl) spot
 
   -- the file's length goes by the counts, which the edit leaves
-  edit-whole : back.answer ≡ Done → made.answer ≡ Done → write_out (edited_in edit file q s c).unit file ≡ unit_file (edited_in edit file q s c).unit
+  edit_whole : back.answer ≡ Done → made.answer ≡ Done → write_out (edited_in edit file q s c).unit file ≡ unit_file (edited_in edit file q s c).unit
   unfolding unit_of
-  edit-whole whole e =
+  edit_whole whole e =
       let a = accepted file (read_gives file back read whole) in
       let words = subst Words (ap (λ o. o.unit) (sym a.unit)) a.words in
       let m = d.accepted (unit_in file) (narrow q) (narrow s) (narrow c) words (spot ∙ e) in
@@ -87,11 +87,11 @@ module _ {edit : FunctionUnit → ℕ → ℕ → ℕ → Outcome} {b : Bool} (d
       (ap (λ o. o.unit.functions) (sym a.unit) ∙ sym m.functions)
       (ap (λ o. o.unit.segments) (sym a.unit) ∙ sym m.segments))
 
-  pub edit-ends : {number : ℕ} {out : List ℕ} → Ends (and_then back.answer made.answer) (write_out made.unit file) file number out
+  pub edit_ends : {number : ℕ} {out : List ℕ} → Ends (and_then back.answer made.answer) (write_out made.unit file) file number out
       → Ends (edit_refusal file q s c) (unit_file (edited_in edit file q s c).unit) file number out
-  edit-ends ends =
+  edit_ends ends =
       ends_same (write_out made.unit file) (unit_file (edited_in edit file q s c).unit) file refusal
-      (λ e. let b = then_both back.answer made.answer e in ap (λ o. write_out o.unit file) made-new ∙ edit-whole b.0 b.1) ends
+      (λ e. let b = then_both back.answer made.answer e in ap (λ o. write_out o.unit file) made_new ∙ edit_whole b.0 b.1) ends
 
 -- A fresh unit
 
@@ -121,27 +121,27 @@ FreshEnds f s c bytes old number out last =
 module _ (f s c : ℕ) (bytes : List ℕ) (old : ℕ) {made : Outcome} {written : Written} {out : List ℕ} {x y z : ℕ} (functions : x ≡ narrow f)
     (segments : y ≡ narrow s) (columns : z ≡ narrow c) (fresh : made ≡ fresh_of x y z) (answered : written ≡ write_answer made.unit (length bytes))
     (left : out ≡ write_out made.unit bytes) where
-  made-blank : made.unit ≡ blank (narrow f) (narrow s) (narrow c)
+  made_blank : made.unit ≡ blank (narrow f) (narrow s) (narrow c)
   unfolding fresh_of
-  made-blank = ap (λ o. o.unit) fresh ∙ rw (functions, segments, columns)
+  made_blank = ap (λ o. o.unit) fresh ∙ rw (functions, segments, columns)
 
-  blank-refusal : write_refusal (blank (narrow f) (narrow s) (narrow c)) (length bytes) ≡ fresh_refusal f s c (length bytes)
+  blank_refusal : write_refusal (blank (narrow f) (narrow s) (narrow c)) (length bytes) ≡ fresh_refusal f s c (length bytes)
   unfolding write_refusal fresh_refusal
-  blank-refusal =
+  blank_refusal =
       ap (λ t. check t NotSound (check (leb (file_length (narrow f) (narrow s)) (length bytes)) ShortOutput Done)) (blank_sound (narrow f) (narrow s) (narrow c))
 
   says : written ≡ length_answer (fresh_refusal f s c (length bytes)) (file_length (narrow f) (narrow s))
   unfolding write_answer
-  says = answered ∙ ap (λ u. write_answer u (length bytes)) made-blank ∙ ap (λ a. length_answer a (file_length (narrow f) (narrow s))) blank-refusal
+  says = answered ∙ ap (λ u. write_answer u (length bytes)) made_blank ∙ ap (λ a. length_answer a (file_length (narrow f) (narrow s))) blank_refusal
 
   leaves : out ≡ file_in_front (fresh_refusal f s c (length bytes)) (fresh_file f s c) bytes
   unfolding write_out
   leaves =
-      left ∙ ap (λ u. write_out u bytes) made-blank
-      ∙ ap₂ (λ a T. file_in_front a (file_of (narrow f) (narrow s) (narrow c) T) bytes) blank-refusal (blank_table (narrow f) (narrow s) (narrow c))
+      left ∙ ap (λ u. write_out u bytes) made_blank
+      ∙ ap₂ (λ a T. file_in_front a (file_of (narrow f) (narrow s) (narrow c) T) bytes) blank_refusal (blank_table (narrow f) (narrow s) (narrow c))
 
-  pub fresh-written : {n : ℕ} → written ≡ Written.Length n → FreshEnds f s c bytes old 0 out n
-  fresh-written e = let r = length_given (fresh_refusal f s c (length bytes)) (file_length (narrow f) (narrow s)) _ old (sym says ∙ e) in (r.0, (leaves, r.1))
+  pub fresh_written : {n : ℕ} → written ≡ Written.Length n → FreshEnds f s c bytes old 0 out n
+  fresh_written e = let r = length_given (fresh_refusal f s c (length bytes)) (file_length (narrow f) (narrow s)) _ old (sym says ∙ e) in (r.0, (leaves, r.1))
 
-  pub fresh-refused : {why : Refusal} {number : ℕ} → written ≡ Written.Refused why → number ≡ number_of why → FreshEnds f s c bytes old number out old
-  fresh-refused e h = let r = length_refused (fresh_refusal f s c (length bytes)) (file_length (narrow f) (narrow s)) old (sym says ∙ e) in (h ∙ r.0, (leaves, r.1))
+  pub fresh_refused : {why : Refusal} {number : ℕ} → written ≡ Written.Refused why → number ≡ number_of why → FreshEnds f s c bytes old number out old
+  fresh_refused e h = let r = length_refused (fresh_refusal f s c (length bytes)) (file_length (narrow f) (narrow s)) old (sym says ∙ e) in (h ∙ r.0, (leaves, r.1))

@@ -73,20 +73,20 @@ start_words Done Done u words t e = ap (check (leb 4 (length words)) ShortOutput
 
 module _ (file : List ℕ) (q : ℕ) (words : List ℕ) (back : Outcome) (t : Tag) (tagged tried : Answer) (read : back ≡ read_of file) (tag : t.0 ≡ narrow q)
     (looked : tagged ≡ tag_answer back.unit t.0) (both : tried ≡ and_then back.answer tagged) where
-  start-tries : step_refusal tried back.unit words (Start t) ≡ start_refusal file q words
+  start_tries : step_refusal tried back.unit words (Start t) ≡ start_refusal file q words
   unfolding start_refusal
-  start-tries =
+  start_tries =
       ap (λ a. step_refusal a back.unit words (Start t)) both ∙ start_words back.answer tagged back.unit words t looked
       ∙ ap (λ a. and_then back.answer (and_then a (check (leb 4 (length words)) ShortOutput (check (granted (bank_in words) t.0) NotGranted Done)))) looked
       ∙ ap₂ (λ (o : Outcome) s. and_then o.answer (and_then (tag_answer o.unit s) (check (leb 4 (length words)) ShortOutput (check (granted (bank_in words) s) NotGranted Done)))) read tag
       ∙ ap (λ a. and_then a (and_then (tag_answer (unit_in file) (narrow q)) (check (leb 4 (length words)) ShortOutput (check (granted (bank_in words) (narrow q)) NotGranted Done))))
       (read_answer_lem file)
 
-  pub start-ends : (after : List ℕ) (r : ℕ) → StepEnds tried back.unit (Start t) words after r → StartEnds file q words after r
+  pub start_ends : (after : List ℕ) (r : ℕ) → StepEnds tried back.unit (Start t) words after r → StartEnds file q words after r
   unfolding step_words moved
-  start-ends after r h = (
-    h.0 ∙ ap number_in start-tries,
+  start_ends after r h = (
+    h.0 ∙ ap number_in start_tries,
     h.1
-        ∙ ap (λ x. handed x (bank_over (started back.unit t.0 (bank_in words)) words) words) start-tries
+        ∙ ap (λ x. handed x (bank_over (started back.unit t.0 (bank_in words)) words) words) start_tries
         ∙ ap₂ (λ (o : Outcome) s. handed (start_refusal file q words) (bank_over (started o.unit s (bank_in words)) words) words) read tag,
   )

@@ -50,26 +50,26 @@ abbrev pub StepEnds : Answer → FunctionUnit → Event → List ℕ → List �
 StepEnds tried u event words after r = (r ≡ number_in (step_refusal tried u words event)) × (after ≡ step_words tried u event words)
 
 module _ (tried : Answer) (u : FunctionUnit) (event : Event) (words : List ℕ) where
-  step-ends : (a : Answer) → step_refusal tried u words event ≡ a
+  step_ends : (a : Answer) → step_refusal tried u words event ≡ a
       → StepEnds tried u event words (handed a (bank_over (moved u (bank_in words) event) words) words) (number_in a)
   unfolding step_words
-  step-ends a e = (ap number_in (sym e), ap (λ x. handed x (bank_over (moved u (bank_in words) event) words) words) (sym e))
+  step_ends a e = (ap number_in (sym e), ap (λ x. handed x (bank_over (moved u (bank_in words) event) words) words) (sym e))
 
-  pub step-untried : {why : Refusal} {r : ℕ} → tried ≡ Refused why → r ≡ number_in tried → StepEnds tried u event words words r
+  pub step_untried : {why : Refusal} {r : ℕ} → tried ≡ Refused why → r ≡ number_in tried → StepEnds tried u event words words r
   unfolding step_refusal
-  step-untried {why} e n = let s = step-ends (Refused why) (then_first tried _ e) in (n ∙ ap number_in e ∙ s.0, s.1)
+  step_untried {why} e n = let s = step_ends (Refused why) (then_first tried _ e) in (n ∙ ap number_in e ∙ s.0, s.1)
 
-  pub step-short : tried ≡ Done → length words < 4 → StepEnds tried u event words words (number_of ShortOutput)
+  pub step_short : tried ≡ Done → length words < 4 → StepEnds tried u event words words (number_of ShortOutput)
   unfolding step_refusal
-  step-short d h = step-ends (Refused ShortOutput) (then_second tried _ d ∙ rw (lt-leb 4 (length words) h))
+  step_short d h = step_ends (Refused ShortOutput) (then_second tried _ d ∙ rw (lt-leb 4 (length words) h))
 
-  pub step-made : (loaded : Bank) (stepped : Stepped) (after : List ℕ) (r : ℕ) → tried ≡ Done → 4 ≤ length words → loaded ≡ bank_in words
+  pub step_made : (loaded : Bank) (stepped : Stepped) (after : List ℕ) (r : ℕ) → tried ≡ Done → 4 ≤ length words → loaded ≡ bank_in words
       → stepped ≡ step_of u loaded event → after ≡ bank_over stepped.bank words → r ≡ number_in stepped.answer
       → StepEnds tried u event words after r
   unfolding step_refusal step_of
-  step-made loaded stepped after r d h l s k n =
+  step_made loaded stepped after r d h l s k n =
       let same : stepped ≡ step_of u (bank_in words) event = s ∙ ap (λ b. step_of u b event) l in
-      let e = step-ends (event_answer u (bank_in words) event) (then_second tried _ d ∙ rw (le-leb 4 (length words) h)) in (
+      let e = step_ends (event_answer u (bank_in words) event) (then_second tried _ d ∙ rw (le-leb 4 (length words) h)) in (
         n ∙ ap (λ (x : Stepped). number_in x.answer) same ∙ e.0,
         k ∙ ap (λ (x : Stepped). bank_over x.bank words) same ∙ bank_handed (event_answer u (bank_in words) event) (moved u (bank_in words) event) words h ∙ e.1,
       )

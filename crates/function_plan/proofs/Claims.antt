@@ -16,7 +16,7 @@ use Rattle.unit.specs.Unit.{inside, marked, sound_of}
 use Rattle.unit.specs.Calls.{tag_answer}
 use Rattle.unit.proofs.Laws.{never_done, tag_accepted, tag_range}
 use Rattle.collision.specs.Vector.{vector_word}
-use Rattle.collision.proofs.VectorLaws.{marked_bounded, vector-lt}
+use Rattle.collision.proofs.VectorLaws.{marked_bounded, vector_lt}
 use Rattle.diagram.specs.Diagram.{longest, Walk}
 use Rattle.diagram.specs.Diagram.Walk.{stay, step}
 use Rattle.diagram.proofs.WidthLaws.{width_31}
@@ -31,9 +31,9 @@ use Rattle.function_plan.proofs.OwnLaws.{handed_answer}
 -- 8
 
 module _ (u : FunctionUnit) (q : ℕ) (t : tag_answer u q ≡ Done) where
-  own-not : (u.plan.tag ≡ q → ⊥) → own_answer u q ≡ Refused NoPlan
+  own_not : (u.plan.tag ≡ q → ⊥) → own_answer u q ≡ Refused NoPlan
   unfolding own_answer read_answer
-  own-not n = go (eqb u.plan.tag 0) refl
+  own_not n = go (eqb u.plan.tag 0) refl
     where
       go : (b : Bool) → eqb u.plan.tag 0 ≡ b → own_answer u q ≡ Refused NoPlan
       go true e = simp (t, (tag_accepted u q t).sound, e)
@@ -46,13 +46,13 @@ module _ (u : FunctionUnit) (q : ℕ) (t : tag_answer u q ≡ Done) where
 
 pub own_exactly : OwnExactly
 own_exactly u q t = record {
-  eight = ((λ e own. never_done (sym e ∙ own_is u q t own)), own-not u q t);
+  eight = ((λ e own. never_done (sym e ∙ own_is u q t own)), own_not u q t);
   done = ((λ e. go (eqb u.plan.tag q) refl e), own_is u q t);
 }
   where
     go : (b : Bool) → eqb u.plan.tag q ≡ b → own_answer u q ≡ Done → u.plan.tag ≡ q
     go true e d = eqb-true u.plan.tag q e
-    go false e d = never_done (sym (own-not u q t (eqb-false u.plan.tag q e)) ∙ d)
+    go false e d = never_done (sym (own_not u q t (eqb-false u.plan.tag q e)) ∙ d)
 
 pub tag_taken : (u : FunctionUnit) (q : ℕ) → sound_of u ≡ true → inside q u.functions ≡ true → tag_answer u q ≡ Done
 unfolding tag_answer
@@ -61,13 +61,13 @@ tag_taken u q sound member = rw (sound, member)
 -- What is handed out
 
 module _ (u : FunctionUnit) (q : ℕ) (h : Handed) (e : h ≡ own_plan u q) where
-  pub own-says : h.answer ≡ own_answer u q
+  pub own_says : h.answer ≡ own_answer u q
   unfolding own_plan
-  own-says = ap (λ (x : Handed). x.answer) e ∙ handed_answer (own_answer u q) u.plan
+  own_says = ap (λ (x : Handed). x.answer) e ∙ handed_answer (own_answer u q) u.plan
 
-  pub own-hands : h.answer ≡ Done → h.plan ≡ u.plan
+  pub own_hands : h.answer ≡ Done → h.plan ≡ u.plan
   unfolding own_plan
-  own-hands d = ap (λ (x : Handed). x.plan) e ∙ ap (λ (a : Answer). (handing a u.plan).plan) (sym own-says ∙ d)
+  own_hands d = ap (λ (x : Handed). x.plan) e ∙ ap (λ (a : Answer). (handing a u.plan).plan) (sym own_says ∙ d)
 
 -- A best cycle is one that a record holds
 
@@ -81,7 +81,7 @@ best_recordable u q cycle few b = record {
   some = b.latencies.nonempty;
   few = few;
   least = b.latencies.each;
-  most = λ i h. omega (arith, walk_most b.diagram.closed i h, width_31 (vector_word (marked u) q) (vector-lt (marked u) (marked_bounded u) q));
+  most = λ i h. omega (arith, walk_most b.diagram.closed i h, width_31 (vector_word (marked u) q) (vector_lt (marked u) (marked_bounded u) q));
 }
 
 -- the plan of a cycle holds it

@@ -29,22 +29,22 @@ module _ (u : FunctionUnit) (h : Handed) (e : h ≡ read_of u) where
   unfolding read_of
   read_plan d = e ∙ ap (λ (a : Answer). handing a u.plan) (sym read_says ∙ d)
 
-  pub held-refused : (q : ℕ) (why : Refusal) → h.answer ≡ Refused why → nothing why ≡ held_plan u q
-  held-refused q why d = sym (ap (λ (a : Answer). handing (and_then a (check (eqb u.plan.tag q) NoPlan Done)) u.plan) (sym read_says ∙ d))
+  pub held_refused : (q : ℕ) (why : Refusal) → h.answer ≡ Refused why → nothing why ≡ held_plan u q
+  held_refused q why d = sym (ap (λ (a : Answer). handing (and_then a (check (eqb u.plan.tag q) NoPlan Done)) u.plan) (sym read_says ∙ d))
 
   -- a read that hands out a plan: it is the function's, or another's
   module _ (d : h.answer ≡ Done) where
-    handed-tag : h.plan.tag ≡ u.plan.tag
-    handed-tag = ap (λ (x : Handed). x.plan.tag) (read_plan d)
+    handed_tag : h.plan.tag ≡ u.plan.tag
+    handed_tag = ap (λ (x : Handed). x.plan.tag) (read_plan d)
 
     test : (q : ℕ) → held_plan u q ≡ handing (check (eqb u.plan.tag q) NoPlan Done) u.plan
     test q = ap (λ (a : Answer). handing (and_then a (check (eqb u.plan.tag q) NoPlan Done)) u.plan) (sym read_says ∙ d)
 
-    pub held-other : (q : ℕ) → (h.plan.tag ≡ q → ⊥) → nothing NoPlan ≡ held_plan u q
-    held-other q n = sym (test q ∙ ap (λ b. handing (check b NoPlan Done) u.plan) (ne_eqb u.plan.tag q (λ z. n (handed-tag ∙ z))))
+    pub held_other : (q : ℕ) → (h.plan.tag ≡ q → ⊥) → nothing NoPlan ≡ held_plan u q
+    held_other q n = sym (test q ∙ ap (λ b. handing (check b NoPlan Done) u.plan) (ne_eqb u.plan.tag q (λ z. n (handed_tag ∙ z))))
 
-    pub held-own : (q : ℕ) → h.plan.tag ≡ q → h ≡ held_plan u q
-    held-own q z = read_plan d ∙ sym (test q ∙ ap (λ b. handing (check b NoPlan Done) u.plan) (eq-eqb u.plan.tag q (sym handed-tag ∙ z)))
+    pub held_own : (q : ℕ) → h.plan.tag ≡ q → h ≡ held_plan u q
+    held_own q z = read_plan d ∙ sym (test q ∙ ap (λ b. handing (check b NoPlan Done) u.plan) (eq-eqb u.plan.tag q (sym handed_tag ∙ z)))
 
 -- by what the tag is
 pub tag_refused : (u : FunctionUnit) (q : ℕ) (why : Refusal) → tag_answer u q ≡ Refused why → nothing why ≡ own_plan u q

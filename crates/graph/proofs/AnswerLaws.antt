@@ -24,7 +24,7 @@ use Rattle.collision.specs.Answers.{answering}
 use Rattle.collision.proofs.VectorLaws.{row_lt}
 use Rattle.diagram.specs.Diagram.{width}
 use Rattle.diagram.specs.Answers.{states_of, few_states, states_refusal, states_answer, written, states_out}
-use Rattle.diagram.proofs.Listing.{list-extends}
+use Rattle.diagram.proofs.Listing.{list_extends}
 use Rattle.diagram.proofs.StateLaws.{states_width}
 use Rattle.drawing.specs.declared.Drawn.{Drawn}
 use Rattle.drawing.specs.declared.Drawn.TheVariants as Drawn
@@ -58,43 +58,43 @@ pub handed_part : {u : FunctionUnit} {q count : ℕ} {list : List ℕ} → Hande
 handed_part h = h.counts ∙ ap length (sym h.front)
 
 module _ (u : FunctionUnit) (q : ℕ) (e : tag_answer u q ≡ Done) where
-  pub dot-short : (bytes : List ℕ) → length bytes < dot_area → DotEnds u q bytes (Drawn.Refused ShortOutput) bytes
+  pub dot_short : (bytes : List ℕ) → length bytes < dot_area → DotEnds u q bytes (Drawn.Refused ShortOutput) bytes
   unfolding dot_refusal
-  dot-short bytes h = dot_ends u q bytes (Refused ShortOutput) (simp (e, lt-leb dot_area (length bytes) h))
+  dot_short bytes h = dot_ends u q bytes (Refused ShortOutput) (simp (e, lt-leb dot_area (length bytes) h))
 
-  dot-passes : (bytes : List ℕ) → dot_area ≤ length bytes → dot_refusal u q (length bytes) ≡ few_states 1 (marked u) q
+  dot_passes : (bytes : List ℕ) → dot_area ≤ length bytes → dot_refusal u q (length bytes) ≡ few_states 1 (marked u) q
   unfolding dot_refusal
-  dot-passes bytes h = simp (e, le-leb dot_area (length bytes) h)
+  dot_passes bytes h = simp (e, le-leb dot_area (length bytes) h)
 
   -- what was asked with room for 256 states
-  states-passes : states_refusal u q 256 ≡ few_states 1 (marked u) q
+  states_passes : states_refusal u q 256 ≡ few_states 1 (marked u) q
   unfolding states_refusal
-  states-passes = simp e
+  states_passes = simp e
 
   asked : {answer : Number} → answer ≡ states_answer u q 256 → answer ≡ answering (few_states 1 (marked u) q) (length (states_of 1 (marked u) q))
   unfolding states_answer
-  asked a = a ∙ ap (λ x. answering x (length (states_of 1 (marked u) q))) states-passes
+  asked a = a ∙ ap (λ x. answering x (length (states_of 1 (marked u) q))) states_passes
 
-  pub dot-many : {answer : Number} {why : Refusal} (bytes : List ℕ) → dot_area ≤ length bytes → answer ≡ states_answer u q 256 → answer ≡ Number.Refused why
+  pub dot_many : {answer : Number} {why : Refusal} (bytes : List ℕ) → dot_area ≤ length bytes → answer ≡ states_answer u q 256 → answer ≡ Number.Refused why
       → DotEnds u q bytes (Drawn.Refused TooManyStates) bytes
-  dot-many {why = why} bytes h a t = go (leb (length (states_of 1 (marked u) q)) 256) refl (sym t ∙ asked a)
+  dot_many {why = why} bytes h a t = go (leb (length (states_of 1 (marked u) q)) 256) refl (sym t ∙ asked a)
     where
       go : (b : Bool) → leb (length (states_of 1 (marked u) q)) 256 ≡ b
           → Number.Refused why ≡ answering (check b TooManyStates Done) (length (states_of 1 (marked u) q))
           → DotEnds u q bytes (Drawn.Refused TooManyStates) bytes
       go true p f = let z : ◌≡◌ {A = ℕ} 0 1 = cc in absurd (omega arith)
-      go false p f = dot_ends u q bytes (Refused TooManyStates) (dot-passes bytes h ∙ ap (λ b. check b TooManyStates Done) p)
+      go false p f = dot_ends u q bytes (Refused TooManyStates) (dot_passes bytes h ∙ ap (λ b. check b TooManyStates Done) p)
 
-  pub dot-handed : {answer : Number} {count : ℕ} {list : List ℕ} → answer ≡ states_answer u q 256 → list ≡ states_out u q (replicate 256 0)
+  pub dot_handed : {answer : Number} {count : ℕ} {list : List ℕ} → answer ≡ states_answer u q 256 → list ≡ states_out u q (replicate 256 0)
       → answer ≡ Number.Value count → Handed u q count list
   unfolding states_out
-  dot-handed {count = count} {list} a o t = go (leb (length (states_of 1 (marked u) q)) 256) refl (sym t ∙ asked a)
+  dot_handed {count = count} {list} a o t = go (leb (length (states_of 1 (marked u) q)) 256) refl (sym t ∙ asked a)
     where
       all : List ℕ
       all = states_of 1 (marked u) q
 
       out : (b : Bool) → leb (length all) 256 ≡ b → list ≡ written (check b TooManyStates Done) all (replicate 256 0)
-      out b p = o ∙ ap (λ x. written x all (replicate 256 0)) (states-passes ∙ ap (λ b. check b TooManyStates Done) p)
+      out b p = o ∙ ap (λ x. written x all (replicate 256 0)) (states_passes ∙ ap (λ b. check b TooManyStates Done) p)
 
       go : (b : Bool) → leb (length all) 256 ≡ b → Number.Value count ≡ answering (check b TooManyStates Done) (length all) → Handed u q count list
       go true p f =
@@ -111,13 +111,13 @@ module _ (u : FunctionUnit) (q : ℕ) (e : tag_answer u q ≡ Done) where
 -- The listed states
 
 first_state_lem : (u : FunctionUnit) (q : ℕ) → get_or (states_of 1 (marked u) q) 0 0 ≡ vector_word (marked u) q
-first_state_lem u q = let cv = vector_word (marked u) q in (list-extends 1 (width cv) cv 257 0 (cv ∷ [])).same 0 (omega arith)
+first_state_lem u q = let cv = vector_word (marked u) q in (list_extends 1 (width cv) cv 257 0 (cv ∷ [])).same 0 (omega arith)
 
 pub handed_listing : {u : FunctionUnit} {q count : ℕ} {list : List ℕ} → Handed u q count list → Listing (take count list)
 handed_listing {u} {q} h =
     let cv = vector_word (marked u) q in
     rw h.front record {
-      some = (list-extends 1 (width cv) cv 257 0 (cv ∷ [])).longer;
+      some = (list_extends 1 (width cv) cv 257 0 (cv ∷ [])).longer;
       few = leb-true _ _ h.few;
       small = rw (first_state_lem u q) (states_width 256 1 cv (row_lt (marked u) q q));
     }
@@ -148,7 +148,7 @@ pub dot_drawn : (u : FunctionUnit) (q : ℕ) → tag_answer u q ≡ Done → {n 
     → Put n bytes 0 (listed_text q (take k u.plan.latencies) (take count list)) after end → DotEnds u q bytes (Drawn.Length end) after
 unfolding diagram_text
 dot_drawn u q e {count = count} {k} {list} bytes h d l p =
-    let r = dot_ends u q bytes Done (dot-passes u q e bytes h ∙ ap (λ b. check b TooManyStates Done) d.few) in
+    let r = dot_ends u q bytes Done (dot_passes u q e bytes h ∙ ap (λ b. check b TooManyStates Done) d.few) in
     (ap Drawn.Length (put_end_lem p ∙ ap length same) ∙ r.0, put_area p ∙ ap (λ x. written Done x bytes) same ∙ r.1)
   where
     same : listed_text q (take k u.plan.latencies) (take count list) ≡ diagram_text u q

@@ -17,7 +17,7 @@ use Rattle.collision.specs.Pipeline.{latency, start_at}
 use Rattle.diagram.specs.Diagram.{next, Walk, stay, step}
 use Rattle.diagram.specs.Cycles.{states_along, CycleFrom}
 use Rattle.diagram.proofs.StateLaws.{bit_next, next_lt}
-use Rattle.diagram.proofs.Walks.{run, state_at, state_at_run, walk-run, cycle-permits}
+use Rattle.diagram.proofs.Walks.{run, state_at, state_at_run, walk_run, cycle_permits}
 use Rattle.graph.specs.Dot.{state_before, on_cycle, LeavesBy}
 
 -- What is left of the first state
@@ -71,38 +71,38 @@ walk_below {cv = cv} (step {s = s} {t = t} p w) h k = walk_below w h (next_lt 32
 
 module _ {g n cv : ℕ} {l : List ℕ} (c : CycleFrom g n cv l) (small : cv < 2 ^ 32) where
   -- the noted states are those of the cycle
-  turn-state : (j : ℕ) → j < length l → state_before cv l (32 * length l + j) ≡ get_or (states_along cv c.state l) j 0
-  turn-state j h =
+  turn_state : (j : ℕ) → j < length l → state_before cv l (32 * length l + j) ≡ get_or (states_along cv c.state l) j 0
+  turn_state j h =
       let m : ℕ = 32 * length l + j in
       let some : 0 < length l = omega arith in
       let first : c.state < 2 ^ 32 = walk_below c.reached.walk small small in
-      let least = start_least l (λ i. (cycle-permits c.closed some i).positive) m in
+      let least = start_least l (λ i. (cycle_permits c.closed some i).positive) m in
       let far : 32 ≤ start_at l m = omega (arith, least) in
       let k : m % length l ≡ j = mul-add-mod_self_right 32 (length l) j ∙ mod-eq_of_lt h in
       before_at cv l m
       ∙ forgotten cv cv l m small small far
       ∙ sym (forgotten cv c.state l m small first far)
-      ∙ state_at_run cv c.state l some (walk-run c.closed) m
+      ∙ state_at_run cv c.state l some (walk_run c.closed) m
       ∙ ap (λ i. run cv c.state (take i l)) k
       ∙ along_run cv c.state l j h
 
   -- an arc is bold exactly if the cycle takes it
-  pub bold-means : (s t : ℕ) → (on_cycle cv l s t ≡ true) ↔ LeavesBy cv c.state l s t
+  pub bold_means : (s t : ℕ) → (on_cycle cv l s t ≡ true) ↔ LeavesBy cv c.state l s t
   unfolding on_cycle
-  bold-means s t = (
+  bold_means s t = (
     (λ e.
         let r = some_elim (length l) test e in
         let j = r.at in
         record {
           start = j;
           inside = r.inside;
-          from = sym (turn-state j r.inside) ∙ eqb-true (state_before cv l (32 * length l + j)) s (and_left (eqb (state_before cv l (32 * length l + j)) s) _ r.passed);
+          from = sym (turn_state j r.inside) ∙ eqb-true (state_before cv l (32 * length l + j)) s (and_left (eqb (state_before cv l (32 * length l + j)) s) _ r.passed);
           by = eqb-true (get_or l j 0) t (and_right (eqb (state_before cv l (32 * length l + j)) s) _ r.passed);
         }),
     (λ r.
         let j = r.start in
         some_intro (length l) test j r.inside
-        (and_true (eq-eqb (state_before cv l (32 * length l + j)) s (turn-state j r.inside ∙ r.from)) (eq-eqb (get_or l j 0) t r.by))),
+        (and_true (eq-eqb (state_before cv l (32 * length l + j)) s (turn_state j r.inside ∙ r.from)) (eq-eqb (get_or l j 0) t r.by))),
   )
     where
       test : ℕ → Bool

@@ -65,8 +65,8 @@ turning_start cv cycle on f r e = record {
 }
 
 module _ {cv : ℕ} {cycle on : List ℕ} {state j : ℕ} (t : Turning cv cycle on state j) where
-  pub turning-more : j < length cycle → {r : ℕ} → r ≡ next cv state (get_or cycle j 0) → Turning cv cycle (set on j state) r (j + 1)
-  turning-more h {r} e = record {
+  pub turning_more : j < length cycle → {r : ℕ} → r ≡ next cv state (get_or cycle j 0) → Turning cv cycle (set on j state) r (j + 1)
+  turning_more h {r} e = record {
     few = t.few;
     most = omega arith;
     room = length-set on j state ∙ t.room;
@@ -80,8 +80,8 @@ module _ {cv : ℕ} {cycle on : List ℕ} {state j : ℕ} (t : Turning cv cycle 
       go i l (yes e) = rw (e, get_or-set_same on j state 0 (omega (arith, t.room, t.few))) t.at
       go i l (no ne) = get_or-set_other on j i state 0 ne ∙ t.noted i (omega arith)
 
-  pub turning-end : length cycle ≤ j → Turn cv cycle on
-  turning-end h = record { few = t.few; room = t.room; states = λ i l. t.noted i (omega arith) }
+  pub turning_end : length cycle ≤ j → Turn cv cycle on
+  turning_end h = record { few = t.few; room = t.room; states = λ i l. t.noted i (omega arith) }
 
 -- Whether the cycle takes an arc
 
@@ -140,11 +140,11 @@ module _ (n cv : ℕ) (cycle : List ℕ) (s i : ℕ) (small : s < 2 ^ n) (most :
       let k : i + 1 - 1 ≡ i = omega arith in
       arc_test n s (i + 1) small (omega arith) (omega arith) ∙ ap (λ j. not (is_set s j)) k ∙ ap not e
 
-  pub permitted-not : is_set s i ≡ true → [] ≡ permitted_text n cv cycle s i
-  permitted-not e = sym (ap (λ b. cond b (arc_text n cv cycle s (i + 1)) []) (permitted true e))
+  pub permitted_not : is_set s i ≡ true → [] ≡ permitted_text n cv cycle s i
+  permitted_not e = sym (ap (λ b. cond b (arc_text n cv cycle s (i + 1)) []) (permitted true e))
 
-  pub permitted-arc : is_set s i ≡ false → arc_text n cv cycle s (i + 1) ≡ permitted_text n cv cycle s i
-  permitted-arc e = sym (ap (λ b. cond b (arc_text n cv cycle s (i + 1)) []) (permitted false e))
+  pub permitted_arc : is_set s i ≡ false → arc_text n cv cycle s (i + 1) ≡ permitted_text n cv cycle s i
+  permitted_arc e = sym (ap (λ b. cond b (arc_text n cv cycle s (i + 1)) []) (permitted false e))
 
 pub arcs_all : (n cv : ℕ) (cycle : List ℕ) (s : ℕ) → join_below (n + 1) (permitted_text n cv cycle s) ≡ arcs_text n cv cycle s
 unfolding arcs_text

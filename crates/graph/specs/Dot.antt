@@ -23,7 +23,7 @@ state_before cv cycle zero = cv
 state_before cv cycle (suc m) = next cv (state_before cv cycle m) (latency cycle m)
 
 -- A latency is at least 1, so that after 32 turns nothing is left of the state in which the cycle began: from then on the states are those that
--- it leads through in the diagram, the same in every turn (`bold-means`, proofs/BoldLaws.antt). The cycle leaves s by the latency t:
+-- it leads through in the diagram, the same in every turn (`bold_means`, proofs/BoldLaws.antt). The cycle leaves s by the latency t:
 unfoldable pub on_cycle : ℕ → List ℕ → ℕ → ℕ → Bool
 on_cycle cv cycle s t = some_below (length cycle) (λ j. eqb (state_before cv cycle (32 * length cycle + j)) s && eqb (get_or cycle j 0) t)
 

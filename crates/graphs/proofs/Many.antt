@@ -6,20 +6,20 @@ use native.Mathlib.Omega.{arith}
 use lib.ListN.{length, get_or}
 use Rattle.graphs.specs.Graph.{Graph}
 use Rattle.graphs.specs.States.{Tests, Right, states, More}
-use Rattle.graphs.proofs.Listing.{states-distinct, states-reached, states-complete}
+use Rattle.graphs.proofs.Listing.{states_distinct, states_reached, states_complete}
 use Rattle.graphs.proofs.Pigeon.{distinct_fits}
 
 module _ (cap : ℕ) (G : Graph) (S : Tests G) (right : Right G S) where
-  listed-many : cap < length (states cap G S) → More cap G
-  listed-many h = record {
+  listed_many : cap < length (states cap G S) → More cap G
+  listed_many h = record {
     some = states cap G S;
     many = h;
-    distinct = states-distinct G S right cap;
-    reached = states-reached G S right cap;
+    distinct = states_distinct G S right cap;
+    reached = states_reached G S right cap;
   }
 
-  many-listed : More cap G → cap < length (states cap G S)
-  many-listed r = go (dec_lt cap (length (states cap G S)))
+  many_listed : More cap G → cap < length (states cap G S)
+  many_listed r = go (dec_lt cap (length (states cap G S)))
     where
       go : Dec (cap < length (states cap G S)) → cap < length (states cap G S)
       go (yes h) = h
@@ -29,8 +29,8 @@ module _ (cap : ℕ) (G : Graph) (S : Tests G) (right : Right G S) where
           (omega (
             arith,
             distinct_fits G r.some (states cap G S) r.distinct
-                (λ i l. states-complete G S right cap (omega arith) (get_or r.some i G.first) (r.reached i l)),
+                (λ i l. states_complete G S right cap (omega arith) (get_or r.some i G.first) (r.reached i l)),
           ))
 
   pub too_many : More cap G ↔ (cap < length (states cap G S))
-  too_many = (many-listed, listed-many)
+  too_many = (many_listed, listed_many)

@@ -10,7 +10,7 @@ use lib.Seq.{get_or-take, get_or-drop, get_or-append-add}
 use Rattle.collision.specs.Pipeline.{total}
 use Rattle.graphs.specs.Graph.{Graph, Walk, Distinct, states_along, CycleAt}
 use Rattle.graphs.specs.Rotation.{rotate}
-use Rattle.graphs.proofs.Walks.{run, walk-run, walk-join, walk-take, walk-drop, reach-along}
+use Rattle.graphs.proofs.Walks.{run, walk_run, walk_join, walk_take, walk_drop, reach_along}
 
 pub rotate_length : {A : Type 0} (l : List A) (r : ℕ) → length (rotate l r) ≡ length l
 rotate_length l r = rw (length-append (drop r l) (take r l), length-drop r l, length-take r l) (omega arith)
@@ -24,11 +24,11 @@ rotate_total l r = omega (arith, total_append (drop r l) (take r l), total_appen
 
 module _ {A : Type 0} (l : List A) (r : ℕ) (d : A) where
   -- the i-th of a rotation, before the seam and after it
-  pub rotate-low : (i : ℕ) → r + i < length l → get_or (rotate l r) i d ≡ get_or l (r + i) d
-  rotate-low i h = get_or-append (drop r l) (take r l) d i (omega (arith, length-drop r l)) ∙ get_or-drop r l i d
+  pub rotate_low : (i : ℕ) → r + i < length l → get_or (rotate l r) i d ≡ get_or l (r + i) d
+  rotate_low i h = get_or-append (drop r l) (take r l) d i (omega (arith, length-drop r l)) ∙ get_or-drop r l i d
 
-  pub rotate-high : (i : ℕ) → r ≤ length l → i < length l → length l ≤ r + i → get_or (rotate l r) i d ≡ get_or l (r + i - length l) d
-  rotate-high i k b h =
+  pub rotate_high : (i : ℕ) → r ≤ length l → i < length l → length l ≤ r + i → get_or (rotate l r) i d ≡ get_or l (r + i - length l) d
+  rotate_high i k b h =
       let m : ℕ = r + i - length l in
       let e : i ≡ length (drop r l) + m = omega (arith, length-drop r l) in
       ap (λ x. get_or (rotate l r) x d) e ∙ get_or-append-add (drop r l) (take r l) m d ∙ get_or-take r l m d (omega arith)
@@ -37,12 +37,12 @@ pub rotate_at : (l : List ℕ) (r i : ℕ) → r ≤ length l → i < length l �
 rotate_at l r i h b = go (dec_lt (r + i) (length l))
   where
     go : Dec (r + i < length l) → get_or (rotate l r) i 0 ≡ get_or l ((r + i) % length l) 0
-    go (yes k) = rotate-low l r 0 i k ∙ ap (λ m. get_or l m 0) (sym (mod-eq_of_lt k))
+    go (yes k) = rotate_low l r 0 i k ∙ ap (λ m. get_or l m 0) (sym (mod-eq_of_lt k))
     go (no k) =
         let m : ℕ = r + i - length l in
         let f : r + i ≡ length l + m = omega arith in
         let w : (r + i) % length l ≡ m = ap (λ x. x % length l) f ∙ add-mod_left (length l) m ∙ mod-eq_of_lt (omega arith) in
-        rotate-high l r 0 i h b (omega arith) ∙ ap (λ x. get_or l x 0) (sym w)
+        rotate_high l r 0 i h b (omega arith) ∙ ap (λ x. get_or l x 0) (sym w)
 
 module _ (G : Graph) where
   pub rotate_distinct : (l : List G.State) (r : ℕ) → r ≤ length l → Distinct G l → Distinct G (rotate l r)
@@ -52,10 +52,10 @@ module _ (G : Graph) where
       n = rotate_length l r
 
       low : (m : ℕ) → r + m < length l → get_or (rotate l r) m G.first ≡ get_or l (r + m) G.first
-      low m b = rotate-low l r G.first m b
+      low m b = rotate_low l r G.first m b
 
       high : (m : ℕ) → m < length l → length l ≤ r + m → get_or (rotate l r) m G.first ≡ get_or l (r + m - length l) G.first
-      high m b c = rotate-high l r G.first m h b c
+      high m b c = rotate_high l r G.first m h b c
 
       go : Dec (r + i < length l) → Dec (r + j < length l) → ⊥
       go (yes a) (yes b) = d (r + i) (r + j) (omega arith) b (sym (low i a) ∙ e ∙ low j b)
@@ -88,7 +88,7 @@ module _ (G : Graph) where
   rotate_along : (s : G.State) (l : List ℕ) (r : ℕ) → Walk G s l s → states_along G (run G s (take r l)) (rotate l r) ≡ rotate (states_along G s l) r
   rotate_along s l r w =
       let m : G.State = run G s (take r l) in
-      let back : run G m (drop r l) ≡ s = walk-run G (walk-drop G r w) in
+      let back : run G m (drop r l) ≡ s = walk_run G (walk_drop G r w) in
       along_append m (drop r l) (take r l)
       ∙ ap₂ (λ (a b : List G.State). a ++ b) (along_drop s r l) (ap (λ (x : G.State). states_along G x (take r l)) back ∙ along_take s r l)
 
@@ -96,8 +96,8 @@ module _ (G : Graph) where
   pub rotate_cycle : (s : G.State) (l : List ℕ) (r : ℕ) → r ≤ length l → CycleAt G s l → CycleAt G (run G s (take r l)) (rotate l r)
   rotate_cycle s l r h c =
       record {
-        reached = reach-along G c.reached (walk-take G r c.closed);
-        closed = walk-join G (walk-drop G r c.closed) (walk-take G r c.closed);
+        reached = reach_along G c.reached (walk_take G r c.closed);
+        closed = walk_join G (walk_drop G r c.closed) (walk_take G r c.closed);
         apart =
             subst (Distinct G) (sym (rotate_along s l r c.closed))
             (rotate_distinct (states_along G s l) r (omega (arith, along_length s l)) c.apart);

@@ -36,54 +36,54 @@ module _ (G : Graph) where
       turn (inl p) = rw (suc-mod j (length l), p, mod_self (length l), take-length l) e
       turn (inr k) = rw (suc-mod j (length l), mod-eq_of_lt k)
 
-  pub walk-run : {s e : G.State} {l : List ℕ} → Walk G s l e → run G s l ≡ e
-  walk-run stay = refl
-  walk-run (step p w) = walk-run w
+  pub walk_run : {s e : G.State} {l : List ℕ} → Walk G s l e → run G s l ≡ e
+  walk_run stay = refl
+  walk_run (step p w) = walk_run w
 
-  pub walk-permits : {s e : G.State} {l : List ℕ} → Walk G s l e → (i : ℕ) → i < length l → G.Permits (run G s (take i l)) (get_or l i 0)
-  walk-permits stay i h = absurd (not-suc-le-zero h)
-  walk-permits (step p w) zero h = p
-  walk-permits (step p w) (suc i) h = walk-permits w i (le_of_suc-le-suc h)
+  pub walk_permits : {s e : G.State} {l : List ℕ} → Walk G s l e → (i : ℕ) → i < length l → G.Permits (run G s (take i l)) (get_or l i 0)
+  walk_permits stay i h = absurd (not-suc-le-zero h)
+  walk_permits (step p w) zero h = p
+  walk_permits (step p w) (suc i) h = walk_permits w i (le_of_suc-le-suc h)
 
   -- a closed walk, repeated without end, goes on being permitted
-  pub cycle-permits : {s : G.State} {l : List ℕ} → Walk G s l s → 0 < length l → (j : ℕ) → G.Permits (state_at G s l j) (latency l j)
-  cycle-permits {s} {l} w h j =
-      subst (λ (x : G.State). G.Permits x (latency l j)) (sym (state_at_run s l h (walk-run w) j)) (walk-permits w (j % length l) (mod-lt j h))
+  pub cycle_permits : {s : G.State} {l : List ℕ} → Walk G s l s → 0 < length l → (j : ℕ) → G.Permits (state_at G s l j) (latency l j)
+  cycle_permits {s} {l} w h j =
+      subst (λ (x : G.State). G.Permits x (latency l j)) (sym (state_at_run s l h (walk_run w) j)) (walk_permits w (j % length l) (mod-lt j h))
 
   -- what every arc keeps holds at the end of a walk
-  pub walk-keeps : (P : G.State → Type 0) → ((s : G.State) (t : ℕ) → P s → G.Permits s t → P (G.next s t))
+  pub walk_keeps : (P : G.State → Type 0) → ((s : G.State) (t : ℕ) → P s → G.Permits s t → P (G.next s t))
       → {s e : G.State} {l : List ℕ} → Walk G s l e → P s → P e
-  walk-keeps P keeps stay h = h
-  walk-keeps P keeps (step {s} {e} {t} p w) h = walk-keeps P keeps w (keeps s t h p)
+  walk_keeps P keeps stay h = h
+  walk_keeps P keeps (step {s} {e} {t} p w) h = walk_keeps P keeps w (keeps s t h p)
 
-  pub reach-keeps : (P : G.State → Type 0) → P G.first → ((s : G.State) (t : ℕ) → P s → G.Permits s t → P (G.next s t))
+  pub reach_keeps : (P : G.State → Type 0) → P G.first → ((s : G.State) (t : ℕ) → P s → G.Permits s t → P (G.next s t))
       → {s : G.State} → Reachable G s → P s
-  reach-keeps P first keeps r = walk-keeps P keeps r.walk first
+  reach_keeps P first keeps r = walk_keeps P keeps r.walk first
 
   -- Walks one after the other, and parts of a walk
 
-  pub walk-join : {s m e : G.State} {l k : List ℕ} → Walk G s l m → Walk G m k e → Walk G s (l ++ k) e
-  walk-join stay v = v
-  walk-join (step p w) v = step p (walk-join w v)
+  pub walk_join : {s m e : G.State} {l k : List ℕ} → Walk G s l m → Walk G m k e → Walk G s (l ++ k) e
+  walk_join stay v = v
+  walk_join (step p w) v = step p (walk_join w v)
 
-  pub walk-on : {s e : G.State} {l : List ℕ} (t : ℕ) → Walk G s l e → G.Permits e t → Walk G s (l ++ (t ∷ [])) (G.next e t)
-  walk-on t w p = walk-join w (step p stay)
+  pub walk_on : {s e : G.State} {l : List ℕ} (t : ℕ) → Walk G s l e → G.Permits e t → Walk G s (l ++ (t ∷ [])) (G.next e t)
+  walk_on t w p = walk_join w (step p stay)
 
-  pub reach-first : Reachable G G.first
-  reach-first = record { along = []; walk = stay }
+  pub reach_first : Reachable G G.first
+  reach_first = record { along = []; walk = stay }
 
-  pub reach-on : (s : G.State) (t : ℕ) → Reachable G s → G.Permits s t → Reachable G (G.next s t)
-  reach-on s t r p = record { along = r.along ++ (t ∷ []); walk = walk-on t r.walk p }
+  pub reach_on : (s : G.State) (t : ℕ) → Reachable G s → G.Permits s t → Reachable G (G.next s t)
+  reach_on s t r p = record { along = r.along ++ (t ∷ []); walk = walk_on t r.walk p }
 
-  pub reach-along : {s e : G.State} {l : List ℕ} → Reachable G s → Walk G s l e → Reachable G e
-  reach-along {l = l} r w = record { along = r.along ++ l; walk = walk-join r.walk w }
+  pub reach_along : {s e : G.State} {l : List ℕ} → Reachable G s → Walk G s l e → Reachable G e
+  reach_along {l = l} r w = record { along = r.along ++ l; walk = walk_join r.walk w }
 
-  pub walk-take : (k : ℕ) {s e : G.State} {l : List ℕ} → Walk G s l e → Walk G s (take k l) (run G s (take k l))
-  walk-take zero w = stay
-  walk-take (suc k) stay = stay
-  walk-take (suc k) (step p w) = step p (walk-take k w)
+  pub walk_take : (k : ℕ) {s e : G.State} {l : List ℕ} → Walk G s l e → Walk G s (take k l) (run G s (take k l))
+  walk_take zero w = stay
+  walk_take (suc k) stay = stay
+  walk_take (suc k) (step p w) = step p (walk_take k w)
 
-  pub walk-drop : (k : ℕ) {s e : G.State} {l : List ℕ} → Walk G s l e → Walk G (run G s (take k l)) (drop k l) e
-  walk-drop zero w = w
-  walk-drop (suc k) stay = stay
-  walk-drop (suc k) (step p w) = walk-drop k w
+  pub walk_drop : (k : ℕ) {s e : G.State} {l : List ℕ} → Walk G s l e → Walk G (run G s (take k l)) (drop k l) e
+  walk_drop zero w = w
+  walk_drop (suc k) stay = stay
+  walk_drop (suc k) (step p w) = walk_drop k w

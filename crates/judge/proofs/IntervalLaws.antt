@@ -19,7 +19,7 @@ use Rattle.collision.specs.Vector.{collides, vector_word}
 use Rattle.collision.specs.Meaning.{Bounded}
 use Rattle.collision.proofs.ClashLaws.{start_at_mono}
 use Rattle.collision.proofs.StartLaws.{interval_least}
-use Rattle.collision.proofs.VectorLaws.{collides-means, vector-bit}
+use Rattle.collision.proofs.VectorLaws.{collides_means, vector_bit}
 use Rattle.judge.specs.Judge.{meets}
 use Rattle.judge.specs.Inner.{start_meets, turn_meets}
 
@@ -85,8 +85,8 @@ turn_all v l h = some_none (length l) (start_meets v l) h
 vector_column : (T : Table) (q t : ℕ) → Bounded T → 1 ≤ t → is_set (vector_word T q) (t - 1) ≡ collides T q q t
 vector_column T q t b h =
     same_test (is_set (vector_word T q) (t - 1)) (collides T q q t)
-    (λ e. (collides-means T b q q t).1 ((vector-bit T b q t h).0 e))
-    (λ e. (vector-bit T b q t h).1 ((collides-means T b q q t).0 e))
+    (λ e. (collides_means T b q q t).1 ((vector_bit T b q t h).0 e))
+    (λ e. (vector_bit T b q t h).1 ((collides_means T b q q t).0 e))
 
 -- the intervals tested against the collision vector are tested for a collision
 pub turn_vector : (T : Table) (q : ℕ) (l : List ℕ) → Bounded T → Cycle 1 l → turn_meets (vector_word T q) l ≡ meets T q l

@@ -20,39 +20,39 @@ use Rattle.collision.specs.Vector.{collides}
 use Rattle.collision.specs.Meaning.{Bounded}
 use Rattle.collision.proofs.ClashLaws.{never_forbidden}
 use Rattle.collision.proofs.StartLaws.{interval_turn, interval_least}
-use Rattle.collision.proofs.VectorLaws.{marked_bounded, collides-means, collides-near}
+use Rattle.collision.proofs.VectorLaws.{marked_bounded, collides_means, collides_near}
 use Rattle.judge.specs.declared.Verdict.TheVariants as Verdict
 use Rattle.judge.specs.Judge.{good_cycle, meets, cycle_answer, judge_answer}
 use Rattle.judge.proofs.CycleLaws.{good_cycle_lem}
 
 module _ (T : Table) (q : ℕ) (l : List ℕ) (b : Bounded T) (c : Cycle 1 l) where
   -- a start of the first turn that the test meets collides with a later one
-  meets-forbids : meets T q l ≡ true → NeverCollides T q l → ⊥
+  meets_forbids : meets T q l ≡ true → NeverCollides T q l → ⊥
   unfolding meets
-  meets-forbids e never =
+  meets_forbids e never =
       let x = some_elim (length l) (λ i. some_below 32 (λ k. collides T q q (start_at l (i + k + 1) - start_at l i))) e in
       let y = some_elim 32 (λ k. collides T q q (start_at l (x.at + k + 1) - start_at l x.at)) x.passed in
-      (never_forbidden T q l).0 never x.at (x.at + y.at + 1) (omega arith) ((collides-means T b q q _).0 y.passed)
+      (never_forbidden T q l).0 never x.at (x.at + y.at + 1) (omega arith) ((collides_means T b q q _).0 y.passed)
 
   -- a forbidden interval spans less than 32 starts, and begins at a start of the first turn too
-  forbidden-meets : (i j : ℕ) → i < j → Forbidden T q (start_at l j - start_at l i) → meets T q l ≡ true
+  forbidden_meets : (i j : ℕ) → i < j → Forbidden T q (start_at l j - start_at l i) → meets T q l ≡ true
   unfolding meets
-  forbidden-meets i j h f =
+  forbidden_meets i j h f =
       let sum : i + (j - i) ≡ j = omega arith in
       let place : i % length l + (j - i) ≡ i % length l + (j - i - 1) + 1 = omega arith in
       let same : start_at l j - start_at l i ≡ start_at l (i % length l + (j - i - 1) + 1) - start_at l (i % length l) =
       ap (λ k. start_at l k - start_at l i) (sym sum) ∙ interval_turn l i (j - i) ∙ ap (λ k. start_at l k - start_at l (i % length l)) place in
       let near : start_at l i + (j - i) ≤ start_at l j = subst (λ k. start_at l i + (j - i) ≤ start_at l k) sum (interval_least l c i (j - i)) in
-      let few : j - i - 1 < 32 = omega (arith, collides-near T b q q _ f) in
+      let few : j - i - 1 < 32 = omega (arith, collides_near T b q q _ f) in
       some_intro (length l) (λ i. some_below 32 (λ k. collides T q q (start_at l (i + k + 1) - start_at l i))) (i % length l) (mod-lt i c.nonempty)
       (some_intro 32 (λ k. collides T q q (start_at l (i % length l + k + 1) - start_at l (i % length l))) (j - i - 1) few
-      (subst (λ t. collides T q q t ≡ true) same ((collides-means T b q q _).1 f)))
+      (subst (λ t. collides T q q t ≡ true) same ((collides_means T b q q _).1 f)))
 
   -- the judge's yes is right: the test meets no collision exactly when the cycle, repeated without end, never collides
-  pub judge-means : (meets T q l ≡ false) ↔ NeverCollides T q l
-  judge-means = (
-    (λ e. (never_forbidden T q l).1 (λ i j h f. nowhere (sym e ∙ forbidden-meets i j h f))),
-    (λ never. not_passed (meets T q l) (λ e. meets-forbids e never)),
+  pub judge_means : (meets T q l ≡ false) ↔ NeverCollides T q l
+  judge_means = (
+    (λ e. (never_forbidden T q l).1 (λ i j h f. nowhere (sym e ∙ forbidden_meets i j h f))),
+    (λ never. not_passed (meets T q l) (λ e. meets_forbids e never)),
   )
 
 -- so the judge says yes of a cycle exactly when it never collides on the unit's own marks
@@ -62,7 +62,7 @@ unfolding judge_answer cycle_answer
 judge_yes u q l a g = (there, back)
   where
     means : (meets (marked u) q l ≡ false) ↔ NeverCollides (marked u) q l
-    means = judge-means (marked u) q l (marked_bounded u) (good_cycle_lem l g)
+    means = judge_means (marked u) q l (marked_bounded u) (good_cycle_lem l g)
 
     accepted : judge_answer u q l ≡ cond (meets (marked u) q l) Verdict.No Verdict.Yes
     accepted = rw (a, g)

@@ -64,8 +64,8 @@ unit_unsound e = record {
 }
 
 module _ {u : FunctionUnit} {zeros all : List ℕ} {end : ℕ} (s : sound_of u ≡ true) (t : ToldAll u u.functions zeros all end) where
-  pub unit-most : end ≤ 8888
-  unit-most = omega (arith, t.put.few, functions_few u s)
+  pub unit_most : end ≤ 8888
+  unit_most = omega (arith, t.put.few, functions_few u s)
 
   pub unit_listed : {before after : List ℕ} {answer : Listed} → Printed (room_answer (take end all) (length before)) (take end all) before after answer
       → UnitListed u before after answer
@@ -73,6 +73,6 @@ module _ {u : FunctionUnit} {zeros all : List ℕ} {end : ℕ} (s : sound_of u �
   unit_listed {before} {after} {answer} p = record {
     best = t.cycles;
     bests = λ s. t.best;
-    suffices = λ s. omega (arith, unit-most, put_front_length t.put, ap length (put_front t.put));
+    suffices = λ s. omega (arith, unit_most, put_front_length t.put, ap length (put_front t.put));
     printed = rw s (printed_as (put_front t.put) p);
   }

@@ -40,14 +40,14 @@ put_room m p room = omega (arith, p.few, wrote_length p.wrote)
 -- The vector and the bounds
 
 module _ (T : Table) (q : ℕ) where
-  vector-text : {w : ℕ} → w ≡ vector_word T q → vector_text (width w) w ≡ vector_text (largest_forbidden T q) (vector_word T q)
-  vector-text e = ap (λ w. vector_text (width w) w) e ∙ ap (λ n. vector_text n (vector_word T q)) (largest_span T q)
+  vector_text_lem : {w : ℕ} → w ≡ vector_word T q → vector_text (width w) w ≡ vector_text (largest_forbidden T q) (vector_word T q)
+  vector_text_lem e = ap (λ w. vector_text (width w) w) e ∙ ap (λ n. vector_text n (vector_word T q)) (largest_span T q)
 
-  pub vector_line : {before : List ℕ} {at : ℕ} {a : List ℕ} {i : ℕ} {b : List ℕ} {j : ℕ} {after : List ℕ} {end w : ℕ} → w ≡ vector_word T q
+  pub vector_line_lem : {before : List ℕ} {at : ℕ} {a : List ℕ} {i : ℕ} {b : List ℕ} {j : ℕ} {after : List ℕ} {end w : ℕ} → w ≡ vector_word T q
       → Put 7 before at (ascii "vector ") a i → Put 32 a i (vector_text (width w) w) b j
       → (end ≡ put_end b j newline) × (after ≡ put_in b j newline) → at + 40 ≤ length before → Put 40 before at (vector_line T q) after end
-  vector_line e p v l room =
-      put_as (put_word 1 newline (put_more p v) l (omega arith) (omega arith)) (ap (λ x. ascii "vector " ++ x ++ newline) (vector-text e)) (omega arith)
+  vector_line_lem e p v l room =
+      put_as (put_word 1 newline (put_more p v) l (omega arith) (omega arith)) (ap (λ x. ascii "vector " ++ x ++ newline) (vector_text_lem e)) (omega arith)
 
   pub bound_line_lem : {before : List ℕ} {at : ℕ} {mid : List ℕ} {e : ℕ} {after : List ℕ} {end bound upper : ℕ} → bound ≡ bound_of T q → upper ≡ upper_of T q
       → Put 16 before at (ascii "bound " ++ decimal bound) mid e → Put 18 mid e (ascii " upper " ++ decimal upper ++ newline) after end
@@ -66,10 +66,10 @@ number_line_lem word e p = put_as p (ap (λ x. word ++ decimal x ++ newline) e) 
 -- The states
 
 module _ {u : FunctionUnit} {q : ℕ} {before : List ℕ} {at : ℕ} where
-  pub lines-many : {after : List ℕ} {end : ℕ} → leb (length (states_of 1 (marked u) q)) 256 ≡ false
+  pub lines_many : {after : List ℕ} {end : ℕ} → leb (length (states_of 1 (marked u) q)) 256 ≡ false
       → Put 10 before at (ascii "refused 7\n") after end → Told 2108 (state_lines (marked u) q) u q before at after end
   unfolding decimal digits
-  lines-many many p = record {
+  lines_many many p = record {
     cycle = [];
     best = λ few. nowhere (sym many ∙ few);
     put = put_as p (rw many) (omega arith);
@@ -87,12 +87,12 @@ module _ {u : FunctionUnit} {q : ℕ} {before : List ℕ} {at : ℕ} where
 
   -- All lines
 
-  pub function-lines : {a : List ℕ} {i : ℕ} {b : List ℕ} {j : ℕ} {c : List ℕ} {k : ℕ} {d : List ℕ} {l : ℕ} {after : List ℕ} {end : ℕ}
+  pub function_lines : {a : List ℕ} {i : ℕ} {b : List ℕ} {j : ℕ} {c : List ℕ} {k : ℕ} {d : List ℕ} {l : ℕ} {after : List ℕ} {end : ℕ}
       → Put 20 before at (number_line "function " q) a i → Put 40 a i (vector_line (marked u) q) b j → Put 34 b j (bound_line (marked u) q) c k
       → Told 2108 (state_lines (marked u) q) u q c k d l → Put 20 d l (number_line "constant " (constant_of (marked u) q)) after end
       → Told 2222 (function_text (marked u) q) u q before at after end
   unfolding function_text
-  function-lines f v b s n = record {
+  function_lines f v b s n = record {
     cycle = s.cycle;
     best = s.best;
     put = put_more (put_more (put_more (put_more f v) b) s.put) n;

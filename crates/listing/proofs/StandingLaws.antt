@@ -58,29 +58,29 @@ front_room cycle rest count e = omega (arith, length-append cycle rest)
 -- The greedy cycle
 
 module _ {u : FunctionUnit} {q : ℕ} (s : Small u q) where
-  greedy-says : greedy_answer u q 16000 256 ≡ counting Done (greedy_of 1 (marked u) q)
+  greedy_says : greedy_answer u q 16000 256 ≡ counting Done (greedy_of 1 (marked u) q)
   unfolding greedy_answer
-  greedy-says = ap (λ a. counting a (greedy_of 1 (marked u) q)) (greedy_passes s)
+  greedy_says = ap (λ a. counting a (greedy_of 1 (marked u) q)) (greedy_passes s)
 
   -- it is not refused
-  pub greedy-handed : {A : Type 0} {answer : GreedyAnswer} {why : Refusal} → answer ≡ greedy_answer u q 16000 256 → answer ≡ GreedyAnswer.Refused why → A
-  greedy-handed {why = why} e t =
-      let r : GreedyAnswer.Refused why ≡ counting Done (greedy_of 1 (marked u) q) = sym t ∙ e ∙ greedy-says in
+  pub greedy_handed : {A : Type 0} {answer : GreedyAnswer} {why : Refusal} → answer ≡ greedy_answer u q 16000 256 → answer ≡ GreedyAnswer.Refused why → A
+  greedy_handed {why = why} e t =
+      let r : GreedyAnswer.Refused why ≡ counting Done (greedy_of 1 (marked u) q) = sym t ∙ e ∙ greedy_says in
       let z : ◌≡◌ {A = ℕ} 0 1 = cc in
       absurd (omega arith)
 
-  greedy-writes : (bytes : List ℕ) → length bytes ≡ 256 → greedy_out u q 16000 bytes ≡ written Done (greedy_of 1 (marked u) q) bytes
+  greedy_writes : (bytes : List ℕ) → length bytes ≡ 256 → greedy_out u q 16000 bytes ≡ written Done (greedy_of 1 (marked u) q) bytes
   unfolding greedy_out
-  greedy-writes bytes n = rw (n, greedy_passes s)
+  greedy_writes bytes n = rw (n, greedy_passes s)
 
-  pub greedy-stands : {answer : GreedyAnswer} {counted : Counted} {after : List ℕ} (bytes : List ℕ) → length bytes ≡ 256
+  pub greedy_stands : {answer : GreedyAnswer} {counted : Counted} {after : List ℕ} (bytes : List ℕ) → length bytes ≡ 256
       → answer ≡ greedy_answer u q 16000 256 → after ≡ greedy_out u q 16000 bytes → answer ≡ GreedyAnswer.Cycle counted
       → Standing (greedy_of 1 (marked u) q) counted.count counted.sum after
-  greedy-stands {counted = counted} bytes n e w t =
+  greedy_stands {counted = counted} bytes n e w t =
       let l : List ℕ = greedy_of 1 (marked u) q in
-      let same : GreedyAnswer.Cycle counted ≡ counting Done l = sym t ∙ e ∙ greedy-says in
+      let same : GreedyAnswer.Cycle counted ≡ counting Done l = sym t ∙ e ∙ greedy_says in
       let is : counted ≡ record { count = length l; sum = total l } = cc in
-      let here = w ∙ greedy-writes bytes n in
+      let here = w ∙ greedy_writes bytes n in
       let counts : counted.count ≡ length l = ap (λ c. c.count) is in
       record {
         few = (greedy_cycle_lem 1 (width (vector_word (marked u) q)) (vector_word (marked u) q) (leb-true _ _ s.few)).few;

@@ -17,7 +17,7 @@ use Rattle.diagram.specs.Answers.{states_of}
 use Rattle.planner.specs.Plans.{Best}
 use Rattle.listing.specs.Lines.{function_text}
 use Rattle.listing.specs.Inner.{Function, Told, ToldAll}
-use Rattle.text.proofs.BoundedLaws.{put_as, put-join-start, put-join-more}
+use Rattle.text.proofs.BoundedLaws.{put_as, put_join_start, put_join_more}
 use Rattle.words.proofs.JoinLaws.{join_same}
 
 pub functions_few : (u : FunctionUnit) → sound_of u ≡ true → u.functions ≤ 4
@@ -33,7 +33,7 @@ pub told_start : (u : FunctionUnit) (before : List ℕ) → ToldAll u 0 before b
 told_start u before = record {
   cycles = λ q. [];
   best = λ q h. let w = within q 0 h in absurd (omega arith);
-  put = put-join-start 2222 (texts u (λ q. [])) (omega arith);
+  put = put_join_start 2222 (texts u (λ q. [])) (omega arith);
 }
 
 module _ {u : FunctionUnit} {n : ℕ} {before mid : List ℕ} {e : ℕ} {after : List ℕ} {end : ℕ}
@@ -42,30 +42,30 @@ module _ {u : FunctionUnit} {n : ℕ} {before mid : List ℕ} {e : ℕ} {after :
   cycles : ℕ → List ℕ
   cycles q = cond (eqb q (n + 1)) one.cycle (all.cycles q)
 
-  cycles-next : (q : ℕ) → q ≡ n + 1 → cycles q ≡ one.cycle
+  cycles_next : (q : ℕ) → q ≡ n + 1 → cycles q ≡ one.cycle
   unfolding cycles
-  cycles-next q h = rw (eq-eqb q (n + 1) h)
+  cycles_next q h = rw (eq-eqb q (n + 1) h)
 
-  cycles-before : (q : ℕ) → q < n + 1 → cycles q ≡ all.cycles q
+  cycles_before : (q : ℕ) → q < n + 1 → cycles q ≡ all.cycles q
   unfolding cycles
-  cycles-before q h = rw (ne_eqb q (n + 1) (λ i. omega arith))
+  cycles_before q h = rw (ne_eqb q (n + 1) (λ i. omega arith))
 
-  cycles-best : (q : ℕ) → inside q (n + 1) ≡ true → leb (length (states_of 1 (marked u) q)) 256 ≡ true → Best 1 (marked u) q (cycles q)
-  cycles-best q h few = go (eq-or-lt_of_le (within q (n + 1) h).most)
+  cycles_best : (q : ℕ) → inside q (n + 1) ≡ true → leb (length (states_of 1 (marked u) q)) 256 ≡ true → Best 1 (marked u) q (cycles q)
+  cycles_best q h few = go (eq-or-lt_of_le (within q (n + 1) h).most)
     where
       go : (q ≡ n + 1) ⊎ (q < n + 1) → Best 1 (marked u) q (cycles q)
-      go (inl i) = rw (cycles-next q i, i) (one.best (rw i at few))
-      go (inr l) = rw (cycles-before q l) (all.best q (inside_of q n (within q (n + 1) h).least (omega arith)) few)
+      go (inl i) = rw (cycles_next q i, i) (one.best (rw i at few))
+      go (inr l) = rw (cycles_before q l) (all.best q (inside_of q n (within q (n + 1) h).least (omega arith)) few)
 
-  texts-before : join_below n (texts u all.cycles) ≡ join_below n (texts u cycles)
-  texts-before = join_same n (texts u all.cycles) (texts u cycles) (λ k h. ap (function_text (marked u) (k + 1)) (sym (cycles-before (k + 1) (omega arith))))
+  texts_before : join_below n (texts u all.cycles) ≡ join_below n (texts u cycles)
+  texts_before = join_same n (texts u all.cycles) (texts u cycles) (λ k h. ap (function_text (marked u) (k + 1)) (sym (cycles_before (k + 1) (omega arith))))
 
-  texts-next : function_text (marked u) (n + 1) one.cycle ≡ texts u cycles n
-  texts-next = ap (function_text (marked u) (n + 1)) (sym (cycles-next (n + 1) refl))
+  texts_next : function_text (marked u) (n + 1) one.cycle ≡ texts u cycles n
+  texts_next = ap (function_text (marked u) (n + 1)) (sym (cycles_next (n + 1) refl))
 
   pub told_more : ToldAll u (n + 1) before after end
   told_more = record {
     cycles = cycles;
-    best = cycles-best;
-    put = put-join-more 2222 n (texts u cycles) (put_as all.put texts-before (omega arith)) (put_as one.put texts-next (omega arith));
+    best = cycles_best;
+    put = put_join_more 2222 n (texts u cycles) (put_as all.put texts_before (omega arith)) (put_as one.put texts_next (omega arith));
   }

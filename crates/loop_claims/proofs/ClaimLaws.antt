@@ -46,9 +46,9 @@ passed true true true false f e = let n : ◌≡◌ {A = ℕ} 5 7 = ap number_in
 passed true true true true true e = let n : ◌≡◌ {A = ℕ} 0 7 = ap number_in e in absurd (omega arith)
 
 module _ (u : FunctionUnit) (tags : List ℕ) (room : ℕ) where
-  seven-many : loop_answer u tags room ≡ Refused TooManyStates → Asked u tags room × More 256 (loop_graph u tags)
+  seven_many : loop_answer u tags room ≡ Refused TooManyStates → Asked u tags room × More 256 (loop_graph u tags)
   unfolding loop_answer
-  seven-many e =
+  seven_many e =
       let p = passed (sound_of u) (inside (length tags) 8) (all_tags u tags) (leb 16000 room) (leb (length (loop_states u tags)) 256) e in
       let k = within (length tags) 8 p.list in
       let loop : Loop u tags = record { some = k.least; few = k.most; tag = all_known u tags p.tags } in (
@@ -56,9 +56,9 @@ module _ (u : FunctionUnit) (tags : List ℕ) (room : ℕ) where
         (loop_many u tags p.unit loop).1 (leb-false (length (loop_states u tags)) 256 p.many),
       )
 
-  many-seven : Asked u tags room × More 256 (loop_graph u tags) → loop_answer u tags room ≡ Refused TooManyStates
+  many_seven : Asked u tags room × More 256 (loop_graph u tags) → loop_answer u tags room ≡ Refused TooManyStates
   unfolding loop_answer
-  many-seven m =
+  many_seven m =
       let a = m.0 in
       let loop = a.loop in
       simp (
@@ -70,7 +70,7 @@ module _ (u : FunctionUnit) (tags : List ℕ) (room : ℕ) where
       )
 
 pub seven_exactly : SevenExactly
-seven_exactly u tags room = (seven-many u tags room, many-seven u tags room)
+seven_exactly u tags room = (seven_many u tags room, many_seven u tags room)
 
 -- Averages
 
@@ -80,22 +80,22 @@ one_average u tags a b p q = omega (arith, p.least b q.schedule q.never, q.least
 -- One tag
 
 module _ (T : Table) (q : ℕ) (l : List ℕ) where
-  task-same : (i : ℕ) → loop_task (q ∷ []) l i ≡ task_at q l i
-  task-same i = ap (λ (t : ℕ). record { tag = t; start = start_at l i }) (ap (λ p. get_or (q ∷ []) p 0) (mod-one i))
+  task_same : (i : ℕ) → loop_task (q ∷ []) l i ≡ task_at q l i
+  task_same i = ap (λ (t : ℕ). record { tag = t; start = start_at l i }) (ap (λ p. get_or (q ∷ []) p 0) (mod-one i))
 
-  loop-cycle : LoopNeverCollides T (q ∷ []) l → NeverCollides T q l
-  loop-cycle n i j h c = n i j h (subst (λ (x : Task). Clash T x (loop_task (q ∷ []) l j)) (sym (task-same i)) (subst (Clash T (task_at q l i)) (sym (task-same j)) c))
+  loop_cycle : LoopNeverCollides T (q ∷ []) l → NeverCollides T q l
+  loop_cycle n i j h c = n i j h (subst (λ (x : Task). Clash T x (loop_task (q ∷ []) l j)) (sym (task_same i)) (subst (Clash T (task_at q l i)) (sym (task_same j)) c))
 
-  cycle-loop : NeverCollides T q l → LoopNeverCollides T (q ∷ []) l
-  cycle-loop n i j h c = n i j h (subst (λ (x : Task). Clash T x (task_at q l j)) (task-same i) (subst (Clash T (loop_task (q ∷ []) l i)) (task-same j) c))
+  cycle_loop : NeverCollides T q l → LoopNeverCollides T (q ∷ []) l
+  cycle_loop n i j h c = n i j h (subst (λ (x : Task). Clash T x (task_at q l j)) (task_same i) (subst (Clash T (loop_task (q ∷ []) l i)) (task_same j) c))
 
-  one-schedule : Cycle 1 l → Schedule (q ∷ []) l
-  one-schedule c = record { latencies = c; turns = length l; whole = sym (mul-one (length l)) }
+  one_schedule : Cycle 1 l → Schedule (q ∷ []) l
+  one_schedule c = record { latencies = c; turns = length l; whole = sym (mul-one (length l)) }
 
 pub one_tag : OneTag
 one_tag u q l cycle b c =
     omega (
       arith,
-      b.least cycle (one-schedule (marked u) q cycle c.latencies) (cycle-loop (marked u) q cycle c.never),
-      c.least l b.schedule.latencies (loop-cycle (marked u) q l b.never),
+      b.least cycle (one_schedule (marked u) q cycle c.latencies) (cycle_loop (marked u) q cycle c.never),
+      c.least l b.schedule.latencies (loop_cycle (marked u) q l b.never),
     )

@@ -31,13 +31,13 @@ diagram_right g n cv = record {
 module _ (g n cv : ℕ) where
   -- Walks
 
-  pub walk-there : {s e : ℕ} {l : List ℕ} → DWalk g n cv s l e → Walk (diagram_graph g n cv) s l e
-  walk-there dstay = stay
-  walk-there (dstep p w) = step p (walk-there w)
+  pub walk_there : {s e : ℕ} {l : List ℕ} → DWalk g n cv s l e → Walk (diagram_graph g n cv) s l e
+  walk_there dstay = stay
+  walk_there (dstep p w) = step p (walk_there w)
 
-  pub walk-back : {s e : ℕ} {l : List ℕ} → Walk (diagram_graph g n cv) s l e → DWalk g n cv s l e
-  walk-back stay = dstay
-  walk-back (step p w) = dstep p (walk-back w)
+  pub walk_back : {s e : ℕ} {l : List ℕ} → Walk (diagram_graph g n cv) s l e → DWalk g n cv s l e
+  walk_back stay = dstay
+  walk_back (step p w) = dstep p (walk_back w)
 
   -- The list of states
 
@@ -48,11 +48,11 @@ module _ (g n cv : ℕ) where
   add_same : (x : ℕ) (l : List ℕ) → add (diagram_graph g n cv) (diagram_tests g n cv) x l ≡ dadd x l
   add_same x l = ap (λ b. cond b l (l ++ (x ∷ []))) (has_same x l)
 
-  expand-same : (s t m : ℕ) (l : List ℕ) → expand (diagram_graph g n cv) (diagram_tests g n cv) s t m l ≡ dexpand g n cv s t m l
+  expand_same : (s t m : ℕ) (l : List ℕ) → expand (diagram_graph g n cv) (diagram_tests g n cv) s t m l ≡ dexpand g n cv s t m l
   unfolding expand dexpand
-  expand-same s t zero l = refl
-  expand-same s t (suc m) l =
-      expand-same s (suc t) m (cond (arc g n s t) (add (diagram_graph g n cv) (diagram_tests g n cv) (next cv s t) l) l)
+  expand_same s t zero l = refl
+  expand_same s t (suc m) l =
+      expand_same s (suc t) m (cond (arc g n s t) (add (diagram_graph g n cv) (diagram_tests g n cv) (next cv s t) l) l)
       ∙ ap (λ (k : List ℕ). dexpand g n cv s (suc t) m (cond (arc g n s t) k l)) (add_same (next cv s t) l)
 
   default : (l : List ℕ) (k d e : ℕ) → k < length l → get_or l k d ≡ get_or l k e
@@ -71,9 +71,9 @@ module _ (g n cv : ℕ) where
           ≡ cond b (dlistFrom g n cv f (suc k) (dexpand g n cv (get_or l k 0) 1 (longest g n) l)) l
       go true e r =
           r (expand (diagram_graph g n cv) (diagram_tests g n cv) (get_or l k cv) 1 (longest g n) l)
-          ∙ ap (dlistFrom g n cv f (suc k)) (expand-same (get_or l k cv) 1 (longest g n) l)
+          ∙ ap (dlistFrom g n cv f (suc k)) (expand_same (get_or l k cv) 1 (longest g n) l)
           ∙ ap (λ s. dlistFrom g n cv f (suc k) (dexpand g n cv s 1 (longest g n) l)) (default l k cv 0 (ltb-true k (length l) e))
       go false e r = refl
 
-  pub states-same : (cap : ℕ) → states cap (diagram_graph g n cv) (diagram_tests g n cv) ≡ dstates cap g n cv
-  states-same cap = list_same (cap + 1) 0 (cv ∷ [])
+  pub states_same : (cap : ℕ) → states cap (diagram_graph g n cv) (diagram_tests g n cv) ≡ dstates cap g n cv
+  states_same cap = list_same (cap + 1) 0 (cv ∷ [])

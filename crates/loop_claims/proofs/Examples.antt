@@ -29,7 +29,7 @@ use Rattle.loops.specs.Steps.{first_state, loop_graph, loop_states}
 use Rattle.loops.specs.Best.{BestLoop}
 use Rattle.loops.specs.Answers.{all_tags, loop_answer, LoopPromise}
 use Rattle.loops.proofs.StateLaws.{listed_all}
-use Rattle.loops.proofs.Sound.{sound-loop}
+use Rattle.loops.proofs.Sound.{sound_loop}
 
 abbrev ab : List ℕ
 ab = 1 ∷ 2 ∷ []
@@ -82,10 +82,10 @@ reached : Reachable (loop_graph figure2 ab) again
 reached = record { along = 1 ∷ 3 ∷ []; walk = first_13 }
 
 pub one_three_never : LoopNeverCollides (marked figure2) ab (1 ∷ 3 ∷ [])
-one_three_never = sound-loop figure2 ab figure2_sound figure2_loop again (1 ∷ 3 ∷ []) reached refl walk_13 (omega arith)
+one_three_never = sound_loop figure2 ab figure2_sound figure2_loop again (1 ∷ 3 ∷ []) reached refl walk_13 (omega arith)
 
 pub three_three_never : LoopNeverCollides (marked figure2) ab (3 ∷ 3 ∷ [])
-three_three_never = sound-loop figure2 ab figure2_sound figure2_loop again (3 ∷ 3 ∷ []) reached refl walk_33 (omega arith)
+three_three_never = sound_loop figure2 ab figure2_sound figure2_loop again (3 ∷ 3 ∷ []) reached refl walk_33 (omega arith)
 
 -- A started one or two time units after B collides with it
 
@@ -98,8 +98,8 @@ close (suc (suc (suc t))) h k = absurd (omega arith)
 
 -- so that in every rival the latency after a B is at least 3
 module _ (l : List ℕ) (p : Schedule ab l) (never : LoopNeverCollides (marked figure2) ab l) where
-  after-b : (i : ℕ) → i * 2 + 1 < length l → 3 ≤ get_or l (i * 2 + 1) 0
-  after-b i h = go (dec_le (get_or l (i * 2 + 1) 0) 2)
+  after_b : (i : ℕ) → i * 2 + 1 < length l → 3 ≤ get_or l (i * 2 + 1) 0
+  after_b i h = go (dec_le (get_or l (i * 2 + 1) 0) 2)
     where
       t : ℕ
       t = get_or l (i * 2 + 1) 0
@@ -149,7 +149,7 @@ one_three_best = record {
   cycle = record { reached = reached; closed = walk_13; apart = apart };
   never = one_three_never;
   least = λ rival p never.
-      omega (arith, p.whole, four_each p.turns rival p.whole p.latencies.each (after-b rival p never));
+      omega (arith, p.whole, four_each p.turns rival p.whole p.latencies.each (after_b rival p never));
 }
   where
     each : (i : ℕ) → i < 2 → 1 ≤ get_or (1 ∷ 3 ∷ []) i 0
@@ -175,7 +175,7 @@ three_three_not_best b = omega (arith, b.least (1 ∷ 3 ∷ []) one_three_best.s
 pub three_one_collides : LoopNeverCollides (marked figure2) (1 ∷ 2 ∷ []) (3 ∷ 1 ∷ []) → ⊥
 three_one_collides never =
     let p : Schedule ab (3 ∷ 1 ∷ []) = record { latencies = record { nonempty = omega arith; each = each }; turns = 1; whole = refl } in
-    omega (arith, after-b (3 ∷ 1 ∷ []) p never 0 (omega arith))
+    omega (arith, after_b (3 ∷ 1 ∷ []) p never 0 (omega arith))
   where
     each : (i : ℕ) → i < 2 → 1 ≤ get_or (3 ∷ 1 ∷ []) i 0
     each zero h = omega arith
@@ -220,7 +220,7 @@ module _ (l : List ℕ) (b : BestLoop figure2 ab l) where
   some = b.schedule.latencies.each
 
   late : (i : ℕ) → i * 2 + 1 < length l → 3 ≤ get_or l (i * 2 + 1) 0
-  late = after-b l b.schedule b.never
+  late = after_b l b.schedule b.never
 
   low : total l ≤ 4 * b.schedule.turns
   low = omega (arith, b.schedule.whole, b.least (1 ∷ 3 ∷ []) one_three_best.schedule one_three_never)

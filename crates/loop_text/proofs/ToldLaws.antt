@@ -21,7 +21,7 @@ use Rattle.collision.specs.Pipeline.{total}
 use Rattle.listing.specs.Lines.{newline, cycle_line, refused_line}
 use Rattle.session.specs.Sessions.{Line}
 use Rattle.command.specs.Lines.{in_front}
-use Rattle.command.proofs.FrontLaws.{front-taken}
+use Rattle.command.proofs.FrontLaws.{front_taken}
 use Rattle.planner.specs.declared.Handed.{Handed}
 use Rattle.loops.specs.Answers.{loop_answer, LoopFound, LoopPromise}
 use Rattle.loop_text.specs.Told.{LoopTold}
@@ -30,14 +30,14 @@ use Rattle.loop_text.specs.Inner.{held_line}
 -- The line
 
 module _ (u : FunctionUnit) (tags : List ℕ) (plan : Plan) (f : LoopFound u tags plan) where
-  count-is : plan.count ≡ length f.latencies
-  count-is = ap (λ (p : Plan). p.count) f.held
+  count_is : plan.count ≡ length f.latencies
+  count_is = ap (λ (p : Plan). p.count) f.held
 
-  pub count-few : plan.count ≤ 256
-  count-few = omega (arith, count-is, f.few)
+  pub count_few : plan.count ≤ 256
+  count_few = omega (arith, count_is, f.few)
 
-  pub held-is : held_line plan ≡ cycle_line "loop cycle" f.latencies
-  held-is =
+  pub held_is : held_line plan ≡ cycle_line "loop cycle" f.latencies
+  held_is =
       ap held_line f.held
       ∙ ap (λ (l : List ℕ). ascii "loop cycle" ++ spaced l ++ ascii " sum " ++ decimal (total f.latencies) ++ newline)
       (take_at f.latencies (replicate (256 - length f.latencies) 0) (length f.latencies) refl)
@@ -48,17 +48,17 @@ module _ (u : FunctionUnit) (tags words after : List ℕ) (r : Handed) (p : Loop
   says : r.answer ≡ loop_answer u tags 16000
   says = p.says ∙ ap (loop_answer u tags) room
 
-  pub told-found : (before bytes : List ℕ) (end : ℕ) → r.answer ≡ Done → Line (held_line r.plan) before bytes end → LoopTold u tags before bytes end
-  told-found before bytes end d l = record {
+  pub told_found : (before bytes : List ℕ) (end : ℕ) → r.answer ≡ Done → Line (held_line r.plan) before bytes end → LoopTold u tags before bytes end
+  told_found before bytes end d l = record {
     text = held_line r.plan;
-    found = λ e. let f = p.found d in record { latencies = f.latencies; best = f.best; spelled = held-is u tags r.plan f };
+    found = λ e. let f = p.found d in record { latencies = f.latencies; best = f.best; spelled = held_is u tags r.plan f };
     refused = λ why e. never_done (sym e ∙ sym says ∙ d);
     line = l;
   }
 
-  pub told-refused : (before bytes : List ℕ) (end : ℕ) (why : Refusal) → r.answer ≡ Refused why → Line (refused_line why) before bytes end
+  pub told_refused : (before bytes : List ℕ) (end : ℕ) (why : Refusal) → r.answer ≡ Refused why → Line (refused_line why) before bytes end
       → LoopTold u tags before bytes end
-  told-refused before bytes end why d l = record {
+  told_refused before bytes end why d l = record {
     text = refused_line why;
     found = λ e. never_done (sym d ∙ says ∙ e);
     refused = λ other e. let same : why ≡ other = only (sym d ∙ says ∙ e) in ap refused_line same;
@@ -101,4 +101,4 @@ told_cut u tags before after end t = go (dec_le (length tags) 8)
 pub told_line : (u : FunctionUnit) (tags before after : List ℕ) (end count : ℕ) (bytes : List ℕ) → count ≡ min (length tags) 9
     → bytes ≡ in_front tags (replicate 9 0) → LoopTold u (take count bytes) before after end → LoopTold u tags before after end
 told_line u tags before after end count bytes n e t =
-    told_cut u tags before after end (subst (λ (l : List ℕ). LoopTold u l before after end) (front-taken tags (replicate 9 0) n e) t)
+    told_cut u tags before after end (subst (λ (l : List ℕ). LoopTold u l before after end) (front_taken tags (replicate 9 0) n e) t)

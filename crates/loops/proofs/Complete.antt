@@ -25,7 +25,7 @@ use Rattle.loops.specs.Loop.{Loop, Schedule, tag_at, loop_task, LoopNeverCollide
 use Rattle.loops.specs.declared.State.{State}
 use Rattle.loops.specs.Steps.{Steps, next_tag, first_state, stepped, loop_graph, arc_graph}
 use Rattle.loops.proofs.BankLaws.{stepped_bit}
-use Rattle.loops.proofs.StepLaws.{Kept, tag-within, four, next-at, kept-first, kept_step, step_cut, permits-cut}
+use Rattle.loops.proofs.StepLaws.{Kept, tag_within, four, next_at, kept_first, kept_step, step_cut, permits_cut}
 
 neither : (a b : Bool) → a ≡ false → b ≡ false → a || b ≡ false
 neither a b p q = rw (p, q)
@@ -49,17 +49,17 @@ module _ (u : FunctionUnit) (tags : List ℕ) (sound : sound_of u ≡ true) (loo
   clear (suc j) r k w f =
       stepped_bit u (next_tag tags (at j)) (at j).bank (latency l j) r k (positive j) w.least (omega (arith, w.most, four u sound)) w.most
       ∙ neither _ _ (clear j r (latency l j + k) w (λ i h d e. f i (le_step h) d (omega arith)))
-      (ap (λ q. is_set (row_word (marked u) r q) k) (next-at u tags (first_state u tags) l refl j) ∙ f (suc j) (le_refl (suc j)) k refl)
+      (ap (λ q. is_set (row_word (marked u) r q) k) (next_at u tags (first_state u tags) l refl j) ∙ f (suc j) (le_refl (suc j)) k refl)
 
   module _ (never : LoopNeverCollides (marked u) tags l) where
     -- every latency is granted
-    pub rival-steps : (j : ℕ) → Steps tags (at j) (latency l j)
-    rival-steps j = record {
+    pub rival_steps : (j : ℕ) → Steps tags (at j) (latency l j)
+    rival_steps j = record {
       least = positive j;
       granted =
           bit_granted (at j).bank (latency l j) (next_tag tags (at j))
-          (ap (λ q. is_set (register (at j).bank q) (latency l j - 1)) (next-at u tags (first_state u tags) l refl j)
-          ∙ clear j (tag_at tags (suc j)) (latency l j - 1) (tag-within u tags loop (suc j)) off);
+          (ap (λ q. is_set (register (at j).bank q) (latency l j - 1)) (next_at u tags (first_state u tags) l refl j)
+          ∙ clear j (tag_at tags (suc j)) (latency l j - 1) (tag_within u tags loop (suc j)) off);
     }
       where
         off : (i : ℕ) → i ≤ j → (d : ℕ) → start_at l i + d ≡ start_at l j + (latency l j - 1)
@@ -72,20 +72,20 @@ module _ (u : FunctionUnit) (tags : List ℕ) (sound : sound_of u ≡ true) (loo
             ((row_says u (tag_at tags (suc j)) (tag_at tags i) d).0 b)))
 
     kept_at : (j : ℕ) → Kept u tags (at j)
-    kept_at zero = kept-first u tags sound loop
+    kept_at zero = kept_first u tags sound loop
     kept_at (suc j) = kept_step u tags sound loop (at j) (latency l j) (kept_at j)
 
-    complete-at : (i r : ℕ) → Walk (arc_graph u tags) (at i) (cuts (largest_column (marked u) + 1) l i r) (at (i + r))
-    complete-at i zero = rw add-zero stay
-    complete-at i (suc r) =
+    complete_at : (i r : ℕ) → Walk (arc_graph u tags) (at i) (cuts (largest_column (marked u) + 1) l i r) (at (i + r))
+    complete_at i zero = rw add-zero stay
+    complete_at i (suc r) =
         let shift : i + suc r ≡ suc i + r = omega arith in
         let rest : Walk (arc_graph u tags) (stepped u tags (at i) (min (latency l i) (largest_column (marked u) + 1))) (cuts (largest_column (marked u) + 1) l (suc i) r) (at (i + suc r)) =
-        rw (step_cut u tags sound loop (at i) (latency l i) (kept_at i), shift) (complete-at (suc i) r) in
-        step (permits-cut u tags sound loop (at i) (latency l i) (kept_at i) (rival-steps i)) rest
+        rw (step_cut u tags sound loop (at i) (latency l i) (kept_at i), shift) (complete_at (suc i) r) in
+        step (permits_cut u tags sound loop (at i) (latency l i) (kept_at i) (rival_steps i)) rest
 
     -- (complete) the latencies, as many as are wanted, each cut to n + 1, are a walk from the first state
-    pub complete-loop : (r : ℕ) → Walk (arc_graph u tags) (first_state u tags) (cuts (largest_column (marked u) + 1) l 0 r) (at r)
-    complete-loop r = rw zero-add at (complete-at 0 r)
+    pub complete_loop : (r : ℕ) → Walk (arc_graph u tags) (first_state u tags) (cuts (largest_column (marked u) + 1) l 0 r) (at r)
+    complete_loop r = rw zero-add at (complete_at 0 r)
 
 -- (rival) the average of every rival that never collides is at least S / K, if that of every walk from the first state is, up to a constant
 pub rival_loop : (u : FunctionUnit) (tags : List ℕ) → sound_of u ≡ true → Loop u tags
@@ -93,4 +93,4 @@ pub rival_loop : (u : FunctionUnit) (tags : List ℕ) → sound_of u ≡ true �
     → (rival : List ℕ) → Schedule tags rival → LoopNeverCollides (marked u) tags rival → S * length rival ≤ K * total rival
 rival_loop u tags sound loop S K E walks rival s never =
     rival_bound (largest_column (marked u) + 1) S K E rival
-    (λ r. walks (cuts (largest_column (marked u) + 1) rival 0 r) _ (complete-loop u tags sound loop rival s.latencies never r))
+    (λ r. walks (cuts (largest_column (marked u) + 1) rival 0 r) _ (complete_loop u tags sound loop rival s.latencies never r))

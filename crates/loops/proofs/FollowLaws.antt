@@ -11,12 +11,12 @@ use borrow.Author.Count.{below_more}
 use lib.ListN.{length, get_or, set, length-set}
 use lib.Seq.{get_or-set_same, get_or-set_other}
 use Rattle.graphs.specs.States.{add, expand, list_from}
-use Rattle.graphs.proofs.Listing.{visit, turn, expand-end, expand-more, expand-extends, list_more, list-end, list-extends}
+use Rattle.graphs.proofs.Listing.{visit, turn, expand_end, expand_more, expand_extends, list_more, list_end, list_extends}
 use Rattle.mean_cycle.specs.Nodes.{arc_word}
 use Rattle.loops.specs.declared.State.{State}
 use Rattle.loops.specs.declared.Rules.{Rules}
 use Rattle.loops.specs.Inner.{masked, advanced, rule_arc, rule_first, rule_graph, rule_tests, rule_states, state_of, put_state, list_in, Stocked, Target, visited, Turned, Listable, expanded, Followed, Entered, Explored}
-use Rattle.loops.proofs.StoreLaws.{put-size, put-high, put-state, state_kept, list_length, list_at, list_same}
+use Rattle.loops.proofs.StoreLaws.{put_size, put_high, put_state_lem, state_kept, list_length, list_at, list_same}
 use Rattle.loops.proofs.TurnLaws.{rule_right}
 
 -- the place of a word of the table
@@ -41,14 +41,14 @@ rest_more R s t l = go (dec_le t (R.width + 1))
         let m : ℕ = R.width + 2 - (t + 1) in
         let e : R.width + 2 - t ≡ suc m = omega arith in
         let f : suc t ≡ t + 1 = omega arith in
-        ap (λ n. expand (rule_graph R) (rule_tests R) s t n l) e ∙ expand-more (rule_graph R) (rule_tests R) s t m l
+        ap (λ n. expand (rule_graph R) (rule_tests R) s t n l) e ∙ expand_more (rule_graph R) (rule_tests R) s t m l
         ∙ ap (λ n. expand (rule_graph R) (rule_tests R) s n m (visit (rule_graph R) (rule_tests R) s t l)) f
         ∙ ap (expand (rule_graph R) (rule_tests R) s (t + 1) m) (sym (visited_short R s t l h))
     go (no h) =
         let e : R.width + 2 - t ≡ 0 = omega arith in
         let f : R.width + 2 - (t + 1) ≡ 0 = omega arith in
-        ap (λ n. expand (rule_graph R) (rule_tests R) s t n l) e ∙ expand-end (rule_graph R) (rule_tests R) s t l
-        ∙ sym (visited_long R s t l (omega arith)) ∙ sym (expand-end (rule_graph R) (rule_tests R) s (t + 1) (visited R s t l))
+        ap (λ n. expand (rule_graph R) (rule_tests R) s t n l) e ∙ expand_end (rule_graph R) (rule_tests R) s t l
+        ∙ sym (visited_long R s t l (omega arith)) ∙ sym (expand_end (rule_graph R) (rule_tests R) s (t + 1) (visited R s t l))
         ∙ ap (λ n. expand (rule_graph R) (rule_tests R) s (t + 1) n (visited R s t l)) (sym f)
 
 -- the latencies below t are done
@@ -116,7 +116,7 @@ follow_more {w₁} {w} {w'} {R} {k} {at} {s} {found} {t} {r} h inside le u few =
     }
 
 longer : (R : Rules) (s : State) (t m : ℕ) (l : List State) → length l ≤ length (expand (rule_graph R) (rule_tests R) s t m l)
-longer R s t m l = (expand-extends (rule_graph R) (rule_tests R) (rule_right R) s t m l).longer
+longer R s t m l = (expand_extends (rule_graph R) (rule_tests R) (rule_right R) s t m l).longer
 
 pub follow_over : {w₁ w w' : List ℕ} {R : Rules} {k at : ℕ} {s : State} {found t r : ℕ} → Following w₁ w R k at s found t
     → Turned w w' R found s at t r → 256 < r → 256 < length (expanded R s (list_in w₁ k))
@@ -133,24 +133,24 @@ module _ (w : List ℕ) (R : Rules) (k at : ℕ) (ready : Listable w k at) (word
   at_low : at < 256
   at_low = omega (arith, ready.inside, ready.few)
 
-  mark-state : (i : ℕ) → i < 256 → state_of w₁ i ≡ state_of w i
-  mark-state i l = state_kept w w₁ (λ j a b. get_or-set_other w at j word 0 (λ e. omega (arith, at_low))) i l
+  mark_state : (i : ℕ) → i < 256 → state_of w₁ i ≡ state_of w i
+  mark_state i l = state_kept w w₁ (λ j a b. get_or-set_other w at j word 0 (λ e. omega (arith, at_low))) i l
 
-  mark-list : list_in w₁ k ≡ list_in w k
-  mark-list = list_same w w₁ k (λ i l. mark-state i (omega (arith, ready.few)))
+  mark_list : list_in w₁ k ≡ list_in w k
+  mark_list = list_same w w₁ k (λ i l. mark_state i (omega (arith, ready.few)))
 
-  pub mark-stocked : Stocked w₁ k
-  mark-stocked i l = subst (λ (x : State). x.position < 8) (sym (mark-state i (omega (arith, ready.few)))) (ready.stocked i l)
+  pub mark_stocked : Stocked w₁ k
+  mark_stocked i l = subst (λ (x : State). x.position < 8) (sym (mark_state i (omega (arith, ready.few)))) (ready.stocked i l)
 
   module _ (s : State) (is : s ≡ state_of w at) (mask : word ≡ masked R s) where
     list_back : expanded R s (list_in w₁ k) ≡ expanded R (state_of w at) (list_in w k)
-    list_back = ap (λ (x : State). expanded R x (list_in w₁ k)) is ∙ ap (expanded R (state_of w at)) mark-list
+    list_back = ap (λ (x : State). expanded R x (list_in w₁ k)) is ∙ ap (expanded R (state_of w at)) mark_list
 
-    masked-at : masked R s ≡ masked R (state_of w at)
-    masked-at = ap (masked R) is
+    masked_at : masked R s ≡ masked R (state_of w at)
+    masked_at = ap (masked R) is
 
     marked : get_or w₁ at 0 ≡ masked R (state_of w at)
-    marked = get_or-set_same w at word 0 (omega (arith, at_low, ready.room)) ∙ mask ∙ masked-at
+    marked = get_or-set_same w at word 0 (omega (arith, at_low, ready.room)) ∙ mask ∙ masked_at
 
     word_kept : (w' : List ℕ) → ((j : ℕ) → j < 9984 → ((b : ℕ) → 1 ≤ b → b ≤ 32 → j ≡ slot_of at b → ⊥) → get_or w' j 0 ≡ get_or w₁ j 0) → get_or w' at 0 ≡ masked R (state_of w at)
     word_kept w' words = words at (omega (arith, at_low)) (λ b l m e. omega (arith, at_low)) ∙ marked
@@ -159,8 +159,8 @@ module _ (w : List ℕ) (R : Rules) (k at : ℕ) (ready : Listable w k at) (word
         → (j : ℕ) → j < 9984 → (j ≡ at → ⊥) → ((b : ℕ) → 1 ≤ b → b ≤ 32 → j ≡ slot_of at b → ⊥) → get_or w' j 0 ≡ get_or w j 0
     others w' words j l ne n = words j l n ∙ get_or-set_other w at j word 0 ne
 
-    pub followed-over : (w'' w' : List ℕ) (found t r : ℕ) → Following w₁ w'' R k at s found t → t ≤ 32 → Turned w'' w' R found s at t r → 256 < r → Followed w w' R k at r
-    followed-over w'' w' found t r h le u many =
+    pub followed_over : (w'' w' : List ℕ) (found t r : ℕ) → Following w₁ w'' R k at s found t → t ≤ 32 → Turned w'' w' R found s at t r → 256 < r → Followed w w' R k at r
+    followed_over w'' w' found t r h le u many =
         let grown = h.grown in
         let words : (j : ℕ) → j < 9984 → ((b : ℕ) → 1 ≤ b → b ≤ 32 → j ≡ slot_of at b → ⊥) → get_or w' j 0 ≡ get_or w₁ j 0 =
         λ j l n. u.words j l (n t h.some le) ∙ h.words j l n in
@@ -171,17 +171,17 @@ module _ (w : List ℕ) (R : Rules) (k at : ℕ) (ready : Listable w k at) (word
           over = λ z. subst (λ (l : List State). 256 < length l) list_back (follow_over h u many);
           row = λ z. absurd (omega arith);
           mask = word_kept w' words;
-          states = λ i l. u.states i (omega arith) ∙ h.states i l ∙ mark-state i (omega (arith, ready.few));
+          states = λ i l. u.states i (omega arith) ∙ h.states i l ∙ mark_state i (omega (arith, ready.few));
           words = others w' words;
           high = λ j l. u.high j l ∙ h.high j l ∙ get_or-set_other w at j word 0 (λ e. omega (arith, at_low));
           stocked = λ z. absurd (omega arith);
         }
 
-    pub followed-all : (w' : List ℕ) (found t : ℕ) → Following w₁ w' R k at s found t → 32 < t → R.width ≤ 31 → Followed w w' R k at found
-    followed-all w' found t h le slim =
+    pub followed_all : (w' : List ℕ) (found t : ℕ) → Following w₁ w' R k at s found t → 32 < t → R.width ≤ 31 → Followed w w' R k at found
+    followed_all w' found t h le slim =
         let e : R.width + 2 - t ≡ 0 = omega arith in
         let all : expanded R s (list_in w₁ k) ≡ list_in w' found =
-        h.list ∙ ap (λ n. expand (rule_graph R) (rule_tests R) s t n (list_in w' found)) e ∙ expand-end (rule_graph R) (rule_tests R) s t (list_in w' found) in
+        h.list ∙ ap (λ n. expand (rule_graph R) (rule_tests R) s t n (list_in w' found)) e ∙ expand_end (rule_graph R) (rule_tests R) s t (list_in w' found) in
         record {
           size = h.size ∙ length-set w at word;
           grown = h.grown;
@@ -189,7 +189,7 @@ module _ (w : List ℕ) (R : Rules) (k at : ℕ) (ready : Listable w k at) (word
           over = λ z. absurd (omega (arith, h.few));
           row = λ z b l m. subst (λ (x : State). Target w' R found x at b) is (h.row b (omega arith) l);
           mask = word_kept w' h.words;
-          states = λ i l. h.states i l ∙ mark-state i (omega (arith, ready.few));
+          states = λ i l. h.states i l ∙ mark_state i (omega (arith, ready.few));
           words = others w' h.words;
           high = λ j l. h.high j l ∙ get_or-set_other w at j word 0 (λ e. omega (arith, at_low));
           stocked = λ z. h.stocked;
@@ -210,7 +210,7 @@ pub record Exploring (w₀ w : List ℕ) (R : Rules) (k at : ℕ) : Type 0 where
 
 pub explore_start : (w : List ℕ) (R : Rules) (first : State) → 11264 ≤ length w → first ≡ rule_first R → Exploring (put_state w 0 first) (put_state w 0 first) R 1 0
 explore_start w R first room e =
-    let is : state_of (put_state w 0 first) 0 ≡ rule_first R = put-state w 0 first (omega arith) room ∙ e in
+    let is : state_of (put_state w 0 first) 0 ≡ rule_first R = put_state_lem w 0 first (omega arith) room ∙ e in
     record {
       size = refl;
       high = λ j l. refl;
@@ -287,7 +287,7 @@ explored_over {w} {w₀} {w₁} {w'} {R} {k} {at} {r} size high h inside f many 
           omega (
             arith,
             f.over many,
-            (list-extends (rule_graph R) (rule_tests R) (rule_right R) (257 - (at + 1)) (at + 1) (expanded R (state_of w₁ at) (list_in w₁ k))).longer,
+            (list_extends (rule_graph R) (rule_tests R) (rule_right R) (257 - (at + 1)) (at + 1) (expanded R (state_of w₁ at) (list_in w₁ k))).longer,
           );
     }
 
@@ -299,18 +299,18 @@ explored_all {w} {w₀} {w'} {R} {k} {at} size high h end =
       size = h.size ∙ size;
       high = λ j l. h.high j l ∙ high j l;
       some = h.some;
-      list = λ z. sym (h.list ∙ list-end (rule_graph R) (rule_tests R) (257 - at) at (list_in w' k) (omega (arith, list_length w' k)));
+      list = λ z. sym (h.list ∙ list_end (rule_graph R) (rule_tests R) (257 - at) at (list_in w' k) (omega (arith, list_length w' k)));
       done = λ z v l. h.done v (omega arith);
       over = λ z. absurd (omega (arith, h.few));
     }
 
 -- the first state is written before the loop
 module _ (w w₀ : List ℕ) (first : State) (put : w₀ ≡ put_state w 0 first) where
-  pub begin-size : length w₀ ≡ length w
-  begin-size = ap length put ∙ put-size w 0 first
+  pub begin_size : length w₀ ≡ length w
+  begin_size = ap length put ∙ put_size w 0 first
 
-  pub begin-high : (j : ℕ) → 11264 ≤ j → get_or w₀ j 0 ≡ get_or w j 0
-  begin-high j l = ap (λ (v : List ℕ). get_or v j 0) put ∙ put-high w 0 first j (omega arith) l
+  pub begin_high : (j : ℕ) → 11264 ≤ j → get_or w₀ j 0 ≡ get_or w j 0
+  begin_high j l = ap (λ (v : List ℕ). get_or v j 0) put ∙ put_high w 0 first j (omega arith) l
 
-  pub explore-begin : (R : Rules) → 11264 ≤ length w → first ≡ rule_first R → Exploring w₀ w₀ R 1 0
-  explore-begin R room e = subst (λ (v : List ℕ). Exploring v v R 1 0) (sym put) (explore_start w R first room e)
+  pub explore_begin : (R : Rules) → 11264 ≤ length w → first ≡ rule_first R → Exploring w₀ w₀ R 1 0
+  explore_begin R room e = subst (λ (v : List ℕ). Exploring v v R 1 0) (sym put) (explore_start w R first room e)

@@ -8,7 +8,7 @@ use native.Mathlib.Decide.{dec_le}
 use native.Mathlib.Omega.{arith}
 use lib.Bits.{bit_or}
 use lib.ListN.{length, get_or}
-use borrow.Author.Tests.{not-true}
+use borrow.Author.Tests.{not_true}
 use Rattle.words.specs.Bits.{bit, is_set}
 use Rattle.words.proofs.BitLaws.{unset_zero, zero_unset, bit_above}
 use Rattle.unit.specs.declared.FunctionUnit.{FunctionUnit}
@@ -20,7 +20,7 @@ use Rattle.controller.proofs.TickLaws.{granted_bit, bit_granted, register_below}
 use Rattle.diagram.specs.Diagram.{Permits}
 use Rattle.diagram.specs.Work.{state_in}
 use Rattle.graphs.specs.Graph.{Graph, Walk, stay, step, Reachable, states_along, CycleAt}
-use Rattle.graphs.proofs.Listing.{states-distinct, states-reached, list-extends}
+use Rattle.graphs.proofs.Listing.{states_distinct, states_reached, list_extends}
 use Rattle.mean_cycle.specs.declared.Cycle.{Cycle}
 use Rattle.mean_cycle.specs.Mean.{found}
 use Rattle.mean_cycle.specs.Nodes.{arc_word, Arc, NodeWalk, rest, onward, Least, cyc}
@@ -33,8 +33,8 @@ use Rattle.loops.specs.Steps.{ShortStep, following, next_tag, first_state, stepp
 use Rattle.loops.specs.Best.{BestLoop}
 use Rattle.loops.specs.Inner.{Sane, RulesOf, position_after, masked, advanced, rule_arc, rule_first, RuleStep, rule_graph, rule_tests, rule_states, state_of, Explored}
 use Rattle.loops.proofs.BankLaws.{started_value}
-use Rattle.loops.proofs.StepLaws.{Kept, kept-arcs}
-use Rattle.loops.proofs.BestLaws.{to_start, best-loop}
+use Rattle.loops.proofs.StepLaws.{Kept, kept_arcs}
+use Rattle.loops.proofs.BestLaws.{to_start, best_loop}
 use Rattle.graphs.specs.Rotation.{rotate}
 use Rattle.loops.proofs.StoreLaws.{list_length, list_at}
 use Rattle.loops.proofs.TurnLaws.{rule_right}
@@ -43,37 +43,37 @@ use Rattle.loops.proofs.TurnLaws.{rule_right}
 
 module _ (G : Graph) (c : ℕ → ℕ) (f : ℕ → G.State) (count : ℕ) (permits : (i : ℕ) → i < count → G.Permits (f i) (c i))
     (leads : (i : ℕ) → i < count → f (suc i) ≡ G.next (f i) (c i)) where
-  walk-spell : (m i k : ℕ) → i + m ≡ k → k ≤ count → Walk G (f i) (spell c i m) (f k)
-  walk-spell zero i k e l =
+  walk_spell : (m i k : ℕ) → i + m ≡ k → k ≤ count → Walk G (f i) (spell c i m) (f k)
+  walk_spell zero i k e l =
       let q : i ≡ k = omega arith in
       subst (λ (z : ℕ). Walk G (f i) [] (f z)) q stay
-  walk-spell (suc m) i k e l =
+  walk_spell (suc m) i k e l =
       step (permits i (omega arith))
-      (subst (λ (s : G.State). Walk G s (spell c (suc i) m) (f k)) (leads i (omega arith)) (walk-spell m (suc i) k (omega arith) l))
+      (subst (λ (s : G.State). Walk G s (spell c (suc i) m) (f k)) (leads i (omega arith)) (walk_spell m (suc i) k (omega arith) l))
 
-  along-more : (m i : ℕ) → i < count → states_along G (f i) (spell c i (suc m)) ≡ f i ∷ states_along G (f (suc i)) (spell c (suc i) m)
-  along-more m i l = ap (λ (s : G.State). f i ∷ states_along G s (spell c (suc i) m)) (sym (leads i l))
+  along_more : (m i : ℕ) → i < count → states_along G (f i) (spell c i (suc m)) ≡ f i ∷ states_along G (f (suc i)) (spell c (suc i) m)
+  along_more m i l = ap (λ (s : G.State). f i ∷ states_along G s (spell c (suc i) m)) (sym (leads i l))
 
   along_length : (m i : ℕ) → i + m ≤ count → length (states_along G (f i) (spell c i m)) ≡ m
   along_length zero i l = refl
-  along_length (suc m) i l = ap length (along-more m i (omega arith)) ∙ ap suc (along_length m (suc i) (omega arith))
+  along_length (suc m) i l = ap length (along_more m i (omega arith)) ∙ ap suc (along_length m (suc i) (omega arith))
 
   along_at : (m i j : ℕ) → i + m ≤ count → j < m → get_or (states_along G (f i) (spell c i m)) j G.first ≡ f (i + j)
   along_at zero i j l h = absurd (not-suc-le-zero h)
   along_at (suc m) i zero l h = let e : i ≡ i + 0 = omega arith in ap f e
   along_at (suc m) i (suc j) l h =
       let e : suc i + j ≡ i + suc j = omega arith in
-      ap (λ (s : List G.State). get_or s (suc j) G.first) (along-more m i (omega arith))
+      ap (λ (s : List G.State). get_or s (suc j) G.first) (along_more m i (omega arith))
       ∙ along_at m (suc i) j (omega arith) (le_of_suc-le-suc h) ∙ ap f e
 
-  pub sequence-cycle : Reachable G (f 0) → f count ≡ f 0 → ((i j : ℕ) → i < count → j < count → f i ≡ f j → i ≡ j) → CycleAt G (f 0) (spell c 0 count)
-  sequence-cycle reached closed apart =
+  pub sequence_cycle : Reachable G (f 0) → f count ≡ f 0 → ((i j : ℕ) → i < count → j < count → f i ≡ f j → i ≡ j) → CycleAt G (f 0) (spell c 0 count)
+  sequence_cycle reached closed apart =
       let size = along_length count 0 (omega arith) in
       let at : (i : ℕ) → i < count → get_or (states_along G (f 0) (spell c 0 count)) i G.first ≡ f i =
       λ i l. let e : 0 + i ≡ i = omega arith in along_at count 0 i (omega arith) l ∙ ap f e in
       record {
         reached = reached;
-        closed = subst (λ (s : G.State). Walk G (f 0) (spell c 0 count) s) closed (walk-spell count 0 count (omega arith) (omega arith));
+        closed = subst (λ (s : G.State). Walk G (f 0) (spell c 0 count) s) closed (walk_spell count 0 count (omega arith) (omega arith));
         apart = λ i j l m e.
             let low : j < count = omega (arith, size) in
             let q : i ≡ j = apart i j (omega arith) low (sym (at i (omega arith)) ∙ e ∙ at j low) in
@@ -86,8 +86,8 @@ module _ (u : FunctionUnit) (tags : List ℕ) (loop : Loop u tags) (R : Rules) (
   after_same : (s : State) → position_after R s.position ≡ following tags s
   after_same s = ap (λ n. (s.position + 1) % n) rules.count
 
-  pub mask-same : (s : State) → masked R s ≡ register s.bank (next_tag tags s)
-  mask-same s =
+  pub mask_same : (s : State) → masked R s ≡ register s.bank (next_tag tags s)
+  mask_same s =
       ap (λ p. register s.bank (get_or R.tags p 0)) (after_same s)
       ∙ ap (register s.bank) (rules.tag (following tags s) (mod-lt (s.position + 1) loop.some))
 
@@ -98,8 +98,8 @@ module _ (u : FunctionUnit) (tags : List ℕ) (loop : Loop u tags) (R : Rules) (
   row_first p h = let e : p * 4 ≡ p * 4 + 0 = omega arith in ap (λ k. get_or R.rows k 0) e ∙ row_at p 0 h (omega arith)
 
   -- the state that the rules lead to is the state after the step
-  pub advance-same : (s : State) (t : ℕ) → 1 ≤ t → advanced R s t ≡ stepped u tags s t
-  advance-same s t h =
+  pub advance_same : (s : State) (t : ℕ) → 1 ≤ t → advanced R s t ≡ stepped u tags s t
+  advance_same s t h =
       let p : ℕ = following tags s in
       let l : p < length tags = mod-lt (s.position + 1) loop.some in
       let a = after_same s in
@@ -119,8 +119,8 @@ module _ (u : FunctionUnit) (tags : List ℕ) (loop : Loop u tags) (R : Rules) (
       })
       ∙ (λ i. record { position = following tags s; bank = sym v i })
 
-  pub first-same : rule_first R ≡ first_state u tags
-  first-same =
+  pub first_same : rule_first R ≡ first_state u tags
+  first_same =
       let l = loop.some in
       λ i. record {
         position = 0;
@@ -132,40 +132,40 @@ module _ (u : FunctionUnit) (tags : List ℕ) (loop : Loop u tags) (R : Rules) (
         };
       }
 
-  free-bit : (b : Bool) → not b ≡ true → b ≡ false
-  free-bit b e = not-true b e
+  free_bit : (b : Bool) → not b ≡ true → b ≡ false
+  free_bit b e = not_true b e
 
-  pub rule-step : (s : State) (t : ℕ) → RuleStep R s t → ShortStep (largest_column (marked u)) tags s t
-  rule-step s t p = record {
+  pub rule_step : (s : State) (t : ℕ) → RuleStep R s t → ShortStep (largest_column (marked u)) tags s t
+  rule_step s t p = record {
     step = record {
       least = p.least;
-      granted = bit_granted s.bank t (next_tag tags s) (ap (λ m. is_set m (t - 1)) (sym (mask-same s)) ∙ not-true _ p.free);
+      granted = bit_granted s.bank t (next_tag tags s) (ap (λ m. is_set m (t - 1)) (sym (mask_same s)) ∙ not_true _ p.free);
     };
     most = omega (arith, p.most, rules.width);
   }
 
-  pub step-rule : (s : State) (t : ℕ) → ShortStep (largest_column (marked u)) tags s t → RuleStep R s t
-  step-rule s t p = record {
+  pub step_rule : (s : State) (t : ℕ) → ShortStep (largest_column (marked u)) tags s t → RuleStep R s t
+  step_rule s t p = record {
     least = p.step.least;
     most = omega (arith, p.most, rules.width);
-    free = ap not (ap (λ m. is_set m (t - 1)) (mask-same s) ∙ granted_bit s.bank t (next_tag tags s) p.step.granted);
+    free = ap not (ap (λ m. is_set m (t - 1)) (mask_same s) ∙ granted_bit s.bank t (next_tag tags s) p.step.granted);
   }
 
-  rules-arcs : {s e : State} {l : List ℕ} → Walk (rule_graph R) s l e → Walk (arc_graph u tags) s l e
-  rules-arcs stay = stay
-  rules-arcs (step {s} {e} {t} {l} p w) =
-      step (rule-step s t p) (subst (λ (x : State). Walk (arc_graph u tags) x l e) (advance-same s t p.least) (rules-arcs w))
+  rules_arcs : {s e : State} {l : List ℕ} → Walk (rule_graph R) s l e → Walk (arc_graph u tags) s l e
+  rules_arcs stay = stay
+  rules_arcs (step {s} {e} {t} {l} p w) =
+      step (rule_step s t p) (subst (λ (x : State). Walk (arc_graph u tags) x l e) (advance_same s t p.least) (rules_arcs w))
 
-  pub arcs-rules : {s e : State} {l : List ℕ} → Walk (arc_graph u tags) s l e → Walk (rule_graph R) s l e
-  arcs-rules stay = stay
-  arcs-rules (step {s} {e} {t} {l} p w) =
-      step (step-rule s t p) (subst (λ (x : State). Walk (rule_graph R) x l e) (sym (advance-same s t p.step.least)) (arcs-rules w))
+  pub arcs_rules : {s e : State} {l : List ℕ} → Walk (arc_graph u tags) s l e → Walk (rule_graph R) s l e
+  arcs_rules stay = stay
+  arcs_rules (step {s} {e} {t} {l} p w) =
+      step (step_rule s t p) (subst (λ (x : State). Walk (rule_graph R) x l e) (sym (advance_same s t p.step.least)) (arcs_rules w))
 
-  pub rules-reached : (s : State) → Reachable (rule_graph R) s → Reachable (arc_graph u tags) s
-  rules-reached s r = record { along = r.along; walk = subst (λ (x : State). Walk (arc_graph u tags) x r.along s) first-same (rules-arcs r.walk) }
+  pub rules_reached : (s : State) → Reachable (rule_graph R) s → Reachable (arc_graph u tags) s
+  rules_reached s r = record { along = r.along; walk = subst (λ (x : State). Walk (arc_graph u tags) x r.along s) first_same (rules_arcs r.walk) }
 
-  pub reached-rules : (s : State) → Reachable (arc_graph u tags) s → Reachable (rule_graph R) s
-  reached-rules s r = record { along = r.along; walk = subst (λ (x : State). Walk (rule_graph R) x r.along s) (sym first-same) (arcs-rules r.walk) }
+  pub reached_rules : (s : State) → Reachable (arc_graph u tags) s → Reachable (rule_graph R) s
+  reached_rules s r = record { along = r.along; walk = subst (λ (x : State). Walk (rule_graph R) x r.along s) (sym first_same) (arcs_rules r.walk) }
 
   -- The nodes
 
@@ -173,41 +173,41 @@ module _ (u : FunctionUnit) (tags : List ℕ) (loop : Loop u tags) (R : Rules) (
     node_at : (v : ℕ) → v < r → state_of w v ≡ get_or (rule_states R) v (rule_first R)
     node_at v l = sym (list_at w (rule_first R) r v l) ∙ ap (λ (m : List State). get_or m v (rule_first R)) (h.list few)
 
-    pub node-count : length (rule_states R) ≡ r
-    node-count = ap length (sym (h.list few)) ∙ list_length w r
+    pub node_count : length (rule_states R) ≡ r
+    node_count = ap length (sym (h.list few)) ∙ list_length w r
 
-    node-reached : (v : ℕ) → v < r → Reachable (arc_graph u tags) (state_of w v)
-    node-reached v l =
-        rules-reached (state_of w v)
-        (subst (Reachable (rule_graph R)) (sym (node_at v l)) (states-reached (rule_graph R) (rule_tests R) (rule_right R) 256 v (omega (arith, node-count))))
+    node_reached : (v : ℕ) → v < r → Reachable (arc_graph u tags) (state_of w v)
+    node_reached v l =
+        rules_reached (state_of w v)
+        (subst (Reachable (rule_graph R)) (sym (node_at v l)) (states_reached (rule_graph R) (rule_tests R) (rule_right R) 256 v (omega (arith, node_count))))
 
     pub node_kept : (v : ℕ) → v < r → Kept u tags (state_of w v)
-    node_kept v l = kept-arcs u tags sound loop (state_of w v) (node-reached v l)
+    node_kept v l = kept_arcs u tags sound loop (state_of w v) (node_reached v l)
 
-    node-first : state_of w 0 ≡ first_state u tags
-    node-first =
-        node_at 0 h.some ∙ (list-extends (rule_graph R) (rule_tests R) (rule_right R) 257 0 (rule_first R ∷ [])).same 0 (omega arith) ∙ first-same
+    node_first : state_of w 0 ≡ first_state u tags
+    node_first =
+        node_at 0 h.some ∙ (list_extends (rule_graph R) (rule_tests R) (rule_right R) 257 0 (rule_first R ∷ [])).same 0 (omega arith) ∙ first_same
 
-    node-apart : (i j : ℕ) → i < r → j < r → state_of w i ≡ state_of w j → i ≡ j
-    node-apart i j l m e =
+    node_apart : (i j : ℕ) → i < r → j < r → state_of w i ≡ state_of w j → i ≡ j
+    node_apart i j l m e =
         let same : get_or (rule_states R) i (rule_first R) ≡ get_or (rule_states R) j (rule_first R) = sym (node_at i l) ∙ e ∙ node_at j m in
-        let below : (i < j → ⊥) = λ o. states-distinct (rule_graph R) (rule_tests R) (rule_right R) 256 i j o (omega (arith, node-count)) same in
-        let above : (j < i → ⊥) = λ o. states-distinct (rule_graph R) (rule_tests R) (rule_right R) 256 j i o (omega (arith, node-count)) (sym same) in
+        let below : (i < j → ⊥) = λ o. states_distinct (rule_graph R) (rule_tests R) (rule_right R) 256 i j o (omega (arith, node_count)) same in
+        let above : (j < i → ⊥) = λ o. states_distinct (rule_graph R) (rule_tests R) (rule_right R) 256 j i o (omega (arith, node_count)) (sym same) in
         omega arith
 
-    node-narrow : (v : ℕ) → v < r → state_in w v < 2 ^ R.width
-    node-narrow v l =
+    node_narrow : (v : ℕ) → v < r → state_in w v < 2 ^ R.width
+    node_narrow v l =
         subst (λ (n : ℕ). state_in w v < 2 ^ n) (sym rules.width)
-        (subst (λ (m : ℕ). m < 2 ^ largest_column (marked u)) (sym ((h.done few v l).mask ∙ mask-same (state_of w v)))
+        (subst (λ (m : ℕ). m < 2 ^ largest_column (marked u)) (sym ((h.done few v l).mask ∙ mask_same (state_of w v)))
         (register_below (largest_column (marked u)) (state_of w v).bank (next_tag tags (state_of w v)) (node_kept v l).below))
 
-    pub explored-table : TableGraph w r R.width
-    explored-table = record {
+    pub explored_table : TableGraph w r R.width
+    explored_table = record {
       some = h.some;
       few = few;
       room = omega (arith, h.size, room);
       slim = sane.slim;
-      narrow = node-narrow;
+      narrow = node_narrow;
       targets = λ a l.
           let v : ℕ = a / 32 in
           let t : ℕ = a % 32 + 1 in
@@ -217,26 +217,26 @@ module _ (u : FunctionUnit) (tags : List ℕ) (loop : Loop u tags) (R : Rules) (
     }
 
     -- an arc of the table is a step
-    arc-rule : {v t x : ℕ} → Arc w (tabled r R.width) v t x → RuleStep R (state_of w v) t
-    arc-rule {v} {t} {x} a = record { least = a.permits.positive; most = omega (arith, a.permits.small); free = free (dec_le t R.width) }
+    arc_rule : {v t x : ℕ} → Arc w (tabled r R.width) v t x → RuleStep R (state_of w v) t
+    arc_rule {v} {t} {x} a = record { least = a.permits.positive; most = omega (arith, a.permits.small); free = free (dec_le t R.width) }
       where
         zeros : bit (state_in w v) (t - 1) ≡ 0 → rule_arc R (state_of w v) t ≡ true
         zeros z = ap not (ap (λ m. is_set m (t - 1)) (sym (h.done few v a.leaves).mask) ∙ zero_unset (state_in w v) (t - 1) z)
 
         free : Dec (t ≤ R.width) → rule_arc R (state_of w v) t ≡ true
         free (yes l) = zeros (a.permits.free l)
-        free (no l) = zeros (bit_above (state_in w v) R.width (t - 1) (node-narrow v a.leaves) (omega arith))
+        free (no l) = zeros (bit_above (state_in w v) R.width (t - 1) (node_narrow v a.leaves) (omega arith))
 
-    arc-state : {v t x : ℕ} → Arc w (tabled r R.width) v t x → state_of w x ≡ stepped u tags (state_of w v) t
-    arc-state {v} {t} {x} a =
-        let p = arc-rule a in
+    arc_state : {v t x : ℕ} → Arc w (tabled r R.width) v t x → state_of w x ≡ stepped u tags (state_of w v) t
+    arc_state {v} {t} {x} a =
+        let p = arc_rule a in
         ap (state_of w) (sym a.leads) ∙ ((h.done few v a.leaves).row t p.least a.high).leads p.most p.free
-        ∙ advance-same (state_of w v) t p.least
+        ∙ advance_same (state_of w v) t p.least
 
     -- a step is an arc of the table
-    step-arc : (v t : ℕ) → v < r → ShortStep (largest_column (marked u)) tags (state_of w v) t → Arc w (tabled r R.width) v t (arc_word w v t)
-    step-arc v t l p =
-        let q = step-rule (state_of w v) t p in
+    step_arc : (v t : ℕ) → v < r → ShortStep (largest_column (marked u)) tags (state_of w v) t → Arc w (tabled r R.width) v t (arc_word w v t)
+    step_arc v t l p =
+        let q = step_rule (state_of w v) t p in
         let low = q.least in
         let top : t ≤ 32 = omega (arith, q.most, sane.slim) in
         record {
@@ -246,7 +246,7 @@ module _ (u : FunctionUnit) (tags : List ℕ) (loop : Loop u tags) (R : Rules) (
             positive = q.least;
             spaced = q.least;
             small = omega (arith, q.most);
-            free = λ m. unset_zero (state_in w v) (t - 1) (ap (λ k. is_set k (t - 1)) (h.done few v l).mask ∙ not-true _ q.free);
+            free = λ m. unset_zero (state_in w v) (t - 1) (ap (λ k. is_set k (t - 1)) (h.done few v l).mask ∙ not_true _ q.free);
           };
           high = top;
           leads = refl;
@@ -255,37 +255,37 @@ module _ (u : FunctionUnit) (tags : List ℕ) (loop : Loop u tags) (R : Rules) (
     walk_nodes : {s e : State} {l : List ℕ} → Walk (arc_graph u tags) s l e → (v : ℕ) → v < r → state_of w v ≡ s → (x : ℕ) × NodeWalk w (tabled r R.width) v l x
     walk_nodes stay v l same = (v, rest)
     walk_nodes (step {s} {e} {t} p k) v l same =
-        let a = step-arc v t l (subst (λ (x : State). ShortStep (largest_column (marked u)) tags x t) (sym same) p) in
-        let m = walk_nodes k (arc_word w v t) a.enters (arc-state a ∙ ap (λ (x : State). stepped u tags x t) same) in
+        let a = step_arc v t l (subst (λ (x : State). ShortStep (largest_column (marked u)) tags x t) (sym same) p) in
+        let m = walk_nodes k (arc_word w v t) a.enters (arc_state a ∙ ap (λ (x : State). stepped u tags x t) same) in
         (m.0, onward a m.1)
 
     -- the cycle that was found, turned so that it begins at position 0
-    pub explored-best : (after : List ℕ) (c : Cycle) → Least w after (tabled r R.width) c
+    pub explored_best : (after : List ℕ) (c : Cycle) → Least w after (tabled r R.width) c
         → BestLoop u tags (rotate (found after c) (to_start tags (state_of w c.start)))
-    explored-best after c l =
+    explored_best after c l =
         let z = l.cycle in
         let count : ℕ = c.count in
         let short : count ≤ 256 = omega (arith, z.few) in
         let spelled : found after c ≡ spell (cyc after) 0 count = cycle_spell after count (omega (arith, l.frame.size, h.size)) in
         let sum : total (spell (cyc after) 0 count) ≡ c.sum = total_spell (cyc after) count ∙ sym z.total in
-        let long : length (spell (cyc after) 0 count) ≡ count = spell-length (cyc after) count 0 in
+        let long : length (spell (cyc after) 0 count) ≡ count = spell_length (cyc after) count 0 in
         let cycle : CycleAt (arc_graph u tags) (state_of w (z.node 0)) (spell (cyc after) 0 count) =
-        sequence-cycle (arc_graph u tags) (cyc after) (λ i. state_of w (z.node i)) count
-        (λ i m. rule-step (state_of w (z.node i)) (cyc after i) (arc-rule (z.arcs i m)))
-        (λ i m. arc-state (z.arcs i m))
-        (node-reached (z.node 0) (z.arcs 0 z.some).leaves)
+        sequence_cycle (arc_graph u tags) (cyc after) (λ i. state_of w (z.node i)) count
+        (λ i m. rule_step (state_of w (z.node i)) (cyc after i) (arc_rule (z.arcs i m)))
+        (λ i m. arc_state (z.arcs i m))
+        (node_reached (z.node 0) (z.arcs 0 z.some).leaves)
         (ap (state_of w) z.closed)
-        (λ i j m n e. z.apart i j m n (node-apart (z.node i) (z.node j) (z.arcs i m).leaves (z.arcs j n).leaves e)) in
+        (λ i j m n e. z.apart i j m n (node_apart (z.node i) (z.node j) (z.arcs i m).leaves (z.arcs j n).leaves e)) in
         let floor : (k : List ℕ) (e : State) → Walk (arc_graph u tags) (first_state u tags) k e
         → total (spell (cyc after) 0 count) * length k ≤ length (spell (cyc after) 0 count) * total k + l.floor.bound =
         λ k e walk.
-        let m = walk_nodes walk 0 h.some node-first in
+        let m = walk_nodes walk 0 h.some node_first in
         rw (sum, long) (l.floor.every k m.0 m.1) in
         let best : BestLoop u tags (rotate (spell (cyc after) 0 count) (to_start tags (state_of w (z.node 0)))) =
-        best-loop u tags sound loop (state_of w (z.node 0)) (spell (cyc after) 0 count) cycle (omega (arith, long, z.some)) l.floor.bound floor in
+        best_loop u tags sound loop (state_of w (z.node 0)) (spell (cyc after) 0 count) cycle (omega (arith, long, z.some)) l.floor.bound floor in
         subst (λ (k : List ℕ). BestLoop u tags (rotate k (to_start tags (state_of w c.start)))) (sym spelled)
         (subst (λ (v : ℕ). BestLoop u tags (rotate (spell (cyc after) 0 count) (to_start tags (state_of w v)))) z.begins best)
       where
-        spell-length : (f : ℕ → ℕ) (m i : ℕ) → length (spell f i m) ≡ m
-        spell-length f zero i = refl
-        spell-length f (suc m) i = ap suc (spell-length f m (suc i))
+        spell_length : (f : ℕ → ℕ) (m i : ℕ) → length (spell f i m) ≡ m
+        spell_length f zero i = refl
+        spell_length f (suc m) i = ap suc (spell_length f m (suc i))

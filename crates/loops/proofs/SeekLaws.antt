@@ -41,43 +41,43 @@ use Rattle.loops.proofs.StateLaws.{tests_right}
 use Rattle.loops.proofs.BestLaws.{to_start}
 use Rattle.loops.proofs.StoreLaws.{state_kept}
 use Rattle.loops.proofs.TurnLaws.{rule_right}
-use Rattle.loops.proofs.NodeLaws.{first-same, rules-reached, reached-rules, node_kept, node-count, explored-table, explored-best}
+use Rattle.loops.proofs.NodeLaws.{first_same, rules_reached, reached_rules, node_kept, node_count, explored_table, explored_best}
 use Rattle.loops.proofs.PlanLaws.{standing_length}
 use Rattle.loops.proofs.RulingLaws.{all_known}
 
 -- How many states there are, by the rules and by the steps
 
 module _ (u : FunctionUnit) (tags : List ℕ) (loop : Loop u tags) (R : Rules) (h : Ruled u tags R) where
-  other-default : (l : List State) (i : ℕ) → get_or l i (rule_first R) ≡ get_or l i (first_state u tags)
-  other-default l i = ap (get_or l i) (first-same u tags loop R h.rules)
+  other_default : (l : List State) (i : ℕ) → get_or l i (rule_first R) ≡ get_or l i (first_state u tags)
+  other_default l i = ap (get_or l i) (first_same u tags loop R h.rules)
 
-  rules-more : More 256 (rule_graph R) → More 256 (arc_graph u tags)
-  rules-more m = record {
+  rules_more : More 256 (rule_graph R) → More 256 (arc_graph u tags)
+  rules_more m = record {
     some = m.some;
     many = m.many;
-    distinct = λ i j l k e. m.distinct i j l k (other-default m.some i ∙ e ∙ sym (other-default m.some j));
+    distinct = λ i j l k e. m.distinct i j l k (other_default m.some i ∙ e ∙ sym (other_default m.some j));
     reached = λ i l.
-        subst (Reachable (arc_graph u tags)) (other-default m.some i)
-        (rules-reached u tags loop R h.rules (get_or m.some i (rule_first R)) (m.reached i l));
+        subst (Reachable (arc_graph u tags)) (other_default m.some i)
+        (rules_reached u tags loop R h.rules (get_or m.some i (rule_first R)) (m.reached i l));
   }
 
-  more-rules : More 256 (arc_graph u tags) → More 256 (rule_graph R)
-  more-rules m = record {
+  more_rules : More 256 (arc_graph u tags) → More 256 (rule_graph R)
+  more_rules m = record {
     some = m.some;
     many = m.many;
-    distinct = λ i j l k e. m.distinct i j l k (sym (other-default m.some i) ∙ e ∙ other-default m.some j);
+    distinct = λ i j l k e. m.distinct i j l k (sym (other_default m.some i) ∙ e ∙ other_default m.some j);
     reached = λ i l.
-        subst (Reachable (rule_graph R)) (sym (other-default m.some i))
-        (reached-rules u tags loop R h.rules (get_or m.some i (first_state u tags)) (m.reached i l));
+        subst (Reachable (rule_graph R)) (sym (other_default m.some i))
+        (reached_rules u tags loop R h.rules (get_or m.some i (first_state u tags)) (m.reached i l));
   }
 
-  pub many-states : 256 < length (rule_states R) → 256 < length (loop_states u tags)
-  many-states l =
+  pub many_states : 256 < length (rule_states R) → 256 < length (loop_states u tags)
+  many_states l =
       (too_many 256 (arc_graph u tags) (arc_tests u tags) (tests_right u tags)).0
-      (rules-more ((too_many 256 (rule_graph R) (rule_tests R) (rule_right R)).1 l))
+      (rules_more ((too_many 256 (rule_graph R) (rule_tests R) (rule_right R)).1 l))
 
-  pub few-states : length (rule_states R) ≤ 256 → length (loop_states u tags) ≤ 256
-  few-states l = go (dec_lt 256 (length (loop_states u tags)))
+  pub few_states_lem : length (rule_states R) ≤ 256 → length (loop_states u tags) ≤ 256
+  few_states_lem l = go (dec_lt 256 (length (loop_states u tags)))
     where
       go : Dec (256 < length (loop_states u tags)) → length (loop_states u tags) ≤ 256
       go (yes m) =
@@ -85,7 +85,7 @@ module _ (u : FunctionUnit) (tags : List ℕ) (loop : Loop u tags) (R : Rules) (
           (omega (
             arith,
             (too_many 256 (rule_graph R) (rule_tests R) (rule_right R)).0
-                (more-rules ((too_many 256 (arc_graph u tags) (arc_tests u tags) (tests_right u tags)).1 m)),
+                (more_rules ((too_many 256 (arc_graph u tags) (arc_tests u tags) (tests_right u tags)).1 m)),
           ))
       go (no m) = omega arith
 
@@ -97,7 +97,7 @@ sought_many u tags w w' R r a k h x l e p =
     record {
       size = x.size;
       beyond = λ j m. x.high j (omega arith);
-      says = e ∙ sym (ap (λ b. check b TooManyStates Done) (lt-leb (length (loop_states u tags)) 256 (many-states u tags k.loop R h (x.over l))));
+      says = e ∙ sym (ap (λ b. check b TooManyStates Done) (lt-leb (length (loop_states u tags)) 256 (many_states u tags k.loop R h (x.over l))));
       found = λ f. never_done (sym e ∙ f);
       none = λ why f. p;
     }
@@ -107,7 +107,7 @@ sought_many u tags w w' R r a k h x l e p =
 pub never_no : (u : FunctionUnit) (tags w w₁ w₂ : List ℕ) (R : Rules) (r : ℕ) → Checked u tags w → Ruled u tags R → Explored w w₁ R r → r ≤ 256
     → TableSearched r R.width w₁ w₂ No → ⊥
 never_no u tags w w₁ w₂ R r k h x few s =
-    nowhere (s.found (explored-table u tags k.loop R h.rules k.sound h.sane w w₁ r x few (omega (arith, k.room))))
+    nowhere (s.found (explored_table u tags k.loop R h.rules k.sound h.sane w w₁ r x few (omega (arith, k.room))))
 
 -- Found
 
@@ -116,25 +116,25 @@ module _ (u : FunctionUnit) (tags w w₁ w₂ : List ℕ) (R : Rules) (r : ℕ) 
   least : Least w₁ w₂ (tabled r R.width) c
   least = s.least c refl
 
-  count-few : c.count ≤ 256
-  count-few = omega (arith, least.cycle.few)
+  count_few : c.count ≤ 256
+  count_few = omega (arith, least.cycle.few)
 
   room : 11264 ≤ length w
   room = omega (arith, k.room)
 
   best : BestLoop u tags (rotate (cycle_in w₂ c.count) (to_start tags (state_of w₁ c.start)))
-  best = explored-best u tags k.loop R h.rules k.sound h.sane w w₁ r x few room w₂ c least
+  best = explored_best u tags k.loop R h.rules k.sound h.sane w w₁ r x few room w₂ c least
 
-  start-low : c.start < r
-  start-low = subst (λ (v : ℕ). v < r) least.cycle.begins (least.cycle.arcs 0 least.cycle.some).leaves
+  start_low : c.start < r
+  start_low = subst (λ (v : ℕ). v < r) least.cycle.begins (least.cycle.arcs 0 least.cycle.some).leaves
 
   state_same : state_of w₂ c.start ≡ state_of w₁ c.start
-  state_same = state_kept w₁ w₂ (λ j a b. least.frame.high j (omega arith)) c.start (omega (arith, start-low))
+  state_same = state_kept w₁ w₂ (λ j a b. least.frame.high j (omega arith)) c.start (omega (arith, start_low))
 
   standing : Standing w₂ c.count
   standing = record {
     some = least.cycle.some;
-    few = count-few;
+    few = count_few;
     room = omega (arith, least.frame.size, x.size, room);
     small = λ i l. (least.cycle.arcs i l).high;
   }
@@ -152,17 +152,17 @@ module _ (u : FunctionUnit) (tags w w₁ w₂ : List ℕ) (R : Rules) (r : ℕ) 
   pub turnable : Turnable w₂ (length tags) c
   turnable = record {
     standing = standing;
-    start = omega (arith, start-low);
-    place = subst (λ (y : State). y.position < length tags) (sym state_same) (node_kept u tags k.loop R h.rules k.sound h.sane w w₁ r x few room c.start start-low).place;
+    start = omega (arith, start_low);
+    place = subst (λ (y : State). y.position < length tags) (sym state_same) (node_kept u tags k.loop R h.rules k.sound h.sane w w₁ r x few room c.start start_low).place;
     short = k.loop.few;
     long = long;
-    adds = least.cycle.total ∙ sym (ap total (cycle_spell w₂ c.count (omega (arith, standing.room, count-few))) ∙ total_spell (cyc w₂) c.count);
-    low = omega (arith, least.cycle.total, sum_below (cyc w₂) c.count 32 (λ i l. (least.cycle.arcs i l).high), count-few);
+    adds = least.cycle.total ∙ sym (ap total (cycle_spell w₂ c.count (omega (arith, standing.room, count_few))) ∙ total_spell (cyc w₂) c.count);
+    low = omega (arith, least.cycle.total, sum_below (cyc w₂) c.count 32 (λ i l. (least.cycle.arcs i l).high), count_few);
   }
 
-  pub sought-found : (a : Handed) → a.answer ≡ Done
+  pub sought_found : (a : Handed) → a.answer ≡ Done
       → a.plan ≡ plan_of 0 (rotate (cycle_in w₂ c.count) (turn_of w₂ (length tags) c)) → Sought u tags w w₂ a
-  sought-found a e p =
+  sought_found a e p =
       let same : turn_of w₂ (length tags) c ≡ to_start tags (state_of w₁ c.start) = ap (to_start tags) state_same in
       let l : List ℕ = rotate (cycle_in w₂ c.count) (to_start tags (state_of w₁ c.start)) in
       record {
@@ -171,10 +171,10 @@ module _ (u : FunctionUnit) (tags w w₁ w₂ : List ℕ) (R : Rules) (r : ℕ) 
         says =
             e
             ∙ sym (ap (λ b. check b TooManyStates Done) (le-leb (length (loop_states u tags)) 256
-            (few-states u tags k.loop R h (omega (arith, node-count u tags k.loop R h.rules k.sound h.sane w w₁ r x few room)))));
+            (few_states_lem u tags k.loop R h (omega (arith, node_count u tags k.loop R h.rules k.sound h.sane w w₁ r x few room)))));
         found = λ f. record {
           latencies = rotate (cycle_in w₂ c.count) (to_start tags (state_of w₁ c.start));
-          few = omega (arith, rotate_length (cycle_in w₂ c.count) (to_start tags (state_of w₁ c.start)), standing_length w₂ c.count standing, count-few);
+          few = omega (arith, rotate_length (cycle_in w₂ c.count) (to_start tags (state_of w₁ c.start)), standing_length w₂ c.count standing, count_few);
           best = best;
           held = p ∙ ap (λ t. plan_of 0 (rotate (cycle_in w₂ c.count) t)) same;
         };
@@ -185,52 +185,52 @@ module _ (u : FunctionUnit) (tags w w₁ w₂ : List ℕ) (R : Rules) (r : ℕ) 
 
 module _ (u : FunctionUnit) (tags w : List ℕ) where
   -- a call that is refused before it searches
-  promised-refused : (a : Handed) (why : Refusal) → loop_answer u tags (length w) ≡ Refused why → (a.answer ≡ Refused why) × (a.plan ≡ no_plan)
+  promised_refused : (a : Handed) (why : Refusal) → loop_answer u tags (length w) ≡ Refused why → (a.answer ≡ Refused why) × (a.plan ≡ no_plan)
       → LoopPromise u tags w w a
-  promised-refused a why says e = record {
+  promised_refused a why says e = record {
     says = e.0 ∙ sym says;
     found = λ f. never_done (sym e.0 ∙ f);
     none = λ other f. e.1;
     work = record { size = refl; beyond = λ j l. refl; kept = λ other f ne. refl };
   }
 
-  pub promised-unsound : (a : Handed) → sound_of u ≡ false → (a.answer ≡ Refused NotSound) × (a.plan ≡ no_plan) → LoopPromise u tags w w a
+  pub promised_unsound : (a : Handed) → sound_of u ≡ false → (a.answer ≡ Refused NotSound) × (a.plan ≡ no_plan) → LoopPromise u tags w w a
   unfolding loop_answer
-  promised-unsound a s e = promised-refused a NotSound (simp s) e
+  promised_unsound a s e = promised_refused a NotSound (simp s) e
 
-  pub promised-list : (a : Handed) → sound_of u ≡ true → inside (length tags) 8 ≡ false → (a.answer ≡ Refused BadLoop) × (a.plan ≡ no_plan)
+  pub promised_list : (a : Handed) → sound_of u ≡ true → inside (length tags) 8 ≡ false → (a.answer ≡ Refused BadLoop) × (a.plan ≡ no_plan)
       → LoopPromise u tags w w a
   unfolding loop_answer
-  promised-list a s l e = promised-refused a BadLoop (simp (s, l)) e
+  promised_list a s l e = promised_refused a BadLoop (simp (s, l)) e
 
-  pub promised-tag : (a : Handed) → sound_of u ≡ true → inside (length tags) 8 ≡ true → all_tags u tags ≡ false
+  pub promised_tag : (a : Handed) → sound_of u ≡ true → inside (length tags) 8 ≡ true → all_tags u tags ≡ false
       → (a.answer ≡ Refused NoSuchTag) × (a.plan ≡ no_plan) → LoopPromise u tags w w a
   unfolding loop_answer
-  promised-tag a s l t e = promised-refused a NoSuchTag (simp (s, l, t)) e
+  promised_tag a s l t e = promised_refused a NoSuchTag (simp (s, l, t)) e
 
   module _ (s : sound_of u ≡ true) (l : inside (length tags) 8 ≡ true) (known : all_tags u tags ≡ true) where
-    pub promised-short : (a : Handed) → length w < 16000 → (a.answer ≡ Refused ShortWork) × (a.plan ≡ no_plan) → LoopPromise u tags w w a
+    pub promised_short : (a : Handed) → length w < 16000 → (a.answer ≡ Refused ShortWork) × (a.plan ≡ no_plan) → LoopPromise u tags w w a
     unfolding loop_answer
-    promised-short a h e = promised-refused a ShortWork (simp (s, l, known, lt-leb 16000 (length w) h)) e
+    promised_short a h e = promised_refused a ShortWork (simp (s, l, known, lt-leb 16000 (length w) h)) e
 
     pub checked : 16000 ≤ length w → Checked u tags w
     checked h =
         let k = within (length tags) 8 l in
         record { sound = s; loop = record { some = k.least; few = k.most; tag = all_known u tags known }; room = h }
 
-    pub promised-sought : (w' : List ℕ) (a : Handed) → 16000 ≤ length w → Sought u tags w w' a → LoopPromise u tags w w' a
+    pub promised_sought : (w' : List ℕ) (a : Handed) → 16000 ≤ length w → Sought u tags w w' a → LoopPromise u tags w w' a
     unfolding loop_answer
-    promised-sought w' a h r = record {
+    promised_sought w' a h r = record {
       says = r.says ∙ sym (simp (s, l, known, le-leb 16000 (length w) h));
       found = r.found;
       none = r.none;
       work = record {
         size = r.size;
         beyond = r.beyond;
-        kept = λ why e ne. absurd (ne (only-7 (leb (length (loop_states u tags)) 256) why (sym r.says ∙ e)));
+        kept = λ why e ne. absurd (ne (only_7 (leb (length (loop_states u tags)) 256) why (sym r.says ∙ e)));
       };
     }
       where
-        only-7 : (b : Bool) (why : Refusal) → check b TooManyStates Done ≡ Refused why → why ≡ TooManyStates
-        only-7 true why e = never_done (sym e)
-        only-7 false why e = cc
+        only_7 : (b : Bool) (why : Refusal) → check b TooManyStates Done ≡ Refused why → why ≡ TooManyStates
+        only_7 true why e = never_done (sym e)
+        only_7 false why e = cc

@@ -19,30 +19,30 @@ use Rattle.controller.specs.Bank.{register, empty}
 use Rattle.controller.proofs.BankLaws.{started_bit, row_says}
 use Rattle.controller.proofs.TickLaws.{granted_bit}
 use Rattle.graphs.specs.Graph.{Walk, Reachable}
-use Rattle.graphs.proofs.Walks.{state_at, walk-run, walk-permits, cycle-permits, reach-keeps}
+use Rattle.graphs.proofs.Walks.{state_at, walk_run, walk_permits, cycle_permits, reach_keeps}
 use Rattle.loops.specs.Loop.{Loop, Schedule, tag_at, loop_task, LoopNeverCollides}
 use Rattle.loops.specs.declared.State.{State}
 use Rattle.loops.specs.Steps.{Steps, next_tag, first_state, stepped, loop_graph}
 use Rattle.loops.proofs.BankLaws.{stepped_bit}
-use Rattle.loops.proofs.StepLaws.{tag-within, four, run_position, position_at, next-at}
+use Rattle.loops.proofs.StepLaws.{tag_within, four, run_position, position_at, next_at}
 
 -- the bank has the rows of the tag that was started last
 abbrev pub Contains : FunctionUnit → List ℕ → State → Type 0
 Contains u tags s = (r k : ℕ) → Within r u.functions → is_set (row_word (marked u) r (get_or tags s.position 0)) k ≡ true → is_set (register s.bank r) k ≡ true
 
 module _ (u : FunctionUnit) (tags : List ℕ) (sound : sound_of u ≡ true) (loop : Loop u tags) where
-  contains-first : Contains u tags (first_state u tags)
-  contains-first r k w b =
+  contains_first : Contains u tags (first_state u tags)
+  contains_first r k w b =
       started_bit u (get_or tags 0 0) empty r k w.least (omega (arith, w.most, four u sound)) w.most
       ∙ or_true_right (is_set (register empty r) (1 + k)) _ b
 
-  contains-step : (s : State) (t : ℕ) → Steps tags s t → Contains u tags (stepped u tags s t)
-  contains-step s t p r k w b =
+  contains_step : (s : State) (t : ℕ) → Steps tags s t → Contains u tags (stepped u tags s t)
+  contains_step s t p r k w b =
       stepped_bit u (next_tag tags s) s.bank t r k p.least w.least (omega (arith, w.most, four u sound)) w.most
       ∙ or_true_right (is_set (register s.bank r) (t + k)) _ b
 
-  pub contains-reached : (s : State) → Reachable (loop_graph u tags) s → Contains u tags s
-  contains-reached s r = reach-keeps (loop_graph u tags) (Contains u tags) contains-first (λ s t c p. contains-step s t p) r
+  pub contains_reached : (s : State) → Reachable (loop_graph u tags) s → Contains u tags s
+  contains_reached s r = reach_keeps (loop_graph u tags) (Contains u tags) contains_first (λ s t c p. contains_step s t p) r
 
   -- latencies that the states from s on permit
   module _ (s : State) (l : List ℕ) (start : s.position ≡ 0) (first : Contains u tags s)
@@ -50,10 +50,10 @@ module _ (u : FunctionUnit) (tags : List ℕ) (sound : sound_of u ≡ true) (loo
     at : ℕ → State
     at j = state_at (loop_graph u tags) s l j
 
-    contains-at : (j : ℕ) → Contains u tags (at j)
+    contains_at : (j : ℕ) → Contains u tags (at j)
     unfolding at
-    contains-at zero = first
-    contains-at (suc j) = contains-step (at j) (latency l j) (permits j)
+    contains_at zero = first
+    contains_at (suc j) = contains_step (at j) (latency l j) (permits j)
 
     -- the state at the j-th start has, for each start so far, the rows of its tag shifted by the time since
     remembers : (i j : ℕ) → i ≤ j → (r k d : ℕ) → Within r u.functions → start_at l i + d ≡ start_at l j + k
@@ -66,16 +66,16 @@ module _ (u : FunctionUnit) (tags : List ℕ) (sound : sound_of u ≡ true) (loo
         let same : d ≡ k = omega arith in
         let tag : get_or tags (at i).position 0 ≡ tag_at tags i = ap (λ p. get_or tags p 0) (position_at u tags s l start i) in
         let b2 : is_set (row_word (marked u) r (get_or tags (at i).position 0)) k ≡ true = ap (λ q. is_set (row_word (marked u) r q) k) tag ∙ ap (is_set (row_word (marked u) r (tag_at tags i))) (sym same) ∙ b in
-        contains-at i r k w b2)
+        contains_at i r k w b2)
         (λ m o ih r k d w e b.
         stepped_bit u (next_tag tags (at m)) (at m).bank (latency l m) r k (permits m).least w.least (omega (arith, w.most, four u sound)) w.most
         ∙ or_true_left (is_set (register (at m).bank r) (latency l m + k)) _ (ih r (latency l m + k) d w (omega arith) b))
         j h
 
-    pub permitted-never : LoopNeverCollides (marked u) tags l
+    pub permitted_never : LoopNeverCollides (marked u) tags l
     unfolding at
-    permitted-never i zero h c = not-suc-le-zero h
-    permitted-never i (suc j) h c =
+    permitted_never i zero h c = not-suc-le-zero h
+    permitted_never i (suc j) h c =
         let t : ℕ = latency l j in
         let d : ℕ = start_at l (suc j) - start_at l i in
         let le : start_at l i ≤ start_at l j = start_at_mono l i j (le_of_suc-le-suc h) in
@@ -86,24 +86,24 @@ module _ (u : FunctionUnit) (tags : List ℕ) (sound : sound_of u ≡ true) (loo
         let bit : is_set (row_word (marked u) (tag_at tags (suc j)) (tag_at tags i)) (d - 1) ≡ true =
         (row_says u (tag_at tags (suc j)) (tag_at tags i) (d - 1)).1 (subst (Collides (marked u) (tag_at tags (suc j)) (tag_at tags i)) (sym one) k) in
         let held : is_set (register (at j).bank (tag_at tags (suc j))) (t - 1) ≡ true =
-        remembers i j (le_of_suc-le-suc h) (tag_at tags (suc j)) (t - 1) (d - 1) (tag-within u tags loop (suc j)) (omega arith) bit in
+        remembers i j (le_of_suc-le-suc h) (tag_at tags (suc j)) (t - 1) (d - 1) (tag_within u tags loop (suc j)) (omega arith) bit in
         let free : is_set (register (at j).bank (next_tag tags (at j))) (t - 1) ≡ false = granted_bit (at j).bank t (next_tag tags (at j)) (permits j).granted in
-        nowhere (sym free ∙ ap (λ q. is_set (register (at j).bank q) (t - 1)) (next-at u tags s l start j) ∙ held)
+        nowhere (sym free ∙ ap (λ q. is_set (register (at j).bank q) (t - 1)) (next_at u tags s l start j) ∙ held)
 
   -- (sound) a closed walk from a reachable state of position 0, repeated without end, never collides
-  pub sound-loop : (s : State) (l : List ℕ) → Reachable (loop_graph u tags) s → s.position ≡ 0 → Walk (loop_graph u tags) s l s → 0 < length l
+  pub sound_loop : (s : State) (l : List ℕ) → Reachable (loop_graph u tags) s → s.position ≡ 0 → Walk (loop_graph u tags) s l s → 0 < length l
       → LoopNeverCollides (marked u) tags l
-  sound-loop s l r start w h = permitted-never s l start (contains-reached s r) (cycle-permits (loop_graph u tags) w h)
+  sound_loop s l r start w h = permitted_never s l start (contains_reached s r) (cycle_permits (loop_graph u tags) w h)
 
   -- a closed walk has a whole number of turns of the list
-  pub closed-whole : (s : State) (l : List ℕ) → s.position < length tags → Walk (loop_graph u tags) s l s → length l % length tags ≡ 0
-  closed-whole s l h w =
+  pub closed_whole : (s : State) (l : List ℕ) → s.position < length tags → Walk (loop_graph u tags) s l s → length l % length tags ≡ 0
+  closed_whole s l h w =
       let n : ℕ = length tags in
       let p : ℕ = s.position in
       let m : ℕ = length l % n in
       let b : m < n = mod-lt (length l) loop.some in
       let e : (p + m) % n ≡ p =
-      add-mod-mod p (length l) n ∙ sym (run_position u tags loop.some s h l) ∙ ap (λ (x : State). x.position) (walk-run (loop_graph u tags) w) in
+      add-mod-mod p (length l) n ∙ sym (run_position u tags loop.some s h l) ∙ ap (λ (x : State). x.position) (walk_run (loop_graph u tags) w) in
       let q : (p + m) / n * n + (p + m) % n ≡ p + m = div-add-mod' (p + m) n in
       turns ((p + m) / n) n m p b h (omega arith)
     where
@@ -111,9 +111,9 @@ module _ (u : FunctionUnit) (tags : List ℕ) (sound : sound_of u ≡ true) (loo
       turns zero n m p b h e = omega arith
       turns (suc c) n m p b h e = absurd (omega arith)
 
-  pub closed-schedule : (s : State) (l : List ℕ) → s.position < length tags → Walk (loop_graph u tags) s l s → 0 < length l → Schedule tags l
-  closed-schedule s l h w some = record {
-    latencies = record { nonempty = some; each = λ i k. (walk-permits (loop_graph u tags) w i k).least };
+  pub closed_schedule : (s : State) (l : List ℕ) → s.position < length tags → Walk (loop_graph u tags) s l s → 0 < length l → Schedule tags l
+  closed_schedule s l h w some = record {
+    latencies = record { nonempty = some; each = λ i k. (walk_permits (loop_graph u tags) w i k).least };
     turns = length l / length tags;
-    whole = omega (arith, closed-whole s l h w, div-add-mod' (length l) (length tags));
+    whole = omega (arith, closed_whole s l h w, div-add-mod' (length l) (length tags));
   }

@@ -17,12 +17,12 @@ use Rattle.collision.specs.Vector.{largest_column}
 use Rattle.controller.specs.declared.Bank.{Bank}
 use Rattle.graphs.specs.Graph.{Walk, stay, step, Reachable, Listed, Each, Distinct, states_along, CycleAt}
 use Rattle.graphs.specs.States.{Right, More}
-use Rattle.graphs.proofs.Listing.{states-distinct, states-reached, states-complete}
+use Rattle.graphs.proofs.Listing.{states_distinct, states_reached, states_complete}
 use Rattle.graphs.proofs.Many.{too_many}
 use Rattle.loops.specs.Loop.{Loop}
 use Rattle.loops.specs.declared.State.{State}
 use Rattle.loops.specs.Steps.{first_state, stepped, loop_graph, arc_graph, same_bank, same_state, arc_tests, loop_states}
-use Rattle.loops.proofs.StepLaws.{Kept, kept-first, kept_step, step_cut, permits-cut}
+use Rattle.loops.proofs.StepLaws.{Kept, kept_first, kept_step, step_cut, permits_cut}
 
 -- The tests
 
@@ -90,14 +90,14 @@ module _ (u : FunctionUnit) (tags : List ℕ) (sound : sound_of u ≡ true) (loo
       subst (λ (x : State). Walk (arc_graph u tags) x r.along e) (sym (step_cut u tags sound loop s t k)) r.walk in
       record {
         along = min t (largest_column (marked u) + 1) ∷ r.along;
-        walk = step (permits-cut u tags sound loop s t k p) v;
+        walk = step (permits_cut u tags sound loop s t k p) v;
         count = ap suc r.count;
         sum = omega (arith, r.sum);
       }
 
   -- what steps reach, arcs reach
   pub reached_arcs : (s : State) → Reachable (loop_graph u tags) s → Reachable (arc_graph u tags) s
-  reached_arcs s r = let a = steps_arcs (kept-first u tags sound loop) r.walk in record { along = a.along; walk = a.walk }
+  reached_arcs s r = let a = steps_arcs (kept_first u tags sound loop) r.walk in record { along = a.along; walk = a.walk }
 
   pub arcs_reached : (s : State) → Reachable (arc_graph u tags) s → Reachable (loop_graph u tags) s
   arcs_reached s r = record { along = r.along; walk = arcs_steps u tags r.walk }
@@ -105,15 +105,15 @@ module _ (u : FunctionUnit) (tags : List ℕ) (sound : sound_of u ≡ true) (loo
   -- The list
 
   pub listed_distinct : Distinct (loop_graph u tags) (loop_states u tags)
-  listed_distinct = states-distinct (arc_graph u tags) (arc_tests u tags) (tests_right u tags) 256
+  listed_distinct = states_distinct (arc_graph u tags) (arc_tests u tags) (tests_right u tags) 256
 
   pub listed_reached : Each (loop_graph u tags) (Reachable (loop_graph u tags)) (loop_states u tags)
   listed_reached i h =
-      arcs_reached (get_or (loop_states u tags) i (first_state u tags)) (states-reached (arc_graph u tags) (arc_tests u tags) (tests_right u tags) 256 i h)
+      arcs_reached (get_or (loop_states u tags) i (first_state u tags)) (states_reached (arc_graph u tags) (arc_tests u tags) (tests_right u tags) 256 i h)
 
   pub listed_all : length (loop_states u tags) ≤ 256 → (s : State) → Reachable (loop_graph u tags) s → Listed (loop_graph u tags) s (loop_states u tags)
   listed_all h s r =
-      let p = states-complete (arc_graph u tags) (arc_tests u tags) (tests_right u tags) 256 h s (reached_arcs s r) in
+      let p = states_complete (arc_graph u tags) (arc_tests u tags) (tests_right u tags) 256 h s (reached_arcs s r) in
       record { index = p.index; inside = p.inside; found = p.found }
 
   -- more than 256 states are reached by steps exactly when the list is longer

@@ -31,8 +31,8 @@ module _ (w : List ℕ) (i : ℕ) (s : State) where
   abbrev w4 : List ℕ
   w4 = set w3 (10752 + i) s.bank.r3
 
-  pub put-size : length (put_state w i s) ≡ length w
-  put-size = simp length-set
+  pub put_size : length (put_state w i s) ≡ length w
+  put_size = simp length-set
 
   -- every other word stays
   pub put_other : (j : ℕ) → (j ≡ 9984 + i → ⊥) → (j ≡ 10240 + i → ⊥) → (j ≡ 10496 + i → ⊥) → (j ≡ 10752 + i → ⊥) → (j ≡ 11008 + i → ⊥)
@@ -45,12 +45,12 @@ module _ (w : List ℕ) (i : ℕ) (s : State) where
   pub put_low : (j : ℕ) → j < 9984 → get_or (put_state w i s) j 0 ≡ get_or w j 0
   put_low j h = put_other j (λ e. omega arith) (λ e. omega arith) (λ e. omega arith) (λ e. omega arith) (λ e. omega arith)
 
-  pub put-high : (j : ℕ) → i < 256 → 11264 ≤ j → get_or (put_state w i s) j 0 ≡ get_or w j 0
-  put-high j l h = put_other j (λ e. omega arith) (λ e. omega arith) (λ e. omega arith) (λ e. omega arith) (λ e. omega arith)
+  pub put_high : (j : ℕ) → i < 256 → 11264 ≤ j → get_or (put_state w i s) j 0 ≡ get_or w j 0
+  put_high j l h = put_other j (λ e. omega arith) (λ e. omega arith) (λ e. omega arith) (λ e. omega arith) (λ e. omega arith)
 
   module _ (inside : i < 256) (room : 11264 ≤ length w) where
-    put-0 : get_or (put_state w i s) (9984 + i) 0 ≡ s.position
-    put-0 =
+    put_0 : get_or (put_state w i s) (9984 + i) 0 ≡ s.position
+    put_0 =
         get_or-set_other w4 (11008 + i) (9984 + i) s.bank.r4 0 (λ e. omega arith) ∙ get_or-set_other w3 (10752 + i) (9984 + i) s.bank.r3 0 (λ e. omega arith)
         ∙ get_or-set_other w2 (10496 + i) (9984 + i) s.bank.r2 0 (λ e. omega arith) ∙ get_or-set_other w1 (10240 + i) (9984 + i) s.bank.r1 0 (λ e. omega arith)
         ∙ get_or-set_same w (9984 + i) s.position 0 (omega arith)
@@ -72,11 +72,11 @@ module _ (w : List ℕ) (i : ℕ) (s : State) where
     put_4 : get_or (put_state w i s) (11008 + i) 0 ≡ s.bank.r4
     put_4 = get_or-set_same w4 (11008 + i) s.bank.r4 0 (simp length-set (omega arith))
 
-    pub put-state : state_of (put_state w i s) i ≡ s
-    put-state = λ k. record { position = put-0 k; bank = record { r1 = put_1 k; r2 = put_2 k; r3 = put_3 k; r4 = put_4 k } }
+    pub put_state_lem : state_of (put_state w i s) i ≡ s
+    put_state_lem = λ k. record { position = put_0 k; bank = record { r1 = put_1 k; r2 = put_2 k; r3 = put_3 k; r4 = put_4 k } }
 
-    pub put-state-other : (j : ℕ) → j < 256 → (j ≡ i → ⊥) → state_of (put_state w i s) j ≡ state_of w j
-    put-state-other j l ne = λ k. record {
+    pub put_state_other : (j : ℕ) → j < 256 → (j ≡ i → ⊥) → state_of (put_state w i s) j ≡ state_of w j
+    put_state_other j l ne = λ k. record {
       position = put_other (9984 + j) (λ e. ne (omega arith)) (λ e. omega arith) (λ e. omega arith) (λ e. omega arith) (λ e. omega arith) k;
       bank = record {
         r1 = put_other (10240 + j) (λ e. omega arith) (λ e. ne (omega arith)) (λ e. omega arith) (λ e. omega arith) (λ e. omega arith) k;
@@ -120,14 +120,14 @@ list_same w w' (suc k) h =
 -- A state included
 
 module _ (R : Rules) (right : Right (rule_graph R) (rule_tests R)) (w : List ℕ) (k : ℕ) (s : State) (r : ℕ) (p : Placed w k s r) where
-  add-old : r < k → add (rule_graph R) (rule_tests R) s (list_in w k) ≡ list_in w k
-  add-old l =
+  add_old : r < k → add (rule_graph R) (rule_tests R) s (list_in w k) ≡ list_in w k
+  add_old l =
       let e : has (rule_graph R) (rule_tests R) s (list_in w k) ≡ true =
       T_true _ (listed_has (rule_graph R) (rule_tests R) right s (list_in w k) r (omega (arith, list_length w k)) (list_at w (rule_first R) k r l ∙ p.there l)) in
       ap (λ b. cond b (list_in w k) (list_in w k ++ (s ∷ []))) e
 
-  add-new : k ≤ r → add (rule_graph R) (rule_tests R) s (list_in w k) ≡ list_in w k ++ (s ∷ [])
-  add-new l =
+  add_new : k ≤ r → add (rule_graph R) (rule_tests R) s (list_in w k) ≡ list_in w k ++ (s ∷ [])
+  add_new l =
       let e : has (rule_graph R) (rule_tests R) s (list_in w k) ≡ false =
       not_passed _ (λ b.
       let f : Listed (rule_graph R) s (list_in w k) = has_listed (rule_graph R) (rule_tests R) right s (list_in w k) (true_T b) in
@@ -135,15 +135,15 @@ module _ (R : Rules) (right : Right (rule_graph R) (rule_tests R)) (w : List ℕ
       p.none l f.index i (sym (list_at w (rule_first R) k f.index i) ∙ f.found)) in
       ap (λ b. cond b (list_in w k) (list_in w k ++ (s ∷ []))) e
 
-  pub included-old : {w' : List ℕ} → Included w w' k s r → r < k → list_in w' k ≡ add (rule_graph R) (rule_tests R) s (list_in w k)
-  included-old h l = ap (λ (v : List ℕ). list_in v k) (h.old l) ∙ sym (add-old l)
+  pub included_old : {w' : List ℕ} → Included w w' k s r → r < k → list_in w' k ≡ add (rule_graph R) (rule_tests R) s (list_in w k)
+  included_old h l = ap (λ (v : List ℕ). list_in v k) (h.old l) ∙ sym (add_old l)
 
-  pub included-new : {w' : List ℕ} → Included w w' k s r → 11264 ≤ length w → k ≤ r → k < 256 → list_in w' (suc k) ≡ add (rule_graph R) (rule_tests R) s (list_in w k)
-  included-new {w'} h room l m =
+  pub included_new : {w' : List ℕ} → Included w w' k s r → 11264 ≤ length w → k ≤ r → k < 256 → list_in w' (suc k) ≡ add (rule_graph R) (rule_tests R) s (list_in w k)
+  included_new {w'} h room l m =
       ap (λ (v : List ℕ). list_in v (suc k)) (h.new l m)
-      ∙ ap₂ (λ (a : List State) (b : State). a ++ (b ∷ [])) (list_same w (put_state w k s) k (λ i n. put-state-other w k s m room i (omega arith) (λ e. omega arith)))
-      (put-state w k s m room)
-      ∙ sym (add-new l)
+      ∙ ap₂ (λ (a : List State) (b : State). a ++ (b ∷ [])) (list_same w (put_state w k s) k (λ i n. put_state_other w k s m room i (omega arith) (λ e. omega arith)))
+      (put_state_lem w k s m room)
+      ∙ sym (add_new l)
 
-  pub included-full : k ≤ r → length (add (rule_graph R) (rule_tests R) s (list_in w k)) ≡ suc k
-  included-full l = ap length (add-new l) ∙ length-append (list_in w k) (s ∷ []) ∙ let n = list_length w k in omega arith
+  pub included_full : k ≤ r → length (add (rule_graph R) (rule_tests R) s (list_in w k)) ≡ suc k
+  included_full l = ap length (add_new l) ∙ length-append (list_in w k) (s ∷ []) ∙ let n = list_length w k in omega arith

@@ -20,7 +20,7 @@ use Rattle.loops.specs.Steps.{same_state}
 use Rattle.loops.specs.Inner.{Sane, masked, advanced, rule_arc, rule_graph, rule_tests, state_of, put_state, list_in, Placed, Included, Stocked, Led, visited, Turned}
 use Rattle.loops.proofs.StateLaws.{same_state_lem, state_same}
 use Rattle.loops.proofs.RuleLaws.{position_low}
-use Rattle.loops.proofs.StoreLaws.{put-size, put_low, put-high, put-state, put-state-other, state_kept, list_same, included-old, included-new, included-full}
+use Rattle.loops.proofs.StoreLaws.{put_size, put_low, put_high, put_state_lem, put_state_other, state_kept, list_same, included_old, included_new, included_full}
 
 pub rule_right : (R : Rules) → Right (rule_graph R) (rule_tests R)
 rule_right R = record {
@@ -172,7 +172,7 @@ made w w₁ R k s word t x led e some few room = ⊎_elim idle moved (kind w w�
               states = λ j z. ap (λ (v : List ℕ). state_of v j) q;
               most = omega arith;
               old = λ z. (
-                included-old R (rule_right R) w k (advanced R s t) x p m.included l ∙ sym (m.list (list_in w k)),
+                included_old R (rule_right R) w k (advanced R s t) x p m.included l ∙ sym (m.list (list_in w k)),
                 λ a b. ap (λ (v : List ℕ). state_of v x) q ∙ p.there l,
               );
               new = λ z. absurd (omega arith);
@@ -184,17 +184,17 @@ made w w₁ R k s word t x led e some few room = ⊎_elim idle moved (kind w w�
             full (yes f) =
                 let q = m.included.new (omega arith) f in
                 record {
-                  size = ap length q ∙ put-size w k (advanced R s t);
+                  size = ap length q ∙ put_size w k (advanced R s t);
                   low = λ j l. ap (λ (v : List ℕ). get_or v j 0) q ∙ put_low w k (advanced R s t) j l;
-                  high = λ j z. ap (λ (v : List ℕ). get_or v j 0) q ∙ put-high w k (advanced R s t) j f z;
-                  states = λ j z. ap (λ (v : List ℕ). state_of v j) q ∙ put-state-other w k (advanced R s t) f room j (omega arith) (λ e. omega arith);
+                  high = λ j z. ap (λ (v : List ℕ). get_or v j 0) q ∙ put_high w k (advanced R s t) j f z;
+                  states = λ j z. ap (λ (v : List ℕ). state_of v j) q ∙ put_state_other w k (advanced R s t) f room j (omega arith) (λ e. omega arith);
                   most = p.most;
                   old = λ z. absurd (omega arith);
                   new = λ l f. (
-                    included-new R (rule_right R) w k (advanced R s t) x p m.included room l f ∙ sym (m.list (list_in w k)),
-                    ap (λ (v : List ℕ). state_of v k) q ∙ put-state w k (advanced R s t) f room,
+                    included_new R (rule_right R) w k (advanced R s t) x p m.included room l f ∙ sym (m.list (list_in w k)),
+                    ap (λ (v : List ℕ). state_of v k) q ∙ put_state_lem w k (advanced R s t) f room,
                   );
-                  full = λ l. ap length (m.list (list_in w k)) ∙ included-full R (rule_right R) w k (advanced R s t) x p l;
+                  full = λ l. ap length (m.list (list_in w k)) ∙ included_full R (rule_right R) w k (advanced R s t) x p l;
                 }
             full (no f) =
                 let q = m.included.full (omega arith) (omega arith) in
@@ -206,53 +206,53 @@ made w w₁ R k s word t x led e some few room = ⊎_elim idle moved (kind w w�
                   most = p.most;
                   old = λ z. absurd (omega arith);
                   new = λ l z. absurd (omega arith);
-                  full = λ l. ap length (m.list (list_in w k)) ∙ included-full R (rule_right R) w k (advanced R s t) x p l;
+                  full = λ l. ap length (m.list (list_in w k)) ∙ included_full R (rule_right R) w k (advanced R s t) x p l;
                 }
 
 -- the word of the table written
 module _ (w : List ℕ) (slot x : ℕ) (low : slot < 9984) where
-  note-other : (j : ℕ) → (j ≡ slot → ⊥) → get_or (set w slot x) j 0 ≡ get_or w j 0
-  note-other j ne = get_or-set_other w slot j x 0 ne
+  note_other : (j : ℕ) → (j ≡ slot → ⊥) → get_or (set w slot x) j 0 ≡ get_or w j 0
+  note_other j ne = get_or-set_other w slot j x 0 ne
 
-  note-state : (i : ℕ) → i < 256 → state_of (set w slot x) i ≡ state_of w i
-  note-state i l = state_kept w (set w slot x) (λ j a b. note-other j (λ e. omega arith)) i l
+  note_state : (i : ℕ) → i < 256 → state_of (set w slot x) i ≡ state_of w i
+  note_state i l = state_kept w (set w slot x) (λ j a b. note_other j (λ e. omega arith)) i l
 
 module _ (w w₁ : List ℕ) (R : Rules) (k : ℕ) (s : State) (at t x : ℕ) (m : Made w w₁ R k s t x) (sane : Sane R) (inside : at < k) (few : k ≤ 256)
     (room : 11264 ≤ length w) (t_some : 1 ≤ t) (t-few : t ≤ 32) where
   slot : ℕ
   slot = 1791 + at * 32 + t
 
-  slot-low : slot < 9984
+  slot_low : slot < 9984
   unfolding slot
-  slot-low = omega arith
+  slot_low = omega arith
 
   noted : get_or (set w₁ slot x) slot 0 ≡ x
   unfolding slot
   noted = get_or-set_same w₁ slot x 0 (omega (arith, m.size))
 
-  pub turned-old : (w' : List ℕ) → w' ≡ set w₁ (1791 + at * 32 + t) x → x < k → Turned w w' R k s at t k
+  pub turned_old : (w' : List ℕ) → w' ≡ set w₁ (1791 + at * 32 + t) x → x < k → Turned w w' R k s at t k
   unfolding slot
-  turned-old w' e l =
+  turned_old w' e l =
       subst (λ (v : List ℕ). Turned w v R k s at t k) (sym e)
       (record {
         size = simp length-set m.size;
         grown = omega arith;
-        list = λ r. list_same w₁ (set w₁ slot x) k (λ i n. note-state w₁ slot x slot-low i (omega arith)) ∙ (m.old l).0;
+        list = λ r. list_same w₁ (set w₁ slot x) k (λ i n. note_state w₁ slot x slot_low i (omega arith)) ∙ (m.old l).0;
         over = λ r. absurd (omega arith);
         target = λ r. record {
           inside = subst (λ (y : ℕ). y < k) (sym noted) l;
           leads = λ a b.
-              ap (state_of (set w₁ slot x)) noted ∙ note-state w₁ slot x slot-low x (omega arith) ∙ (m.old l).1 a b;
+              ap (state_of (set w₁ slot x)) noted ∙ note_state w₁ slot x slot_low x (omega arith) ∙ (m.old l).1 a b;
         };
-        states = λ i n. note-state w₁ slot x slot-low i (omega arith) ∙ m.states i n;
-        words = λ j n ne. note-other w₁ slot x slot-low j ne ∙ m.low j n;
-        high = λ j n. note-other w₁ slot x slot-low j (λ e. omega (arith, slot-low)) ∙ m.high j n;
+        states = λ i n. note_state w₁ slot x slot_low i (omega arith) ∙ m.states i n;
+        words = λ j n ne. note_other w₁ slot x slot_low j ne ∙ m.low j n;
+        high = λ j n. note_other w₁ slot x slot_low j (λ e. omega (arith, slot_low)) ∙ m.high j n;
         stocked = λ r h i n.
-            subst (λ (y : State). y.position < 8) (sym (note-state w₁ slot x slot-low i (omega arith) ∙ m.states i n)) (h i n);
+            subst (λ (y : State). y.position < 8) (sym (note_state w₁ slot x slot_low i (omega arith) ∙ m.states i n)) (h i n);
       })
 
-  pub turned-full : k ≤ x → 255 < k → Turned w w₁ R k s at t 257
-  turned-full l f =
+  pub turned_full : k ≤ x → 255 < k → Turned w w₁ R k s at t 257
+  turned_full l f =
       record {
         size = m.size;
         grown = omega arith;
@@ -265,9 +265,9 @@ module _ (w w₁ : List ℕ) (R : Rules) (k : ℕ) (s : State) (at t x : ℕ) (m
         stocked = λ r. absurd (omega arith);
       }
 
-  pub turned-new : (w' : List ℕ) → w' ≡ set w₁ (1791 + at * 32 + t) x → k ≤ x → k ≤ 255 → Turned w w' R k s at t (k + 1)
+  pub turned_new : (w' : List ℕ) → w' ≡ set w₁ (1791 + at * 32 + t) x → k ≤ x → k ≤ 255 → Turned w w' R k s at t (k + 1)
   unfolding slot
-  turned-new w' e l f =
+  turned_new w' e l f =
       let xk : x ≡ k = omega (arith, m.most) in
       let o = m.new l (omega arith) in
       let one : k + 1 ≡ suc k = add-one k in
@@ -275,23 +275,23 @@ module _ (w w₁ : List ℕ) (R : Rules) (k : ℕ) (s : State) (at t x : ℕ) (m
       (record {
         size = simp length-set m.size;
         grown = omega arith;
-        list = λ r. ap (list_in (set w₁ slot x)) one ∙ list_same w₁ (set w₁ slot x) (suc k) (λ i n. note-state w₁ slot x slot-low i (omega arith)) ∙ o.0;
+        list = λ r. ap (list_in (set w₁ slot x)) one ∙ list_same w₁ (set w₁ slot x) (suc k) (λ i n. note_state w₁ slot x slot_low i (omega arith)) ∙ o.0;
         over = λ r. absurd (omega arith);
         target = λ r. record {
           inside = subst (λ (y : ℕ). y < k + 1) (sym (noted ∙ xk)) (omega arith);
           leads = λ a b.
-              ap (state_of (set w₁ slot x)) (noted ∙ xk) ∙ note-state w₁ slot x slot-low k (omega arith) ∙ o.1;
+              ap (state_of (set w₁ slot x)) (noted ∙ xk) ∙ note_state w₁ slot x slot_low k (omega arith) ∙ o.1;
         };
-        states = λ i n. note-state w₁ slot x slot-low i (omega arith) ∙ m.states i n;
-        words = λ j n ne. note-other w₁ slot x slot-low j ne ∙ m.low j n;
-        high = λ j n. note-other w₁ slot x slot-low j (λ e. omega (arith, slot-low)) ∙ m.high j n;
+        states = λ i n. note_state w₁ slot x slot_low i (omega arith) ∙ m.states i n;
+        words = λ j n ne. note_other w₁ slot x slot_low j ne ∙ m.low j n;
+        high = λ j n. note_other w₁ slot x slot_low j (λ e. omega (arith, slot_low)) ∙ m.high j n;
         stocked = λ r h i n. place h i (dec_lt i k) n;
       })
     where
       place : Stocked w k → (i : ℕ) → Dec (i < k) → i < k + 1 → (state_of (set w₁ slot x) i).position < 8
-      place h i (yes n) = λ u. subst (λ (y : State). y.position < 8) (sym (note-state w₁ slot x slot-low i (omega arith) ∙ m.states i n)) (h i n)
+      place h i (yes n) = λ u. subst (λ (y : State). y.position < 8) (sym (note_state w₁ slot x slot_low i (omega arith) ∙ m.states i n)) (h i n)
       place h i (no n) = λ u.
           let q : i ≡ k = omega arith in
           subst (λ (y : State). y.position < 8)
-          (sym (ap (state_of (set w₁ slot x)) q ∙ note-state w₁ slot x slot-low k (omega arith) ∙ (m.new l (omega arith)).1))
+          (sym (ap (state_of (set w₁ slot x)) q ∙ note_state w₁ slot x slot_low k (omega arith) ∙ (m.new l (omega arith)).1))
           (position_low R s.position sane)

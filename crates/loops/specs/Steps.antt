@@ -33,7 +33,7 @@ stepped u tags s t = record { position = following tags s; bank = started u (nex
 abbrev pub loop_graph : FunctionUnit → List ℕ → Graph
 loop_graph u tags = record { State = State; first = first_state u tags; Permits = Steps tags; next = stepped u tags }
 
--- n is the largest column of the unit's matrices. Longer latencies than n + 1 lead to the same state as it does (`step-far`, proofs/StepLaws.antt), and get no arc.
+-- n is the largest column of the unit's matrices. Longer latencies than n + 1 lead to the same state as it does (`step_far`, proofs/StepLaws.antt), and get no arc.
 
 -- a step by a latency of at most n + 1
 pub record ShortStep (n : ℕ) (tags : List ℕ) (s : State) (t : ℕ) : Type 0 where

@@ -15,7 +15,7 @@ use Rattle.collision.specs.Pipeline.{total}
 use Rattle.mean_cycle.specs.Nodes.{NodeWalk, rest, onward, NodeFloor, Frame, sum_to}
 use Rattle.mean_cycle.specs.Inner.{Listing, Calm, gain}
 use Rattle.mean_cycle.proofs.Frames.{arc_kept}
-use Rattle.mean_cycle.proofs.Targets.{arc-some}
+use Rattle.mean_cycle.proofs.Targets.{arc_some}
 
 part_below : (f : ℕ → ℕ) (n y : ℕ) → y < n → f y ≤ sum_to f n
 part_below f zero y l = absurd (not-suc-le-zero l)
@@ -27,19 +27,19 @@ part_below f (suc m) y l =
 
 module _ (w : List ℕ) (G : Graph) (best : Cycle) (calm : (v t : ℕ) → Calm w G best v t) where
   -- the gains at the two ends of a walk
-  walk-gains : {v x : ℕ} {l : List ℕ} → NodeWalk w G v l x → v < G.nodes
+  walk_gains : {v x : ℕ} {l : List ℕ} → NodeWalk w G v l x → v < G.nodes
       → gain w v + best.sum * length l ≤ best.count * total l + sum_to (gain w) G.nodes
-  walk-gains {v} rest lv = omega (arith, part_below (gain w) G.nodes v lv)
-  walk-gains (onward {v} {x} {y} {t} {l} a r) lv =
+  walk_gains {v} rest lv = omega (arith, part_below (gain w) G.nodes v lv)
+  walk_gains (onward {v} {x} {y} {t} {l} a r) lv =
       let i : gain w v + best.sum ≤ gain w x + best.count * t = calm v t x a in
-      let j : gain w x + best.sum * length l ≤ best.count * total l + sum_to (gain w) G.nodes = walk-gains r a.enters in
+      let j : gain w x + best.sum * length l ≤ best.count * total l + sum_to (gain w) G.nodes = walk_gains r a.enters in
       omega (arith, mul-suc best.sum (length l), mul-add best.count t (total l))
 
-  pub calm-floor : 1 ≤ G.nodes → NodeFloor w G best.count best.sum
-  calm-floor some =
+  pub calm_floor : 1 ≤ G.nodes → NodeFloor w G best.count best.sum
+  calm_floor some =
       record {
         bound = sum_to (gain w) G.nodes;
-        every = λ l x k. omega (arith, walk-gains k some);
+        every = λ l x k. omega (arith, walk_gains k some);
       }
 
 -- the same walk, and the same bound, in words of which only the search's own differ
@@ -56,6 +56,6 @@ pub walk_nodes : {w : List ℕ} {n cv r : ℕ} {s e : ℕ} {l : List ℕ} → Li
 walk_nodes h stay v lv e = (v, rest)
 walk_nodes {w} {n} {cv} {r} h (step {s} {t} {e} {l} p k) v lv same =
     let q : Permits 1 n (state_in w v) t = subst (λ (z : ℕ). Permits 1 n z t) (sym same) p in
-    let a = arc-some w (record { nodes = r; width = n; vector = cv; table = false }) v t h lv q in
+    let a = arc_some w (record { nodes = r; width = n; vector = cv; table = false }) v t h lv q in
     let m = walk_nodes h k a.0 a.1.enters (a.1.leads ∙ ap (λ (z : ℕ). next cv z t) same) in
     (m.0, onward a.1 m.1)

@@ -51,25 +51,25 @@ module _ (w : List ℕ) (r n cv : ℕ) (c node : ℕ → ℕ) (count : ℕ) (arc
   along : ℕ → ℕ → List ℕ
   along i m = states_along cv (state_in w (node i)) (spell c i m)
 
-  walk-spell : (m i k : ℕ) → i + m ≡ k → k ≤ count → Walk 1 n cv (state_in w (node i)) (spell c i m) (state_in w (node k))
-  walk-spell zero i k e l =
+  walk_spell : (m i k : ℕ) → i + m ≡ k → k ≤ count → Walk 1 n cv (state_in w (node i)) (spell c i m) (state_in w (node k))
+  walk_spell zero i k e l =
       let f : i ≡ k = omega arith in
       subst (λ (z : ℕ). Walk 1 n cv (state_in w (node i)) [] (state_in w (node z))) f stay
-  walk-spell (suc m) i k e l =
+  walk_spell (suc m) i k e l =
       let a = arcs i (omega arith) in
       step
       a.permits
-      (subst (λ (s : ℕ). Walk 1 n cv s (spell c (suc i) m) (state_in w (node k))) a.leads (walk-spell m (suc i) k (omega arith) l))
+      (subst (λ (s : ℕ). Walk 1 n cv s (spell c (suc i) m) (state_in w (node k))) a.leads (walk_spell m (suc i) k (omega arith) l))
 
-  along-more : (m i : ℕ) → i < count → along i (suc m) ≡ state_in w (node i) ∷ along (suc i) m
+  along_more : (m i : ℕ) → i < count → along i (suc m) ≡ state_in w (node i) ∷ along (suc i) m
   unfolding along
-  along-more m i l =
+  along_more m i l =
       ap (λ (s : ℕ). state_in w (node i) ∷ states_along cv s (spell c (suc i) m)) (sym (arcs i l).leads)
 
   along_length : (m i : ℕ) → i + m ≤ count → length (along i m) ≡ m
   unfolding along
   along_length zero i l = refl
-  along_length (suc m) i l = ap length (along-more m i (omega arith)) ∙ ap suc (along_length m (suc i) (omega arith))
+  along_length (suc m) i l = ap length (along_more m i (omega arith)) ∙ ap suc (along_length m (suc i) (omega arith))
 
   along_at : (m i j : ℕ) → i + m ≤ count → j < m → get_or (along i m) j 0 ≡ state_in w (node (i + j))
   unfolding along
@@ -79,7 +79,7 @@ module _ (w : List ℕ) (r n cv : ℕ) (c node : ℕ → ℕ) (count : ℕ) (arc
       ap (λ (z : ℕ). state_in w (node z)) e
   along_at (suc m) i (suc j) l h =
       let e : suc i + j ≡ i + suc j = omega arith in
-      ap (λ (s : List ℕ). get_or s (suc j) 0) (along-more m i (omega arith))
+      ap (λ (s : List ℕ). get_or s (suc j) 0) (along_more m i (omega arith))
       ∙ along_at m (suc i) j (omega arith) (le_of_suc-le-suc h)
       ∙ ap (λ (z : ℕ). state_in w (node z)) e
 
@@ -100,7 +100,7 @@ cycle_from {w} {r} {n} {cv} {c} {best} h reached z =
       reached = reached (z.node 0) (z.arcs 0 z.some).leaves;
       closed =
           subst (λ (m : ℕ). Walk 1 n cv state (spell c 0 k) (state_in w m)) z.closed
-          (walk-spell w r n cv c z.node k z.arcs k 0 k (omega arith) (omega arith));
+          (walk_spell w r n cv c z.node k z.arcs k 0 k (omega arith) (omega arith));
       apart = λ i j l m e.
           let low : j < k = omega (arith, size) in
           let same : z.node i ≡ z.node j =

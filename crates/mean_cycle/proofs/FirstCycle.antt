@@ -144,15 +144,15 @@ walk_fewer {w = w} {G = G} {v = v} {i = i} h z = pigeon G.nodes (suc i) h.node b
         (λ e. subst (λ (u : ℕ). u < G.nodes) (sym (ap h.node e ∙ h.here)) h.inside)
         (λ ne. (h.arcs j (omega arith)).leaves)
 
-    at-end : (j k : ℕ) → j < i → k ≡ i → h.node j ≡ h.node k → ⊥
-    at-end j k l e q = walk_new h z j l (q ∙ ap h.node e ∙ h.here)
+    at_end : (j k : ℕ) → j < i → k ≡ i → h.node j ≡ h.node k → ⊥
+    at_end j k l e q = walk_new h z j l (q ∙ ap h.node e ∙ h.here)
 
     apart : (j k : ℕ) → j < suc i → k < suc i → h.node j ≡ h.node k → j ≡ k
     apart j k l m q =
         decide
         (ℕ_discrete j i)
-        (λ e. decide (ℕ_discrete k i) (λ f. e ∙ sym f) (λ n. absurd (at-end k j (omega arith) e (sym q))))
-        (λ ne. decide (ℕ_discrete k i) (λ f. absurd (at-end j k (omega arith) f q)) (λ n. walk_apart h j k (omega arith) (omega arith) q))
+        (λ e. decide (ℕ_discrete k i) (λ f. e ∙ sym f) (λ n. absurd (at_end k j (omega arith) e (sym q))))
+        (λ ne. decide (ℕ_discrete k i) (λ f. absurd (at_end j k (omega arith) f q)) (λ n. walk_apart h j k (omega arith) (omega arith) q))
 
 -- the places of a step in the words
 pub record Inside (w : List ℕ) (v i : ℕ) : Type 0 where
@@ -202,34 +202,34 @@ module _ (w₀ w : List ℕ) (G : Graph) (v i t x : ℕ) (h : Walking w₀ w G v
   other : (k : ℕ) → (k ≡ 768 + v → ⊥) → (k ≡ 1280 + i → ⊥) → get_or (stepped w v i t) k 0 ≡ get_or w k 0
   other k p q = get_or-set_other (set w (768 + v) (i + 1)) (1280 + i) k t 0 q ∙ get_or-set_other w (768 + v) k (i + 1) 0 p
 
-  step-frame : Frame w (stepped w v i t)
-  step-frame =
+  step_frame : Frame w (stepped w v i t)
+  step_frame =
       record {
         size = simp length-set;
         low = λ k l. other k (λ e. omega arith) (λ e. omega arith);
         high = λ k l. other k (λ e. omega (arith, few, h.inside)) (λ e. omega (arith, few, fewer));
       }
 
-  mark-here : gain (stepped w v i t) v ≡ suc i
-  mark-here =
+  mark_here : gain (stepped w v i t) v ≡ suc i
+  mark_here =
       get_or-set_other (set w (768 + v) (i + 1)) (1280 + i) (768 + v) t 0 (λ e. omega (arith, few, h.inside))
       ∙ get_or-set_same w (768 + v) (i + 1) 0 (omega (arith, few, h.inside, h.listing.room))
       ∙ add-one i
 
-  mark-other : (u : ℕ) → u < G.nodes → (u ≡ v → ⊥) → gain (stepped w v i t) u ≡ gain w u
-  mark-other u l ne = other (768 + u) (λ e. ne (omega arith)) (λ e. omega (arith, few))
+  mark_other : (u : ℕ) → u < G.nodes → (u ≡ v → ⊥) → gain (stepped w v i t) u ≡ gain w u
+  mark_other u l ne = other (768 + u) (λ e. ne (omega arith)) (λ e. omega (arith, few))
 
-  label-here : label (stepped w v i t) i ≡ t
-  label-here = get_or-set_same (set w (768 + v) (i + 1)) (1280 + i) t 0 (simp length-set (omega (arith, few, fewer, h.listing.room)))
+  label_here : label (stepped w v i t) i ≡ t
+  label_here = get_or-set_same (set w (768 + v) (i + 1)) (1280 + i) t 0 (simp length-set (omega (arith, few, fewer, h.listing.room)))
 
-  label-other : (j : ℕ) → j < i → label (stepped w v i t) j ≡ label w j
-  label-other j l = other (1280 + j) (λ e. omega (arith, few, h.inside)) (λ e. omega arith)
+  label_other : (j : ℕ) → j < i → label (stepped w v i t) j ≡ label w j
+  label_other j l = other (1280 + j) (λ e. omega (arith, few, h.inside)) (λ e. omega arith)
 
-  node-before : (j : ℕ) → j ≤ i → with_at h.node (suc i) x j ≡ h.node j
-  node-before j l = with_other h.node (suc i) x j (λ e. omega arith)
+  node_before : (j : ℕ) → j ≤ i → with_at h.node (suc i) x j ≡ h.node j
+  node_before j l = with_other h.node (suc i) x j (λ e. omega arith)
 
-  step-arc : (j : ℕ) → j < suc i → Arc (stepped w v i t) G (with_at h.node (suc i) x j) (label (stepped w v i t) j) (with_at h.node (suc i) x (suc j))
-  step-arc j l =
+  step_arc : (j : ℕ) → j < suc i → Arc (stepped w v i t) G (with_at h.node (suc i) x j) (label (stepped w v i t) j) (with_at h.node (suc i) x (suc j))
+  step_arc j l =
       decide
       (ℕ_discrete j i)
       (λ e.
@@ -238,65 +238,65 @@ module _ (w₀ w : List ℕ) (G : Graph) (v i t x : ℕ) (h : Walking w₀ w G v
       (sym e)
       (subst₃
       (λ (p q r : ℕ). Arc (stepped w v i t) G p q r)
-      (sym (node-before i (omega arith) ∙ h.here))
-      (sym label-here)
+      (sym (node_before i (omega arith) ∙ h.here))
+      (sym label_here)
       (sym (with_here h.node (suc i) x))
-      (arc_kept step-frame few a)))
+      (arc_kept step_frame few a)))
       (λ ne.
       let m : j < i = omega arith in
       subst₃
       (λ (p q r : ℕ). Arc (stepped w v i t) G p q r)
-      (sym (node-before j (omega arith)))
-      (sym (label-other j m))
-      (sym (node-before (suc j) m))
-      (arc_kept step-frame few (h.arcs j m)))
+      (sym (node_before j (omega arith)))
+      (sym (label_other j m))
+      (sym (node_before (suc j) m))
+      (arc_kept step_frame few (h.arcs j m)))
 
-  step-mark : (j : ℕ) → j < suc i → gain (stepped w v i t) (with_at h.node (suc i) x j) ≡ suc j
-  step-mark j l =
-      ap (gain (stepped w v i t)) (node-before j (omega arith))
+  step_mark : (j : ℕ) → j < suc i → gain (stepped w v i t) (with_at h.node (suc i) x j) ≡ suc j
+  step_mark j l =
+      ap (gain (stepped w v i t)) (node_before j (omega arith))
       ∙ decide
       (ℕ_discrete j i)
-      (λ e. ap (gain (stepped w v i t)) (ap h.node e ∙ h.here) ∙ mark-here ∙ ap suc (sym e))
+      (λ e. ap (gain (stepped w v i t)) (ap h.node e ∙ h.here) ∙ mark_here ∙ ap suc (sym e))
       (λ ne.
       let m : j < i = omega arith in
-      mark-other (h.node j) (h.arcs j m).leaves (walk_new h new j m) ∙ h.marks j m)
+      mark_other (h.node j) (h.arcs j m).leaves (walk_new h new j m) ∙ h.marks j m)
 
-  step-marked : (u : ℕ) → u < G.nodes → (gain (stepped w v i t) u ≡ 0 → ⊥)
+  step_marked : (u : ℕ) → u < G.nodes → (gain (stepped w v i t) u ≡ 0 → ⊥)
       → (gain (stepped w v i t) u ≤ suc i) × (with_at h.node (suc i) x (gain (stepped w v i t) u - 1) ≡ u)
-  step-marked u l ne =
+  step_marked u l ne =
       decide
       (ℕ_discrete u v)
       (λ e.
-      let g : gain (stepped w v i t) u ≡ suc i = ap (gain (stepped w v i t)) e ∙ mark-here in
+      let g : gain (stepped w v i t) u ≡ suc i = ap (gain (stepped w v i t)) e ∙ mark_here in
       let k : gain (stepped w v i t) u - 1 ≡ i = omega arith in
-      (omega arith, ap (with_at h.node (suc i) x) k ∙ node-before i (omega arith) ∙ h.here ∙ sym e))
+      (omega arith, ap (with_at h.node (suc i) x) k ∙ node_before i (omega arith) ∙ h.here ∙ sym e))
       (λ n.
-      let g : gain (stepped w v i t) u ≡ gain w u = mark-other u l n in
+      let g : gain (stepped w v i t) u ≡ gain w u = mark_other u l n in
       let o = h.marked u l (λ z. ne (g ∙ z)) in
       let low : gain w u ≤ i = o.0 in
       let k : gain (stepped w v i t) u - 1 ≡ gain w u - 1 = omega arith in
-      (omega arith, ap (with_at h.node (suc i) x) k ∙ node-before (gain w u - 1) (omega arith) ∙ o.1))
+      (omega arith, ap (with_at h.node (suc i) x) k ∙ node_before (gain w u - 1) (omega arith) ∙ o.1))
 
-  walk-suc : Walking w₀ (stepped w v i t) G x (suc i)
-  walk-suc =
+  walk_suc : Walking w₀ (stepped w v i t) G x (suc i)
+  walk_suc =
       record {
-        frame = frame_trans h.frame step-frame;
-        listing = listing_kept step-frame h.listing;
+        frame = frame_trans h.frame step_frame;
+        listing = listing_kept step_frame h.listing;
         node = with_at h.node (suc i) x;
         here = with_here h.node (suc i) x;
         inside = a.enters;
-        arcs = step-arc;
-        marks = step-mark;
-        marked = step-marked;
+        arcs = step_arc;
+        marks = step_mark;
+        marked = step_marked;
       }
 
   pub walk_more : Walking w₀ (stepped w v i t) G x (i + 1)
-  walk_more = subst (λ (k : ℕ). Walking w₀ (stepped w v i t) G x k) (sym (add-one i)) walk-suc
+  walk_more = subst (λ (k : ℕ). Walking w₀ (stepped w v i t) G x k) (sym (add-one i)) walk_suc
 
 -- the walk is at a node that it left: a cycle
 module _ (w₀ w : List ℕ) (G : Graph) (v i : ℕ) (h : Walking w₀ w G v i) (old : gain w v ≡ 0 → ⊥) where
-  pub walk-copyable : Copyable w (gain w v - 1) i
-  walk-copyable =
+  pub walk_copyable : Copyable w (gain w v - 1) i
+  walk_copyable =
       let o = h.marked v h.inside old in
       record {
         room = h.listing.room;
@@ -306,8 +306,8 @@ module _ (w₀ w : List ℕ) (G : Graph) (v i : ℕ) (h : Walking w₀ w G v i) 
       }
 
   module _ (w' : List ℕ) (r : Cycle) (c : Copied w w' (gain w v - 1) i v r) where
-    copy-frame : Frame w w'
-    copy-frame = within_frame 1536 1792 (omega arith) (omega arith) c.within
+    copy_frame : Frame w w'
+    copy_frame = within_frame 1536 1792 (omega arith) (omega arith) c.within
 
     closing : CycleOf w G (cyc w') r
     closing =
@@ -340,10 +340,10 @@ module _ (w₀ w : List ℕ) (G : Graph) (v i : ℕ) (h : Walking w₀ w G v i) 
     pub walk_end : {w₁ : List ℕ} → Frame w₁ w₀ → Begun w₁ w' G r
     walk_end f =
         record {
-          frame = frame_trans f (frame_trans h.frame copy-frame);
+          frame = frame_trans f (frame_trans h.frame copy_frame);
           ready =
               record {
-                listing = listing_kept copy-frame h.listing;
-                cycle = cycle_kept copy-frame (listing_few h.listing) (λ i l. refl) closing;
+                listing = listing_kept copy_frame h.listing;
+                cycle = cycle_kept copy_frame (listing_few h.listing) (λ i l. refl) closing;
               };
         }

@@ -13,7 +13,7 @@ use Rattle.mean_cycle.specs.declared.Cycle.{Cycle}
 use Rattle.mean_cycle.specs.declared.search.Graph.{Graph}
 use Rattle.mean_cycle.specs.Nodes.{Leads, arc_word, Arc, CycleOf, Frame, cyc, sum_to}
 use Rattle.mean_cycle.specs.Inner.{Source, Listing, Within, Tree, Ready, Ends, Rooted, gain, parent, label}
-use Rattle.mean_cycle.proofs.Links.{depth_below, gain-below}
+use Rattle.mean_cycle.proofs.Links.{depth_below, gain_below}
 use Rattle.mean_cycle.proofs.Sums.{sum_same, sum_below}
 
 -- Frames
@@ -153,7 +153,7 @@ pub tree_gain : {w : List ℕ} {G : Graph} {best : Cycle} → Tree w G best → 
 tree_gain {w} {G} {best} tr few y l =
     let d : Ends w G.nodes y = tree_ends tr y l in
     let a : gain w y ≤ d.depth * best.sum =
-    gain-below (parent w) (label w) (gain w) G.nodes best.count best.sum tr.less tr.base d.depth y l d.rooted
+    gain_below (parent w) (label w) (gain w) G.nodes best.count best.sum tr.less tr.base d.depth y l d.rooted
     in
     let b : d.depth * best.sum ≤ 255 * best.sum = mul-le-mul_right best.sum (omega (arith, d.within)) in
     omega arith

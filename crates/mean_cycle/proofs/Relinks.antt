@@ -10,7 +10,7 @@ use Rattle.mean_cycle.specs.declared.Cycle.{Cycle}
 use Rattle.mean_cycle.specs.declared.search.Graph.{Graph}
 use Rattle.mean_cycle.specs.Nodes.{Arc, Frame, cyc, sum_to}
 use Rattle.mean_cycle.specs.Inner.{Tree, Rooted, Off, gain, parent, label}
-use Rattle.mean_cycle.proofs.Links.{decide, off-rooted, rerooted}
+use Rattle.mean_cycle.proofs.Links.{decide, off_rooted, rerooted}
 use Rattle.mean_cycle.proofs.Sums.{sum_grown}
 use Rattle.mean_cycle.proofs.Frames.{arc_kept}
 
@@ -29,8 +29,8 @@ abbrev pub linked : List ℕ → ℕ → ℕ → ℕ → ℕ → List ℕ
 linked w x v t e = set (set (set w (768 + x) e) (1024 + x) v) (1280 + x) t
 
 module _ (w : List ℕ) (x v t e : ℕ) where
-  linked-other : (i : ℕ) → (i ≡ 768 + x → ⊥) → (i ≡ 1024 + x → ⊥) → (i ≡ 1280 + x → ⊥) → get_or (linked w x v t e) i 0 ≡ get_or w i 0
-  linked-other i a b c =
+  linked_other : (i : ℕ) → (i ≡ 768 + x → ⊥) → (i ≡ 1024 + x → ⊥) → (i ≡ 1280 + x → ⊥) → get_or (linked w x v t e) i 0 ≡ get_or w i 0
+  linked_other i a b c =
       get_or-set_other (set (set w (768 + x) e) (1024 + x) v) (1280 + x) i t 0 c ∙ get_or-set_other (set w (768 + x) e) (1024 + x) i v 0 b ∙ get_or-set_other w (768 + x) i e 0 a
 
   pub relinked : (n : ℕ) → n ≤ 256 → x < n → 2048 ≤ length w → Relinked w (linked w x v t e) n x v t e
@@ -39,18 +39,18 @@ module _ (w : List ℕ) (x v t e : ℕ) where
         frame =
             record {
               size = simp length-set;
-              low = λ i l. linked-other i (λ q. omega arith) (λ q. omega arith) (λ q. omega arith);
-              high = λ i l. linked-other i (λ q. omega arith) (λ q. omega arith) (λ q. omega arith);
+              low = λ i l. linked_other i (λ q. omega arith) (λ q. omega arith) (λ q. omega arith);
+              high = λ i l. linked_other i (λ q. omega arith) (λ q. omega arith) (λ q. omega arith);
             };
-        cycle = λ i. linked-other (1536 + i) (λ q. omega arith) (λ q. omega arith) (λ q. omega arith);
+        cycle = λ i. linked_other (1536 + i) (λ q. omega arith) (λ q. omega arith) (λ q. omega arith);
         gain_x =
             get_or-set_other (set (set w (768 + x) e) (1024 + x) v) (1280 + x) (768 + x) t 0 (λ q. omega arith) ∙ get_or-set_other (set w (768 + x) e) (1024 + x) (768 + x) v 0 (λ q. omega arith) ∙ get_or-set_same w (768 + x) e 0 (omega arith);
         parent_x =
             get_or-set_other (set (set w (768 + x) e) (1024 + x) v) (1280 + x) (1024 + x) t 0 (λ q. omega arith) ∙ get_or-set_same (set w (768 + x) e) (1024 + x) v 0 (simp length-set (omega arith));
         label_x = get_or-set_same (set (set w (768 + x) e) (1024 + x) v) (1280 + x) t 0 (simp length-set (omega arith));
-        gains = λ y l ne. linked-other (768 + y) (λ q. ne (omega arith)) (λ q. omega arith) (λ q. omega arith);
-        parents = λ y l ne. linked-other (1024 + y) (λ q. omega arith) (λ q. ne (omega arith)) (λ q. omega arith);
-        labels = λ y l ne. linked-other (1280 + y) (λ q. omega arith) (λ q. omega arith) (λ q. ne (omega arith));
+        gains = λ y l ne. linked_other (768 + y) (λ q. ne (omega arith)) (λ q. omega arith) (λ q. omega arith);
+        parents = λ y l ne. linked_other (1024 + y) (λ q. omega arith) (λ q. ne (omega arith)) (λ q. omega arith);
+        labels = λ y l ne. linked_other (1280 + y) (λ q. omega arith) (λ q. omega arith) (λ q. ne (omega arith));
       }
 
 module _ (w w' : List ℕ) (G : Graph) (best : Cycle) (v t x g : ℕ) (few : G.nodes ≤ 256) (tr : Tree w G best) (a : Arc w G v t x) (d : ℕ)
@@ -66,8 +66,8 @@ module _ (w w' : List ℕ) (G : Graph) (best : Cycle) (v t x g : ℕ) (few : G.n
       omega arith)
       (λ ne. let s : gain w' z ≡ gain w z = re.gains z l ne in omega arith)
 
-  tree-arc : (y : ℕ) → y < G.nodes → parent w' y < G.nodes → Arc w' G (parent w' y) (label w' y) y
-  tree-arc y l pl =
+  tree_arc : (y : ℕ) → y < G.nodes → parent w' y < G.nodes → Arc w' G (parent w' y) (label w' y) y
+  tree_arc y l pl =
       decide
       (ℕ_discrete y x)
       (λ e.
@@ -82,8 +82,8 @@ module _ (w w' : List ℕ) (G : Graph) (best : Cycle) (v t x g : ℕ) (few : G.n
       (sym (re.labels y l ne))
       (arc_kept re.frame few (tr.arc y l (subst (λ (z : ℕ). z < G.nodes) (re.parents y l ne) pl))))
 
-  tree-less : (y : ℕ) → y < G.nodes → parent w' y < G.nodes → gain w' y + best.count * label w' y ≤ gain w' (parent w' y) + best.sum
-  tree-less y l pl =
+  tree_less : (y : ℕ) → y < G.nodes → parent w' y < G.nodes → gain w' y + best.count * label w' y ≤ gain w' (parent w' y) + best.sum
+  tree_less y l pl =
       decide
       (ℕ_discrete y x)
       (λ e.
@@ -102,8 +102,8 @@ module _ (w w' : List ℕ) (G : Graph) (best : Cycle) (v t x g : ℕ) (few : G.n
       let u : gain w' (parent w' y) ≡ gain w' (parent w y) = ap (gain w') pe in
       omega (arith, re.gains y l ne, tr.less y l pl'))
 
-  tree-base : (y : ℕ) → y < G.nodes → G.nodes ≤ parent w' y → gain w' y ≡ 0
-  tree-base y l pl =
+  tree_base : (y : ℕ) → y < G.nodes → G.nodes ≤ parent w' y → gain w' y ≡ 0
+  tree_base y l pl =
       decide
       (ℕ_discrete y x)
       (λ e.
@@ -111,8 +111,8 @@ module _ (w w' : List ℕ) (G : Graph) (best : Cycle) (v t x g : ℕ) (few : G.n
       absurd (omega (arith, a.leaves)))
       (λ ne. re.gains y l ne ∙ tr.base y l (subst (λ (z : ℕ). G.nodes ≤ z) (re.parents y l ne) pl))
 
-  tree-deep : (y : ℕ) → y < G.nodes → (e : ℕ) × Rooted (parent w') G.nodes e y
-  tree-deep y l =
+  tree_deep : (y : ℕ) → y < G.nodes → (e : ℕ) × Rooted (parent w') G.nodes e y
+  tree_deep y l =
       let o : (e : ℕ) × Rooted (parent w) G.nodes e y = tr.deep y l in
       rerooted
       (parent w)
@@ -124,14 +124,14 @@ module _ (w w' : List ℕ) (G : Graph) (best : Cycle) (v t x g : ℕ) (few : G.n
       d
       a.leaves
       re.parent_x
-      (off-rooted (parent w) (parent w') G.nodes x re.parents d v a.leaves off)
+      (off_rooted (parent w) (parent w') G.nodes x re.parents d v a.leaves off)
       o.0
       y
       l
       o.1
 
-  pub tree-kept : Tree w' G best
-  tree-kept = record { arc = tree-arc; less = tree-less; base = tree-base; deep = tree-deep }
+  pub tree_kept : Tree w' G best
+  tree_kept = record { arc = tree_arc; less = tree_less; base = tree_base; deep = tree_deep }
 
-  pub gains-grown : sum_to (gain w) G.nodes + 1 ≤ sum_to (gain w') G.nodes
-  gains-grown = sum_grown (gain w) (gain w') G.nodes x a.enters re.gains (subst (λ (z : ℕ). gain w x < z) (sym re.gain_x) more)
+  pub gains_grown : sum_to (gain w) G.nodes + 1 ≤ sum_to (gain w') G.nodes
+  gains_grown = sum_grown (gain w) (gain w') G.nodes x a.enters re.gains (subst (λ (z : ℕ). gain w x < z) (sym re.gain_x) more)

@@ -20,7 +20,7 @@ use Rattle.mean_cycle.specs.Inner.{Listing, Tree, Calm, Ready, Cleared, Stepped,
 use Rattle.mean_cycle.proofs.Links.{decide}
 use Rattle.mean_cycle.proofs.Sums.{sum_below, mean_falls}
 use Rattle.mean_cycle.proofs.Frames.{frame_refl, frame_trans, frame_back, within_frame, listing_kept, cycle_kept, ready_kept, ready_few, ready_count, tree_gain}
-use Rattle.mean_cycle.proofs.Bounds.{calm-floor, floor_kept}
+use Rattle.mean_cycle.proofs.Bounds.{calm_floor, floor_kept}
 
 -- visit
 
@@ -331,5 +331,5 @@ search_end {v} {w₀} {w} {w'} {G} {first} {best} f h s e =
     record {
       frame = g;
       cycle = cycle_kept (frame_back g) (ready_few r) (λ i l. refl) r.cycle;
-      floor = floor_kept g (ready_few r) (calm-floor w' G best (s.calm e) r.listing.some);
+      floor = floor_kept g (ready_few r) (calm_floor w' G best (s.calm e) r.listing.some);
     }

@@ -12,8 +12,8 @@ use Rattle.mean_cycle.specs.Nodes.{Arc}
 use Rattle.mean_cycle.specs.Inner.{Listing, Path, Off, Tree, Calm, Ready, Ends, Better, Traced, Stepped, gain, parent}
 use Rattle.mean_cycle.proofs.Frames.{frame_refl, within_frame, ready_kept, ready_few, ready_sum, tree_gain}
 use Rattle.mean_cycle.proofs.Targets.{arc_same}
-use Rattle.mean_cycle.proofs.Closing.{closing-better}
-use Rattle.mean_cycle.proofs.Relinks.{Relinked, linked, relinked, tree-kept, gains-grown}
+use Rattle.mean_cycle.proofs.Closing.{closing_better}
+use Rattle.mean_cycle.proofs.Relinks.{Relinked, linked, relinked, tree_kept, gains_grown}
 
 -- a new gain fits a word
 pub gain_fits : {w : List ℕ} {G : Graph} {best : Cycle} {v : ℕ} → Ready w G best → Tree w G best → v < G.nodes → gain w v + best.sum < 4294967296
@@ -49,7 +49,7 @@ stepped_found w w' G best v t x k r few tr a path d traced lt =
           subst
           (λ (z : ℕ). Better w' G best (record { count = z; sum = r; start = x }))
           (sym (add-one k))
-          (closing-better w w' G best v t x k r few tr a path d traced lt);
+          (closing_better w w' G best v t x k r few tr a path d traced lt);
       tree = λ e. nowhere (sym e);
       ready = λ e. nowhere (sym e);
       one = omega arith;
@@ -73,9 +73,9 @@ stepped_moved w w' G best best' v t x r tr a off e lt =
     record {
       frame = re.frame;
       better = λ q. nowhere q;
-      tree = λ q. tree-kept w (linked w x v t g) G best v t x g few tr a off.0 off.1 re eq more;
+      tree = λ q. tree_kept w (linked w x v t g) G best v t x g few tr a off.0 off.1 re eq more;
       ready = λ q. ready_kept re.frame (λ i l. re.cycle i) r;
       one = omega arith;
       still = λ q. absurd (omega arith);
-      grown = λ q. gains-grown w (linked w x v t g) G best v t x g few tr a off.0 off.1 re eq more;
+      grown = λ q. gains_grown w (linked w x v t g) G best v t x g few tr a off.0 off.1 re eq more;
     })

@@ -14,7 +14,7 @@ use Rattle.words.proofs.BitLaws.{unset_zero}
 use Rattle.words.proofs.ZeroLaws.{zero_most, zero_clear}
 use Rattle.diagram.specs.Diagram.{next, Permits}
 use Rattle.diagram.specs.Work.{state_in, place_in}
-use Rattle.diagram.proofs.IndexLaws.{place-listed, place-some}
+use Rattle.diagram.proofs.IndexLaws.{place_listed, place_some}
 use Rattle.mean_cycle.specs.declared.search.Graph.{Graph}
 use Rattle.mean_cycle.specs.Nodes.{Leads, arc_word, Arc}
 use Rattle.mean_cycle.specs.Inner.{Source, Listing}
@@ -48,20 +48,20 @@ arc_same {w} {G} {v} {t} {x} {y} h a b = go G.table h.source a.leads b.leads
 
 module _ (w : List ℕ) (G : Graph) (v t : ℕ) (h : Listing w G) (inside : v < G.nodes) (permits : Permits 1 G.width (state_in w v) t) where
   -- the node to which t leads, whatever tells it
-  arc-to : (x : ℕ) → x < G.nodes → Leads G.table w G v t x → Arc w G v t x
-  arc-to x l e = record { leaves = inside; enters = l; permits = permits; high = omega (arith, h.narrow, permits.small); leads = e }
+  arc_to : (x : ℕ) → x < G.nodes → Leads G.table w G v t x → Arc w G v t x
+  arc_to x l e = record { leaves = inside; enters = l; permits = permits; high = omega (arith, h.narrow, permits.small); leads = e }
 
   -- there is one
-  pub arc-some : (x : ℕ) × Arc w G v t x
-  arc-some = go G.table h.source arc-to
+  pub arc_some : (x : ℕ) × Arc w G v t x
+  arc_some = go G.table h.source arc_to
     where
       go : (m : Bool) → Source m w G → ((x : ℕ) → x < G.nodes → Leads m w G v t x → Arc w G v t x) → (x : ℕ) × Arc w G v t x
       go true s f = (arc_word w v t, f (arc_word w v t) (s.closed v t inside permits) refl)
       go false s f = let x = s.closed v t inside permits in (x.0, f x.0 x.1.0 x.1.1)
 
   -- by the table
-  pub table-arc : (r : ℕ) → G.table ≡ true → r ≡ arc_word w v t → Arc w G v t r
-  table-arc r e p = go G.table e h.source arc-to
+  pub table_arc : (r : ℕ) → G.table ≡ true → r ≡ arc_word w v t → Arc w G v t r
+  table_arc r e p = go G.table e h.source arc_to
     where
       go : (m : Bool) → m ≡ true → Source m w G → ((x : ℕ) → x < G.nodes → Leads m w G v t x → Arc w G v t x) → Arc w G v t r
       go true e s f = f r (subst (λ (z : ℕ). z < G.nodes) (sym p) (s.closed v t inside permits)) (sym p)
@@ -75,8 +75,8 @@ module _ (w : List ℕ) (G : Graph) (v t : ℕ) (h : Listing w G) (inside : v < 
       go false e s = nowhere e
 
   -- the next state is listed, at the place that the index tells
-  target-next : G.table ≡ false → Arc w G v t (place_in w G.nodes (next G.vector (state_in w v) t))
-  target-next e = go G.table e h.source arc-to
+  target_next : G.table ≡ false → Arc w G v t (place_in w G.nodes (next G.vector (state_in w v) t))
+  target_next e = go G.table e h.source arc_to
     where
       s : ℕ
       s = next G.vector (state_in w v) t
@@ -85,13 +85,13 @@ module _ (w : List ℕ) (G : Graph) (v t : ℕ) (h : Listing w G) (inside : v < 
       go true e z f = nowhere (sym e)
       go false e z f =
           let x = z.closed v t inside permits in
-          let listed : place_in w G.nodes s < G.nodes = place-some w G.nodes z.index s x.0 x.1.0 x.1.1 in
-          f (place_in w G.nodes s) listed (place-listed w G.nodes z.index s listed)
+          let listed : place_in w G.nodes s < G.nodes = place_some w G.nodes z.index s x.0 x.1.0 x.1.1 in
+          f (place_in w G.nodes s) listed (place_listed w G.nodes z.index s listed)
 
-  pub target-arc : (shifted r : ℕ) → G.table ≡ false → shifted ≡ state_in w v / 2 ^ (t % 64) → r ≡ place_in w G.nodes (bit_or shifted G.vector) → Arc w G v t r
-  target-arc shifted r b e p =
+  pub target_arc : (shifted r : ℕ) → G.table ≡ false → shifted ≡ state_in w v / 2 ^ (t % 64) → r ≡ place_in w G.nodes (bit_or shifted G.vector) → Arc w G v t r
+  target_arc shifted r b e p =
       let f : t % 64 ≡ t = mod-eq_of_lt (omega (arith, h.narrow, permits.small)) in
       let q : r ≡ place_in w G.nodes (next G.vector (state_in w v) t) =
       p ∙ ap (λ (z : ℕ). place_in w G.nodes (bit_or z G.vector)) (e ∙ ap (λ (z : ℕ). state_in w v / 2 ^ z) f)
       in
-      subst (λ (z : ℕ). Arc w G v t z) (sym q) (target-next b)
+      subst (λ (z : ℕ). Arc w G v t z) (sym q) (target_next b)

@@ -24,8 +24,8 @@ abbrev pub cleared : List ℕ → ℕ → List ℕ
 cleared w v = set (set w (768 + v) 0) (1024 + v) 256
 
 module _ (w : List ℕ) (v : ℕ) where
-  cleared-other : (i : ℕ) → (i ≡ 768 + v → ⊥) → (i ≡ 1024 + v → ⊥) → get_or (cleared w v) i 0 ≡ get_or w i 0
-  cleared-other i a b = get_or-set_other (set w (768 + v) 0) (1024 + v) i 256 0 b ∙ get_or-set_other w (768 + v) i 0 0 a
+  cleared_other : (i : ℕ) → (i ≡ 768 + v → ⊥) → (i ≡ 1024 + v → ⊥) → get_or (cleared w v) i 0 ≡ get_or w i 0
+  cleared_other i a b = get_or-set_other (set w (768 + v) 0) (1024 + v) i 256 0 b ∙ get_or-set_other w (768 + v) i 0 0 a
 
   pub cleared_more : (w₀ : List ℕ) → v < 256 → 2048 ≤ length w₀ → Cleared w₀ w v → Cleared w₀ (cleared w v) (v + 1)
   cleared_more w₀ few room h =
@@ -33,21 +33,21 @@ module _ (w : List ℕ) (v : ℕ) where
         within =
             record {
               size = simp length-set h.within.size;
-              below = λ i l. cleared-other i (λ e. omega arith) (λ e. omega arith) ∙ h.within.below i l;
-              above = λ i l. cleared-other i (λ e. omega arith) (λ e. omega arith) ∙ h.within.above i l;
+              below = λ i l. cleared_other i (λ e. omega arith) (λ e. omega arith) ∙ h.within.below i l;
+              above = λ i l. cleared_other i (λ e. omega arith) (λ e. omega arith) ∙ h.within.above i l;
             };
         gains = λ y l.
             decide
             (ℕ_discrete y v)
             (λ e.
             ap (gain (cleared w v)) e ∙ get_or-set_other (set w (768 + v) 0) (1024 + v) (768 + v) 256 0 (λ q. omega arith) ∙ get_or-set_same w (768 + v) 0 0 (omega (arith, h.within.size)))
-            (λ ne. cleared-other (768 + y) (λ e. ne (omega arith)) (λ e. omega arith) ∙ h.gains y (omega arith));
+            (λ ne. cleared_other (768 + y) (λ e. ne (omega arith)) (λ e. omega arith) ∙ h.gains y (omega arith));
         parents = λ y l.
             decide
             (ℕ_discrete y v)
             (λ e.
             ap (parent (cleared w v)) e ∙ get_or-set_same (set w (768 + v) 0) (1024 + v) 256 0 (simp length-set (omega (arith, h.within.size))))
-            (λ ne. cleared-other (1024 + y) (λ e. omega arith) (λ e. ne (omega arith)) ∙ h.parents y (omega arith));
+            (λ ne. cleared_other (1024 + y) (λ e. omega arith) (λ e. ne (omega arith)) ∙ h.parents y (omega arith));
       }
 
 -- climb
@@ -131,9 +131,9 @@ traced_parent {y = y} c few = c.within.below (1024 + y) (omega (arith, c.here))
 
 module _ (w₀ w : List ℕ) (n v t k x sum y : ℕ) (room : 2048 ≤ length w₀) (few : n ≤ 256) (kn : k < n)
     (low : (y : ℕ) → y < n → parent w₀ y < n → label w₀ y ≤ 32) where
-  trace-suc : (j : ℕ) → Tracing w₀ w n v t k x sum y (suc j)
+  trace_suc : (j : ℕ) → Tracing w₀ w n v t k x sum y (suc j)
       → Tracing w₀ (set w (1536 + j) (label w y)) n v t k x (sum + label w y) (parent w y) j
-  trace-suc j c =
+  trace_suc j c =
       let pe : parent w y ≡ parent w₀ y = traced_parent c few in
       let le : label w y ≡ label w₀ y = traced_label c few in
       let pl : parent w₀ y < n = c.path.0 in
@@ -163,14 +163,14 @@ module _ (w₀ w : List ℕ) (n v t k x sum y : ℕ) (room : 2048 ≤ length w�
   less_one : (j : ℕ) → j ≡ suc j - 1
   less_one j = omega arith
 
-  pub trace-more : (j : ℕ) → 0 < j → Tracing w₀ w n v t k x sum y j
+  pub trace_more : (j : ℕ) → 0 < j → Tracing w₀ w n v t k x sum y j
       → Tracing w₀ (set w (1536 + (j - 1)) (label w y)) n v t k x (sum + label w y) (parent w y) (j - 1)
-  trace-more zero l c = absurd (not-suc-le-zero l)
-  trace-more (suc j) l c =
+  trace_more zero l c = absurd (not-suc-le-zero l)
+  trace_more (suc j) l c =
       subst
       (λ (z : ℕ). Tracing w₀ (set w (1536 + z) (label w y)) n v t k x (sum + label w y) (parent w y) z)
       (less_one j)
-      (trace-suc j c)
+      (trace_suc j c)
 
 -- the places of a link in the words, and the size of the sum
 pub record Place (w : List ℕ) (sum y j : ℕ) : Type 0 where

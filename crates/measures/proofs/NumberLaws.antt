@@ -31,11 +31,11 @@ module _ (columns : List ℕ) (bit c : ℕ) where
   one_more : (b : Bool) → is_set (get_or columns c 0) bit ≡ b → marks_before columns bit (c + 1) ≡ cond b 1 0 + marks_before columns bit c
   one_more b e = count_more c (λ k. is_set (get_or columns k 0) bit) ∙ ap (λ (t : Bool). cond t 1 0 + marks_before columns bit c) e
 
-  pub marks-one : is_set (get_or columns c 0) bit ≡ true → marks_before columns bit c + 1 ≡ marks_before columns bit (c + 1)
-  marks-one e = omega (arith, one_more true e)
+  pub marks_one : is_set (get_or columns c 0) bit ≡ true → marks_before columns bit c + 1 ≡ marks_before columns bit (c + 1)
+  marks_one e = omega (arith, one_more true e)
 
-  pub marks-zero : is_set (get_or columns c 0) bit ≡ false → marks_before columns bit c ≡ marks_before columns bit (c + 1)
-  marks-zero e = omega (arith, one_more false e)
+  pub marks_zero : is_set (get_or columns c 0) bit ≡ false → marks_before columns bit c ≡ marks_before columns bit (c + 1)
+  marks_zero e = omega (arith, one_more false e)
 
 -- Marks: the most of the first b bits is kept, or the next is more
 

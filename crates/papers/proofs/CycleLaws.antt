@@ -29,42 +29,42 @@ first_tested l h = ap (rotate l) (eqb-true (first_rotation l) 0 h) ∙ append-ni
 
 module _ (g n cv : ℕ) where
   -- the latencies lead from s to e, each by an arc
-  abbrev leadsTo : ℕ → List ℕ → ℕ → Bool
-  leadsTo s [] e = eqb s e
-  leadsTo s (t ∷ l) e = (inside t (longest g n) && arc g n s t) && leadsTo (next cv s t) l e
+  abbrev leads_to : ℕ → List ℕ → ℕ → Bool
+  leads_to s [] e = eqb s e
+  leads_to s (t ∷ l) e = (inside t (longest g n) && arc g n s t) && leads_to (next cv s t) l e
 
-  walk-tested : (s : ℕ) (l : List ℕ) (e : ℕ) → leadsTo s l e ≡ true → Walk g n cv s l e
-  walk-tested s [] e h = subst (λ (x : ℕ). Walk g n cv s [] x) (eqb-true s e h) stay
-  walk-tested s (t ∷ l) e h =
+  walk_tested : (s : ℕ) (l : List ℕ) (e : ℕ) → leads_to s l e ≡ true → Walk g n cv s l e
+  walk_tested s [] e h = subst (λ (x : ℕ). Walk g n cv s [] x) (eqb-true s e h) stay
+  walk_tested s (t ∷ l) e h =
       let here = and_left (inside t (longest g n) && arc g n s t) _ h in
       let small = and_left (inside t (longest g n)) _ here in
       step
       (arc_permits g n s t (leb-true 1 t (and_left (leb 1 t) _ small))
       (leb-true t (longest g n) (and_right (leb 1 t) _ small))
       (true_T (and_right (inside t (longest g n)) _ here)))
-      (walk-tested (next cv s t) l e (and_right (inside t (longest g n) && arc g n s t) _ h))
+      (walk_tested (next cv s t) l e (and_right (inside t (longest g n) && arc g n s t) _ h))
 
   -- they lead from s back to it, and no state occurs twice on the way
-  abbrev returnsTo : ℕ → List ℕ → Bool
-  returnsTo s l = leadsTo s l s && apart (states_along cv s l)
+  abbrev returns_to : ℕ → List ℕ → Bool
+  returns_to s l = leads_to s l s && apart (states_along cv s l)
 
   -- one or more latencies do so from some state of the list m
-  unfoldable pub isCycle : List ℕ → List ℕ → Bool
+  unfoldable pub is_cycle : List ℕ → List ℕ → Bool
   unfolding some_below
-  isCycle m l = leb 1 (length l) && some_below (length m) (λ i. returnsTo (get_or m i 0) l)
+  is_cycle m l = leb 1 (length l) && some_below (length m) (λ i. returns_to (get_or m i 0) l)
 
-  pub cycle-some : (m l : List ℕ) → isCycle m l ≡ true → 1 ≤ length l
-  unfolding isCycle
-  cycle-some m l h = leb-true 1 (length l) (and_left (leb 1 (length l)) _ h)
+  pub cycle_some : (m l : List ℕ) → is_cycle m l ≡ true → 1 ≤ length l
+  unfolding is_cycle
+  cycle_some m l h = leb-true 1 (length l) (and_left (leb 1 (length l)) _ h)
 
-  pub cycle-tested : (m : List ℕ) → Each (Reachable g n cv) m → (l : List ℕ) → isCycle m l ≡ true → CycleFrom g n cv l
-  unfolding isCycle
-  cycle-tested m reached l h =
-      let from = some_elim (length m) (λ i. returnsTo (get_or m i 0) l) (and_right (leb 1 (length l)) _ h) in
+  pub cycle_tested : (m : List ℕ) → Each (Reachable g n cv) m → (l : List ℕ) → is_cycle m l ≡ true → CycleFrom g n cv l
+  unfolding is_cycle
+  cycle_tested m reached l h =
+      let from = some_elim (length m) (λ i. returns_to (get_or m i 0) l) (and_right (leb 1 (length l)) _ h) in
       let s = get_or m from.at 0 in
       record {
         state = s;
         reached = reached from.at from.inside;
-        closed = walk-tested s l s (and_left (leadsTo s l s) _ from.passed);
-        apart = apart_distinct (states_along cv s l) (and_right (leadsTo s l s) _ from.passed);
+        closed = walk_tested s l s (and_left (leads_to s l s) _ from.passed);
+        apart = apart_distinct (states_along cv s l) (and_right (leads_to s l s) _ from.passed);
       }

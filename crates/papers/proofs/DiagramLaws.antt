@@ -7,7 +7,7 @@ use Prim.Native.Nat.{ℕ, ◌+◌, ◌-◌, ◌≤◌, ◌<◌}
 use native.Mathlib.Omega.{arith}
 use lib.Dec.{leb}
 use lib.ListN.{length}
-use borrow.Author.Tests.{leb-true, not-true, not-false}
+use borrow.Author.Tests.{leb-true, not_true, not_false}
 use Rattle.words.specs.Bits.{is_set}
 use Rattle.words.specs.Below.{some_below}
 use Rattle.words.proofs.Tests.{nowhere, and_left, and_right, and_true, not_passed}
@@ -18,19 +18,19 @@ use Rattle.collision.specs.Vector.{vector_word}
 use Rattle.measures.specs.Inner.{least_free}
 use Rattle.collision.specs.Meaning.{Bounded, IsLargest, IsConstant}
 use Rattle.measures.proofs.NumberLaws.{least_constant}
-use Rattle.collision.proofs.VectorLaws.{vector-bit, largest_span, largest-means, constant-means}
+use Rattle.collision.proofs.VectorLaws.{vector_bit, largest_span, largest_means, constant_means}
 use Rattle.diagram.specs.Diagram.{width, Reachable}
 use Rattle.diagram.specs.States.{Listed, Each, Distinct, has, states}
 use Rattle.diagram.specs.Cycles.{CycleFrom}
-use Rattle.diagram.proofs.Listing.{states-distinct, states-reached, states-complete}
+use Rattle.diagram.proofs.Listing.{states_distinct, states_reached, states_complete}
 use Rattle.cycles.specs.Greedy.{greedy_cycle, greedy_of}
 use Rattle.mean_cycle.specs.Mean.{Floor}
 use Rattle.planner.specs.Plans.{Best}
 use Rattle.planner.proofs.BestLaws.{best_of}
 use Rattle.papers.specs.Rows.{HasStates, BestIs}
 use Rattle.papers.proofs.TestLaws.{all, all_has}
-use Rattle.papers.proofs.PotentialLaws.{Potential, potential_floor, isPotential, potential-tested, height}
-use Rattle.papers.proofs.CycleLaws.{is_first, first_tested, isCycle, cycle-some, cycle-tested}
+use Rattle.papers.proofs.PotentialLaws.{Potential, potential_floor, is_potential, potential_tested, height}
+use Rattle.papers.proofs.CycleLaws.{is_first, first_tested, is_cycle, cycle_some, cycle_tested}
 
 -- the collision vector of q is cv, of n columns, and its diagram has the states m
 pub record Computed (T : Table) (q cv n : ℕ) (m : List ℕ) : Type 0 where
@@ -54,8 +54,8 @@ are_forbidden n cv latencies = all (λ t. is_set cv (t - 1)) latencies && not (m
 -- the cycle is one of the diagram with the states m, in its first rotation, and there are heights that are a potential for its average
 pub record BestTested (n cv : ℕ) (m cycle : List ℕ) (sum : ℕ) : Type 0 where
   pub heights : List (ℕ × ℕ)
-  pub closed : isCycle 1 n cv m cycle ≡ true
-  pub potential : isPotential 1 n cv (total cycle) (length cycle) (height heights) m ≡ true
+  pub closed : is_cycle 1 n cv m cycle ≡ true
+  pub potential : is_potential 1 n cv (total cycle) (length cycle) (height heights) m ≡ true
   pub rotation : is_first cycle ≡ true
   pub sums : total cycle ≡ sum
 
@@ -63,18 +63,18 @@ pub record BestTested (n cv : ℕ) (m cycle : List ℕ) (sum : ℕ) : Type 0 whe
 
 module _ {T : Table} {q cv n : ℕ} {m : List ℕ} (d : Computed T q cv n m) where
   -- what holds of cv and n holds of the vector and its width
-  at-vector : (P : ℕ → ℕ → Type 0) → P n cv → P (width (vector_word T q)) (vector_word T q)
-  at-vector P h = subst (λ (w : ℕ). P (width w) w) (sym d.vector) (subst (λ (k : ℕ). P k cv) (sym d.wide) h)
+  at_vector : (P : ℕ → ℕ → Type 0) → P n cv → P (width (vector_word T q)) (vector_word T q)
+  at_vector P h = subst (λ (w : ℕ). P (width w) w) (sym d.vector) (subst (λ (k : ℕ). P k cv) (sym d.wide) h)
 
   -- Vector and forbidden latencies
 
-  pub largest-computed : IsLargest T q n
-  largest-computed = subst (IsLargest T q) (sym (largest_span T q) ∙ ap width d.vector ∙ d.wide) (largest-means T d.bounded q)
+  pub largest_computed : IsLargest T q n
+  largest_computed = subst (IsLargest T q) (sym (largest_span T q) ∙ ap width d.vector ∙ d.wide) (largest_means T d.bounded q)
 
-  pub forbidden-computed : (latencies : List ℕ) → are_forbidden n cv latencies ≡ true → (t : ℕ) → 1 ≤ t → Forbidden T q t ↔ (has t latencies ≡ true)
+  pub forbidden_computed : (latencies : List ℕ) → are_forbidden n cv latencies ≡ true → (t : ℕ) → 1 ≤ t → Forbidden T q t ↔ (has t latencies ≡ true)
   unfolding are_forbidden
-  forbidden-computed latencies h t o = (
-    (λ f. subst (λ (x : ℕ). has x latencies ≡ true) back (noted (t - 1) (omega (arith, largest-computed.most t o f)) (column.1 f))),
+  forbidden_computed latencies h t o = (
+    (λ f. subst (λ (x : ℕ). has x latencies ≡ true) back (noted (t - 1) (omega (arith, largest_computed.most t o f)) (column.1 f))),
     (λ e. column.0 (all_has (λ x. is_set cv (x - 1)) latencies (and_left (all (λ x. is_set cv (x - 1)) latencies) _ h) t e)),
   )
     where
@@ -82,12 +82,12 @@ module _ {T : Table} {q cv n : ℕ} {m : List ℕ} (d : Computed T q cv n m) whe
       back = omega arith
 
       column : (is_set cv (t - 1) ≡ true) ↔ Forbidden T q t
-      column = subst (λ (w : ℕ). (is_set w (t - 1) ≡ true) ↔ Forbidden T q t) d.vector (vector-bit T d.bounded q t o)
+      column = subst (λ (w : ℕ). (is_set w (t - 1) ≡ true) ↔ Forbidden T q t) d.vector (vector_bit T d.bounded q t o)
 
       noted : (k : ℕ) → k < n → is_set cv k ≡ true → has (k + 1) latencies ≡ true
       noted k l e =
-          let none = not-true (misses n cv latencies) (and_right (all (λ x. is_set cv (x - 1)) latencies) _ h) in
-          not-false (has (k + 1) latencies) (not_passed (not (has (k + 1) latencies))
+          let none = not_true (misses n cv latencies) (and_right (all (λ x. is_set cv (x - 1)) latencies) _ h) in
+          not_false (has (k + 1) latencies) (not_passed (not (has (k + 1) latencies))
           (λ f. nowhere (sym none ∙ some_intro n (λ j. is_set cv j && not (has (j + 1) latencies)) k l (and_true e f))))
 
   -- States
@@ -96,40 +96,40 @@ module _ {T : Table} {q cv n : ℕ} {m : List ℕ} (d : Computed T q cv n m) whe
   few = subst (λ (l : List ℕ). length l ≤ 256) (sym d.listed) (leb-true (length m) 256 d.few)
 
   reached : Each (Reachable 1 n cv) m
-  reached = subst (Each (Reachable 1 n cv)) d.listed (states-reached 1 n cv 256)
+  reached = subst (Each (Reachable 1 n cv)) d.listed (states_reached 1 n cv 256)
 
-  pub states-computed : (k : ℕ) → length m ≡ k → HasStates T q k
-  states-computed k e = record {
+  pub states_computed : (k : ℕ) → length m ≡ k → HasStates T q k
+  states_computed k e = record {
     list = m;
     count = e;
-    distinct = subst Distinct d.listed (states-distinct 1 n cv 256);
-    reached = at-vector (λ k w. Each (Reachable 1 k w) m) reached;
+    distinct = subst Distinct d.listed (states_distinct 1 n cv 256);
+    reached = at_vector (λ k w. Each (Reachable 1 k w) m) reached;
     all =
-        at-vector (λ k w. (s : ℕ) → Reachable 1 k w s → Listed s m)
-        (λ s r. subst (Listed s) d.listed (states-complete 1 n cv 256 few s r));
+        at_vector (λ k w. (s : ℕ) → Reachable 1 k w s → Listed s m)
+        (λ s r. subst (Listed s) d.listed (states_complete 1 n cv 256 few s r));
   }
 
   -- Cycles
 
-  pub greedy-computed : (l : List ℕ) → greedy_cycle 1 n cv ≡ l → greedy_of 1 T q ≡ l
-  greedy-computed l e = at-vector (λ k w. greedy_cycle 1 k w ≡ l) e
+  pub greedy_computed : (l : List ℕ) → greedy_cycle 1 n cv ≡ l → greedy_of 1 T q ≡ l
+  greedy_computed l e = at_vector (λ k w. greedy_cycle 1 k w ≡ l) e
 
-  pub best-computed : (l : List ℕ) (sum : ℕ) → BestTested n cv m l sum → BestIs T q l sum
-  best-computed l sum t =
-      let pot = potential-tested 1 n cv (total l) (length l) (height t.heights) m t.potential in
+  pub best_computed : (l : List ℕ) (sum : ℕ) → BestTested n cv m l sum → BestIs T q l sum
+  best_computed l sum t =
+      let pot = potential_tested 1 n cv (total l) (length l) (height t.heights) m t.potential in
       let floor =
       potential_floor 1 n cv 256 few (total l) (length l) (height t.heights)
       (subst (λ (k : List ℕ). Potential 1 n cv k (total l) (length l) (height t.heights)) (sym d.listed) pot) in
       record {
         best =
             subst (Best 1 T q) (first_tested l t.rotation)
-            (best_of T d.bounded q l (cycle-some 1 n cv m l t.closed)
-            (at-vector (λ k w. CycleFrom 1 k w l) (cycle-tested 1 n cv m reached l t.closed))
-            (at-vector (λ k w. Floor 1 k w (length l) (total l)) floor));
+            (best_of T d.bounded q l (cycle_some 1 n cv m l t.closed)
+            (at_vector (λ k w. CycleFrom 1 k w l) (cycle_tested 1 n cv m reached l t.closed))
+            (at_vector (λ k w. Floor 1 k w (length l) (total l)) floor));
         sums = t.sums;
       }
 
   -- Constant
 
-  pub constant-computed : (k : ℕ) → least_free cv ≡ k → IsConstant T q k
-  constant-computed k e = subst (IsConstant T q) (sym (least_constant T q) ∙ ap least_free d.vector ∙ e) (constant-means T d.bounded q)
+  pub constant_computed : (k : ℕ) → least_free cv ≡ k → IsConstant T q k
+  constant_computed k e = subst (IsConstant T q) (sym (least_constant T q) ∙ ap least_free d.vector ∙ e) (constant_means T d.bounded q)

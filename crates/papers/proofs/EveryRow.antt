@@ -11,14 +11,14 @@ use Rattle.collision.specs.Meaning.{Bounded}
 use Rattle.diagram.specs.States.{expand, list_from}
 use Rattle.diagram.proofs.Examples.{fig1_width, fig1_states}
 use Rattle.clique.specs.Sets.{IsLargestClique}
-use Rattle.clique.proofs.LargestLaws.{largest-means}
+use Rattle.clique.proofs.LargestLaws.{largest_means}
 use Rattle.cycles.proofs.Examples.{fig1_greedy}
 use Rattle.papers.specs.Rows.{figure1, figure2, one_segment, three_segments, states, Holds, row_of, rows, EveryRow}
 use Rattle.papers.proofs.TestLaws.{columns_tested, Every, end, ◌then◌, every_at}
 use Rattle.papers.proofs.TableLaws.{table_bounded}
-use Rattle.papers.proofs.PotentialLaws.{isPotential}
-use Rattle.papers.proofs.CycleLaws.{is_first, isCycle}
-use Rattle.papers.proofs.DiagramLaws.{Computed, are_forbidden, largest-computed, forbidden-computed, states-computed, greedy-computed, best-computed, constant-computed}
+use Rattle.papers.proofs.PotentialLaws.{is_potential}
+use Rattle.papers.proofs.CycleLaws.{is_first, is_cycle}
+use Rattle.papers.proofs.DiagramLaws.{Computed, are_forbidden, largest_computed, forbidden_computed, states_computed, greedy_computed, best_computed, constant_computed}
 
 -- what the row at i says, counted from 0
 abbrev Says : ℕ → Type 0
@@ -44,21 +44,21 @@ figure1_computed = record {
 
 figure1_vector_row : Says 0
 unfolding rows
-figure1_vector_row = (columns_tested (vector_word figure1 1) 0b10110001 _ figure1_vector refl refl, largest-computed figure1_computed)
+figure1_vector_row = (columns_tested (vector_word figure1 1) 0b10110001 _ figure1_vector refl refl, largest_computed figure1_computed)
 
 figure1_states_row : Says 1
 unfolding rows
-figure1_states_row = states-computed figure1_computed _ refl
+figure1_states_row = states_computed figure1_computed _ refl
 
 figure1_greedy_row : Says 2
 unfolding rows
-figure1_greedy_row = (greedy-computed figure1_computed _ fig1_greedy, refl)
+figure1_greedy_row = (greedy_computed figure1_computed _ fig1_greedy, refl)
 
 -- from 10111011 by 3 to 10110111, and by 4 back
 figure1_best_row : Says 3
-unfolding rows isCycle isPotential is_first
+unfolding rows is_cycle is_potential is_first
 figure1_best_row =
-    best-computed figure1_computed _ _ (record {
+    best_computed figure1_computed _ _ (record {
       heights = (0b10110001, 6) ∷ (0b10111101, 3) ∷ (0b10110111, 5) ∷ (0b10111011, 6) ∷ [];
       closed = refl;
       potential = refl;
@@ -68,7 +68,7 @@ figure1_best_row =
 
 figure1_constant_row : Says 4
 unfolding rows least_free least_from free_of some_below
-figure1_constant_row = constant-computed figure1_computed _ refl
+figure1_constant_row = constant_computed figure1_computed _ refl
 
 -- Fig. 2: M_1 with its rows 1 and 2, then M_2
 
@@ -106,10 +106,10 @@ one_segment_computed = record {
 
 -- from 10110 by 1 to 11111, and by 6 back
 one_segment_row : Says 9
-unfolding rows are_forbidden isCycle isPotential is_first
+unfolding rows are_forbidden is_cycle is_potential is_first
 one_segment_row = (
-  forbidden-computed one_segment_computed (2 ∷ 3 ∷ 5 ∷ []) refl,
-  best-computed one_segment_computed _ _ (record {
+  forbidden_computed one_segment_computed (2 ∷ 3 ∷ 5 ∷ []) refl,
+  best_computed one_segment_computed _ _ (record {
     heights = (0b10110, 5) ∷ (0b10111, 5) ∷ [];
     closed = refl;
     potential = refl;
@@ -144,16 +144,16 @@ three_segments_bound = ap largest_clique three_segments_vector
 
 -- from 100110 by 1 to 110111, by 4 to 100111, and by 4 back
 three_segments_row : Says 10
-unfolding rows isCycle isPotential is_first
+unfolding rows is_cycle is_potential is_first
 three_segments_row = (
-  best-computed three_segments_computed _ _ (record {
+  best_computed three_segments_computed _ _ (record {
     heights = (0b100110, 6) ∷ (0b100111, 3) ∷ [];
     closed = refl;
     potential = refl;
     rotation = refl;
     sums = refl;
   }),
-  subst (IsLargestClique three_segments 1) three_segments_bound (largest-means three_segments three_segments_bounded 1),
+  subst (IsLargestClique three_segments 1) three_segments_bound (largest_means three_segments three_segments_bounded 1),
 )
 
 -- All

@@ -10,14 +10,14 @@ use native.Mathlib.Nat.{mul-suc, mul-add, mul-zero, not-suc-le-zero}
 use native.Mathlib.Omega.{arith}
 use lib.Dec.{ltb, eqb}
 use lib.ListN.{length, get_or}
-use borrow.Author.Tests.{ltb-false, not-true}
+use borrow.Author.Tests.{ltb-false, not_true}
 use Rattle.words.specs.Below.{some_below}
 use Rattle.words.proofs.Tests.{nowhere, and_true, not_passed, T_true}
 use Rattle.words.proofs.BelowLaws.{some_intro}
 use Rattle.collision.specs.Pipeline.{total}
 use Rattle.diagram.specs.Diagram.{next, longest, Permits, Walk, stay, step}
 use Rattle.diagram.specs.States.{Listed, Each, arc, states}
-use Rattle.diagram.proofs.Listing.{Closed, permits_arc, states-first, states-closed}
+use Rattle.diagram.proofs.Listing.{Closed, permits_arc, states_first, states_closed}
 use Rattle.mean_cycle.specs.Mean.{Floor}
 use Rattle.papers.proofs.TestLaws.{all, all_at}
 
@@ -26,13 +26,13 @@ abbrev pub Potential : ℕ → ℕ → ℕ → List ℕ → ℕ → ℕ → (ℕ
 Potential g n cv m S K φ = Each (λ s. (t : ℕ) → Permits g n s t → S + φ (next cv s t) ≤ K * t + φ s) m
 
 module _ (g n cv : ℕ) (m : List ℕ) (closed : Closed g n cv m) (S K : ℕ) (φ : ℕ → ℕ) (pot : Potential g n cv m S K φ) where
-  walk-bound : {s e : ℕ} {l : List ℕ} → Walk g n cv s l e → Listed s m → S * length l + φ e ≤ K * total l + φ s
-  walk-bound stay p = rw (mul-zero S, mul-zero K) (omega arith)
-  walk-bound (step {s = s} {t = t} {l = l} q w) p =
+  walk_bound : {s e : ℕ} {l : List ℕ} → Walk g n cv s l e → Listed s m → S * length l + φ e ≤ K * total l + φ s
+  walk_bound stay p = rw (mul-zero S, mul-zero K) (omega arith)
+  walk_bound (step {s = s} {t = t} {l = l} q w) p =
       rw (mul-suc S (length l), mul-add K t (total l))
       (omega (
         arith,
-        walk-bound w (subst (λ (x : ℕ). Listed (next cv x t) m) p.found (closed p.index p.inside t (rw p.found q))),
+        walk_bound w (subst (λ (x : ℕ). Listed (next cv x t) m) p.found (closed p.index p.inside t (rw p.found q))),
         rw p.found at (pot p.index p.inside t (rw p.found q)),
       ))
 
@@ -41,7 +41,7 @@ pub potential_floor : (g n cv cap : ℕ) → length (states cap g n cv) ≤ cap 
     → Potential g n cv (states cap g n cv) S K φ → Floor g n cv K S
 potential_floor g n cv cap h S K φ pot = record {
   bound = φ cv;
-  every = λ l e w. omega (arith, walk-bound g n cv (states cap g n cv) (states-closed g n cv cap h) S K φ pot w (states-first g n cv cap));
+  every = λ l e w. omega (arith, walk_bound g n cv (states cap g n cv) (states_closed g n cv cap h) S K φ pot w (states_first g n cv cap));
 }
 
 -- The test
@@ -51,19 +51,19 @@ module _ (g n cv S K : ℕ) (φ : ℕ → ℕ) where
   abbrev climbs : ℕ → ℕ → Bool
   climbs s t = arc g n s t && ltb (K * t + φ s) (S + φ (next cv s t))
 
-  abbrev someClimbs : ℕ → Bool
-  someClimbs s = some_below (longest g n) (λ k. climbs s (suc k))
+  abbrev some_climbs : ℕ → Bool
+  some_climbs s = some_below (longest g n) (λ k. climbs s (suc k))
 
-  unfoldable pub isPotential : List ℕ → Bool
+  unfoldable pub is_potential : List ℕ → Bool
   unfolding some_below
-  isPotential m = all (λ s. not (someClimbs s)) m
+  is_potential m = all (λ s. not (some_climbs s)) m
 
-  pub potential-tested : (m : List ℕ) → isPotential m ≡ true → Potential g n cv m S K φ
-  unfolding isPotential
-  potential-tested m b i h zero p = absurd (not-suc-le-zero p.positive)
-  potential-tested m b i h (suc k) p =
+  pub potential_tested : (m : List ℕ) → is_potential m ≡ true → Potential g n cv m S K φ
+  unfolding is_potential
+  potential_tested m b i h zero p = absurd (not-suc-le-zero p.positive)
+  potential_tested m b i h (suc k) p =
       let s = get_or m i 0 in
-      let none = not-true (someClimbs s) (all_at (λ x. not (someClimbs x)) m 0 b i h) in
+      let none = not_true (some_climbs s) (all_at (λ x. not (some_climbs x)) m 0 b i h) in
       ltb-false (K * suc k + φ s) (S + φ (next cv s (suc k)))
       (not_passed (ltb (K * suc k + φ s) (S + φ (next cv s (suc k))))
       (λ more.

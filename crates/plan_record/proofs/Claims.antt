@@ -30,9 +30,9 @@ use Rattle.plan_record.specs.Write.{Holds, cycle_in, holds_cycle, writable, writ
 use Rattle.plan_record.specs.Claims.{RingMeans, NoLonger, GivenBytes, Accepted, Shows, Refused15, AcceptedExactly, EitherView, ReadWritten, SameShown, FrontTells, GivenPlan, HoldsExactly, WriterAt, PlanExactly, TagUntested, ReadBack, WrittenRead}
 use Rattle.plan_record.proofs.CycleLaws.{recordable_of, total_most, sum_all, sum_rises}
 use Rattle.plan_record.proofs.RingLaws.{StartOf, start_has, start_of, ring_bit_lem, ring_means}
-use Rattle.plan_record.proofs.RecordLaws.{record-length, record-count, record-sum, record-list, record-ring, record_is, is_record_lem}
-use Rattle.plan_record.proofs.ReadLaws.{number_shown, number_not, report-refused, load-refused, list-refused, ring-refused, report-shown, load-shown, list-is, ring-is}
-use Rattle.plan_record.proofs.PlanLaws.{held, writable-held, writable-tag, writable-holds}
+use Rattle.plan_record.proofs.RecordLaws.{record_length, record_count, record_sum, record_list, record_ring, record_is, is_record_lem}
+use Rattle.plan_record.proofs.ReadLaws.{number_shown, number_not, report_refused, load_refused, list_refused, ring_refused, report_shown, load_shown, list_is, ring_is}
+use Rattle.plan_record.proofs.PlanLaws.{held, writable_held, writable_tag, writable_holds}
 
 -- The bytes
 
@@ -40,7 +40,7 @@ pub means : RingMeans
 means = ring_means
 
 pub no_longer : NoLonger
-no_longer l r = omega (arith, record-length l, r.few, total_most l r)
+no_longer l r = omega (arith, record_length l, r.few, total_most l r)
 
 -- Which bytes are accepted, and what is shown
 
@@ -57,34 +57,34 @@ module _ (bytes : List ℕ) where
 
   refused : is_record bytes ≡ false → Refused15 bytes
   refused e = record {
-    report = sym (report-refused bytes e);
-    list = sym (list-refused bytes e);
-    load = sym (load-refused bytes e);
-    ring = sym (ring-refused bytes e);
+    report = sym (report_refused bytes e);
+    list = sym (list_refused bytes e);
+    load = sym (load_refused bytes e);
+    ring = sym (ring_refused bytes e);
   }
 
   -- what is shown is refused where the bytes are no record
-  accepted-by : (shown : Shown) → (is_record bytes ≡ false → shown ≡ Shown.Refused BadRecord) → Accepted shown → is_record bytes ≡ true
-  accepted-by shown f a = go (is_record bytes) refl
+  accepted_by : (shown : Shown) → (is_record bytes ≡ false → shown ≡ Shown.Refused BadRecord) → Accepted shown → is_record bytes ≡ true
+  accepted_by shown f a = go (is_record bytes) refl
     where
       go : (b : Bool) → is_record bytes ≡ b → is_record bytes ≡ true
       go true e = e
       go false e = number_not (sym a.shows ∙ f e)
 
-  by-report : Accepted (report_answer bytes) → is_record bytes ≡ true
-  by-report = accepted-by (report_answer bytes) (λ e. sym (report-refused bytes e))
+  by_report : Accepted (report_answer bytes) → is_record bytes ≡ true
+  by_report = accepted_by (report_answer bytes) (λ e. sym (report_refused bytes e))
 
-  by-load : Accepted (load_answer bytes) → is_record bytes ≡ true
-  by-load = accepted-by (load_answer bytes) (λ e. sym (load-refused bytes e))
+  by_load : Accepted (load_answer bytes) → is_record bytes ≡ true
+  by_load = accepted_by (load_answer bytes) (λ e. sym (load_refused bytes e))
 
 shows_record : (l : List ℕ) → Recordable l → Shows (record_of l) l
 shows_record l r =
     let i = record_is l r in
     record {
-      count = sym (report-shown (record_of l) (length l) i (sym (record-count l r)));
-      list = list-is (record_of l) i ∙ record-list l r;
-      sum = sym (load-shown (record_of l) (total l) i (sym (record-sum l r)));
-      ring = ring-is (record_of l) i ∙ record-ring l r;
+      count = sym (report_shown (record_of l) (length l) i (sym (record_count l r)));
+      list = list_is (record_of l) i ∙ record_list l r;
+      sum = sym (load_shown (record_of l) (total l) i (sym (record_sum l r)));
+      ring = ring_is (record_of l) i ∙ record_ring l r;
     }
 
 shown_given : (bytes : List ℕ) (g : GivenBytes bytes) → Shows bytes g.cycle
@@ -92,14 +92,14 @@ shown_given bytes g = subst (λ (x : List ℕ). Shows x g.cycle) (sym g.gives) (
 
 pub accepted_exactly : AcceptedExactly
 accepted_exactly bytes = record {
-  report = (λ a. given bytes (by-report bytes a), λ g. record { number = length g.cycle; shows = (shown_given bytes g).count });
-  load = (λ a. given bytes (by-load bytes a), λ g. record { number = total g.cycle; shows = (shown_given bytes g).sum });
+  report = (λ a. given bytes (by_report bytes a), λ g. record { number = length g.cycle; shows = (shown_given bytes g).count });
+  load = (λ a. given bytes (by_load bytes a), λ g. record { number = total g.cycle; shows = (shown_given bytes g).sum });
   shown = shown_given bytes;
   refused = λ f. refused bytes (other bytes f);
 }
 
 pub read_written : ReadWritten
-read_written bytes a = let r = by-report bytes a in ap record_of (list-is bytes r) ∙ sym (is_record_lem bytes r).1
+read_written bytes a = let r = by_report bytes a in ap record_of (list_is bytes r) ∙ sym (is_record_lem bytes r).1
 
 -- more bytes than a record has are none, however many of them are looked at
 pub front_tells : FrontTells
@@ -108,8 +108,8 @@ front_tells bytes n h = go (dec_le (length bytes) n)
     long : (x : List ℕ) → 1289 ≤ length x → is_record x ≡ false
     long x m = other x (λ g. omega (arith, ap length g.gives, no_longer g.cycle g.recordable))
 
-    same-refused : (x y : List ℕ) → Refused15 x → Refused15 y → SameShown x y
-    same-refused x y a b = record {
+    same_refused : (x y : List ℕ) → Refused15 x → Refused15 y → SameShown x y
+    same_refused x y a b = record {
       report = a.report ∙ sym b.report;
       list = a.list ∙ sym b.list;
       load = a.load ∙ sym b.load;
@@ -120,7 +120,7 @@ front_tells bytes n h = go (dec_le (length bytes) n)
     go (yes m) = subst (λ (x : List ℕ). SameShown x bytes) (sym (take_all n bytes m)) (record { report = refl; list = refl; load = refl; ring = refl })
     go (no m) =
         let l : length (take n bytes) ≡ n = length-take-le n bytes (omega arith) in
-        same-refused (take n bytes) bytes (refused (take n bytes) (long (take n bytes) (omega arith))) (refused bytes (long bytes (omega arith)))
+        same_refused (take n bytes) bytes (refused (take n bytes) (long (take n bytes) (omega arith))) (refused bytes (long bytes (omega arith)))
 
 -- The list from the ring
 
@@ -152,8 +152,8 @@ module _ (l : List ℕ) (r : Recordable l) where
     down i found k low inside passed true e =
         let s : StartOf l i = start_has l i r (sym (same i (omega (arith, sum_below k inside))) ∙ e) in
         let m = s.index in
-        let before : m < k = ordered m k (λ h. rises-le k m h (omega (arith, s.inside)) (omega (arith, s.sum))) in
-        let after : k ≤ suc m = ordered-le k (suc m) (λ h. omega (arith, passed (suc m) h, sum_rises l r m (suc m) (omega arith) s.inside, s.sum)) in
+        let before : m < k = ordered m k (λ h. rises_le k m h (omega (arith, s.inside)) (omega (arith, s.sum))) in
+        let after : k ≤ suc m = ordered_le k (suc m) (λ h. omega (arith, passed (suc m) h, sum_rises l r m (suc m) (omega arith) s.inside, s.sum)) in
         let next : k ≡ suc m = omega arith in
         let value : total (take k l) - i ≡ get_or l m 0 = omega (arith, ap (λ n. total (take n l)) next, total_suc l m s.inside, s.sum) in
         ap₂ (λ (n : ℕ) (x : List ℕ). intervals_below i start n x) (sym s.sum)
@@ -163,11 +163,11 @@ module _ (l : List ℕ) (r : Recordable l) where
         ordered : (x y : ℕ) → (y ≤ x → ⊥) → x < y
         ordered x y f = omega arith
 
-        ordered-le : (x y : ℕ) → (y < x → ⊥) → x ≤ y
-        ordered-le x y f = omega arith
+        ordered_le : (x y : ℕ) → (y < x → ⊥) → x ≤ y
+        ordered_le x y f = omega arith
 
-        rises-le : (x y : ℕ) → x ≤ y → y ≤ length l → total (take y l) < total (take x l) → ⊥
-        rises-le x y h m o =
+        rises_le : (x y : ℕ) → x ≤ y → y ≤ length l → total (take y l) < total (take x l) → ⊥
+        rises_le x y h m o =
             ⊎_elim (λ z. omega (arith, ap (λ n. total (take n l)) z)) (λ q. omega (arith, sum_rises l r x y q m)) (eq-or-lt_of_le h)
 
     found_from : (i : ℕ) → FoundFrom i
@@ -176,9 +176,9 @@ module _ (l : List ℕ) (r : Recordable l) where
     found_from zero (suc k) low inside passed = absurd (omega (arith, passed 0 (omega arith)))
     found_from (suc i) k low inside passed = down i (found_from i) k low inside passed (start i) refl
 
-  pub list-from-ring : list_from_ring (total l) (ring_of l) ≡ l
+  pub list_from_ring_lem : list_from_ring (total l) (ring_of l) ≡ l
   unfolding list_from_ring
-  list-from-ring =
+  list_from_ring_lem =
       let n = sum_all l in
       ap₂ (λ (s : ℕ) (x : List ℕ). intervals_below (total l) start s x) (sym n) (sym (drop-length l))
       ∙ found_from start bits (total l) (length l) (omega arith) (omega arith)
@@ -196,13 +196,13 @@ module _ (l : List ℕ) (r : Recordable l) where
 
 pub either_view : EitherView
 either_view bytes K S ek es =
-    let b = by-report bytes (record { number = K; shows = ek }) in
+    let b = by_report bytes (record { number = K; shows = ek }) in
     let g = given bytes b in
     let l = g.cycle in
     let s = shown_given bytes g in
     let count : K ≡ length l = number_shown (sym ek ∙ s.count) in
     let sum : S ≡ total l = number_shown (sym es ∙ s.sum) in
-    let from : list_from_ring S (load_ring bytes) ≡ l = ap₂ list_from_ring sum s.ring ∙ list-from-ring l g.recordable in
+    let from : list_from_ring S (load_ring bytes) ≡ l = ap₂ list_from_ring sum s.ring ∙ list_from_ring_lem l g.recordable in
     let front : take K (report_list bytes) ≡ l = ap₂ take count s.list ∙ take-length l in
     record {
       list_worked = s.list ∙ sym from;
@@ -232,15 +232,15 @@ holds_exactly p = (holds_given p, given_holds p)
 
 -- the answer, where the plan is not writable, has no room, or has
 module _ (p : Plan) (room : ℕ) where
-  answer-bad : writable p ≡ false → write_answer p room ≡ Written.Refused BadRecord
+  answer_bad : writable p ≡ false → write_answer p room ≡ Written.Refused BadRecord
   unfolding write_answer write_refusal
-  answer-bad e = simp e
+  answer_bad e = simp e
 
-  answer-room : writable p ≡ true → (b : Bool) → leb (length (record_of (cycle_in p))) room ≡ b
+  answer_room : writable p ≡ true → (b : Bool) → leb (length (record_of (cycle_in p))) room ≡ b
       → write_answer p room ≡ cond b (Written.Length (length (record_of (cycle_in p)))) (Written.Refused ShortOutput)
   unfolding write_answer write_refusal
-  answer-room e true l = rw (e, l)
-  answer-room e false l = rw (e, l)
+  answer_room e true l = rw (e, l)
+  answer_room e false l = rw (e, l)
 
 -- the number that an answer tells: 0 where the record was written
 abbrev told : Written → ℕ
@@ -251,34 +251,34 @@ pub plan_exactly : PlanExactly
 plan_exactly p room = go (writable p) refl (leb (length (record_of (cycle_in p))) room) refl
   where
     takes : writable p ≡ true → ((p.tag ≡ 0) ⊎ (GivenPlan p → ⊥)) → ⊥
-    takes e (inl z) = writable-tag p e z
-    takes e (inr f) = f (holds_given p (writable-holds p e))
+    takes e (inl z) = writable_tag p e z
+    takes e (inr f) = f (holds_given p (writable_holds p e))
 
-    turns-away : writable p ≡ false → (p.tag ≡ 0) ⊎ (GivenPlan p → ⊥)
-    turns-away e = by-tag (eqb p.tag 0) refl
+    turns_away : writable p ≡ false → (p.tag ≡ 0) ⊎ (GivenPlan p → ⊥)
+    turns_away e = by_tag (eqb p.tag 0) refl
       where
-        by-tag : (b : Bool) → eqb p.tag 0 ≡ b → (p.tag ≡ 0) ⊎ (GivenPlan p → ⊥)
-        by-tag true z = inl (eqb-true p.tag 0 z)
-        by-tag false n = inr (λ g. nowhere (sym e ∙ writable-held p (eqb-false p.tag 0 n) ∙ given_holds p g))
+        by_tag : (b : Bool) → eqb p.tag 0 ≡ b → (p.tag ≡ 0) ⊎ (GivenPlan p → ⊥)
+        by_tag true z = inl (eqb-true p.tag 0 z)
+        by_tag false n = inr (λ g. nowhere (sym e ∙ writable_held p (eqb-false p.tag 0 n) ∙ given_holds p g))
 
     go : (b : Bool) → writable p ≡ b → (l : Bool) → leb (length (record_of (cycle_in p))) room ≡ l → WriterAt p room
     go false e l h =
-        let is = answer-bad p room e in
+        let is = answer_bad p room e in
         record {
           numbers = λ why a. inl (number_one why BadRecord (ap told (sym a ∙ is)));
-          fifteen = (λ a. turns-away e, λ n. is);
+          fifteen = (λ a. turns_away e, λ n. is);
           suffices = λ r a. let z : ◌≡◌ {A = ℕ} 6 15 = ap told (sym a ∙ is) in omega arith;
         }
     go true e true h =
-        let is = answer-room p room e true h in
+        let is = answer_room p room e true h in
         record {
           numbers = λ why a. let z : ◌≡◌ {A = ℕ} (number_of why) 0 = ap told (sym a ∙ is) in absurd (omega (arith, (numbered why).from));
           fifteen = (λ a. let z : ◌≡◌ {A = ℕ} 15 0 = ap told (sym a ∙ is) in absurd (omega arith), λ n. absurd (takes e n));
           suffices = λ r a. let z : ◌≡◌ {A = ℕ} 6 0 = ap told (sym a ∙ is) in omega arith;
         }
     go true e false h =
-        let is = answer-room p room e false h in
-        let small = no_longer (cycle_in p) (held p (writable-holds p e)).cycle in
+        let is = answer_room p room e false h in
+        let small = no_longer (cycle_in p) (held p (writable_holds p e)).cycle in
         record {
           numbers = λ why a. inr (number_one why ShortOutput (ap told (sym a ∙ is)));
           fifteen = (λ a. let z : ◌≡◌ {A = ℕ} 15 6 = ap told (sym a ∙ is) in absurd (omega arith), λ n. absurd (takes e n));
@@ -290,31 +290,31 @@ abbrev retagged : Plan → ℕ → Plan
 retagged p t = record { tag = t; count = p.count; sum = p.sum; latencies = p.latencies }
 
 module _ (p : Plan) (t : ℕ) (one : p.tag ≡ 0 → ⊥) (other : t ≡ 0 → ⊥) where
-  both-writable : writable p ≡ writable (retagged p t)
+  both_writable : writable p ≡ writable (retagged p t)
   unfolding holds_cycle
-  both-writable = writable-held p one ∙ sym (writable-held (retagged p t) other)
+  both_writable = writable_held p one ∙ sym (writable_held (retagged p t) other)
 
-  both-answer : (room : ℕ) → write_answer p room ≡ write_answer (retagged p t) room
+  both_answer : (room : ℕ) → write_answer p room ≡ write_answer (retagged p t) room
   unfolding write_answer write_refusal
-  both-answer room = rw both-writable
+  both_answer room = rw both_writable
 
-  both-leave : (bytes : List ℕ) → write_out p bytes ≡ write_out (retagged p t) bytes
+  both_leave : (bytes : List ℕ) → write_out p bytes ≡ write_out (retagged p t) bytes
   unfolding write_out write_refusal
-  both-leave bytes = rw both-writable
+  both_leave bytes = rw both_writable
 
 pub tag_untested : TagUntested
 tag_untested p q t bytes =
     let same : retagged p q.tag ≡ q = λ i. record { tag = q.tag; count = t.count i; sum = t.sum i; latencies = t.latencies i } in (
-      both-answer p q.tag t.one t.other (length bytes) ∙ ap (λ (x : Plan). write_answer x (length bytes)) same,
-      both-leave p q.tag t.one t.other bytes ∙ ap (λ (x : Plan). write_out x bytes) same,
+      both_answer p q.tag t.one t.other (length bytes) ∙ ap (λ (x : Plan). write_answer x (length bytes)) same,
+      both_leave p q.tag t.one t.other bytes ∙ ap (λ (x : Plan). write_out x bytes) same,
     )
 
 -- Written and read
 
-record-out : (p : Plan) (bytes : List ℕ) → writable p ≡ true → leb (length (record_of (cycle_in p))) (length bytes) ≡ true
+record_out : (p : Plan) (bytes : List ℕ) → writable p ≡ true → leb (length (record_of (cycle_in p))) (length bytes) ≡ true
     → write_out p bytes ≡ record_of (cycle_in p) ++ drop (length (record_of (cycle_in p))) bytes
 unfolding write_out write_refusal
-record-out p bytes w l = rw (w, l)
+record_out p bytes w l = rw (w, l)
 
 -- a length that was told
 abbrev length_told : Written → ℕ
@@ -325,13 +325,13 @@ pub written_read : WrittenRead
 written_read p bytes n e = go (writable p) refl (leb (length (record_of (cycle_in p))) (length bytes)) refl
   where
     go : (b : Bool) → writable p ≡ b → (l : Bool) → leb (length (record_of (cycle_in p))) (length bytes) ≡ l → ReadBack p (take n (write_out p bytes))
-    go false w l h = let z : ◌≡◌ {A = ℕ} 0 15 = ap told (sym e ∙ answer-bad p (length bytes) w) in absurd (omega arith)
-    go true w false h = let z : ◌≡◌ {A = ℕ} 0 6 = ap told (sym e ∙ answer-room p (length bytes) w false h) in absurd (omega arith)
+    go false w l h = let z : ◌≡◌ {A = ℕ} 0 15 = ap told (sym e ∙ answer_bad p (length bytes) w) in absurd (omega arith)
+    go true w false h = let z : ◌≡◌ {A = ℕ} 0 6 = ap told (sym e ∙ answer_room p (length bytes) w false h) in absurd (omega arith)
     go true w true h =
-        let c = held p (writable-holds p w) in
-        let long : n ≡ length (record_of (cycle_in p)) = ap length_told (sym e ∙ answer-room p (length bytes) w true h) in
+        let c = held p (writable_holds p w) in
+        let long : n ≡ length (record_of (cycle_in p)) = ap length_told (sym e ∙ answer_room p (length bytes) w true h) in
         let front : take n (write_out p bytes) ≡ record_of (cycle_in p) =
-        ap₂ take long (record-out p bytes w h) ∙ take-append_seam (record_of (cycle_in p)) (drop (length (record_of (cycle_in p))) bytes) in
+        ap₂ take long (record_out p bytes w h) ∙ take-append_seam (record_of (cycle_in p)) (drop (length (record_of (cycle_in p))) bytes) in
         let shows = shows_record (cycle_in p) c.cycle in
         subst (λ (x : List ℕ). ReadBack p x) (sym front)
         (record { shows = shows; holds = subst (λ (x : List ℕ). Holds p x) (sym shows.list) c.holds })

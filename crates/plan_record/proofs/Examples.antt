@@ -19,7 +19,7 @@ use Rattle.plan_record.specs.Read.{is_record, record_answer, report_answer, repo
 use Rattle.plan_record.specs.Write.{holds_cycle, writable, write_refusal, write_answer, write_out}
 use Rattle.plan_record.specs.Claims.{GivenBytes, SameShown, GivenPlan, ReadBack}
 use Rattle.plan_record.proofs.ReadLaws.{number_not}
-use Rattle.plan_record.proofs.RecordLaws.{record-length}
+use Rattle.plan_record.proofs.RecordLaws.{record_length}
 use Rattle.plan_record.proofs.Claims.{given, tested, given_holds, no_longer, accepted_exactly}
 
 -- The record of 3 4
@@ -138,7 +138,7 @@ slow_recordable = record {
 }
 
 pub slow_length : length (record_of slow) ≡ longest_record
-slow_length = record-length slow ∙ refl
+slow_length = record_length slow ∙ refl
 
 -- 1,288 bytes tell less than all: with a byte after it the longest record is none
 pub front_less : SameShown (take 1288 (record_of slow ++ (0 ∷ []))) (record_of slow ++ (0 ∷ [])) → ⊥
@@ -153,14 +153,14 @@ front_less s =
 
 -- a list of 257 latencies has a longer one, and is no cycle that a record holds
 pub too_long : length (record_of (replicate 257 32)) ≤ longest_record → ⊥
-too_long h = let n : length (record_of (replicate 257 32)) ≡ 1293 = record-length (replicate 257 32) ∙ refl in omega arith
+too_long h = let n : length (record_of (replicate 257 32)) ≡ 1293 = record_length (replicate 257 32) ∙ refl in omega arith
 
 -- bytes that are refused are not the record of what is read from them
 pub not_written : record_of (report_list []) ≡ [] → ⊥
 not_written e =
     let none = ((accepted_exactly []).refused no_bytes).list in
     let n : ◌≡◌ {A = ℕ} (length (record_of [])) 0 = ap (λ (l : List ℕ). length (record_of l)) (sym none) ∙ ap length e in
-    omega (arith, record-length [])
+    omega (arith, record_length [])
 
 -- Plans
 

@@ -4,7 +4,7 @@ use mathlib.Core.Path.{◌≡◌, sym, ap, ap₂, ◌∙◌}
 use mathlib.Core.Bool.{true, false, not}
 use mathlib.Core.List.{List, ◌++◌, append_assoc}
 use native.Mathlib.Omega.{arith}
-use borrow.Author.Tests.{eqb-true, eqb-false, eq-eqb, ne_eqb, le-leb, lt-leb, not-true}
+use borrow.Author.Tests.{eqb-true, eqb-false, eq-eqb, ne_eqb, le-leb, lt-leb, not_true}
 use lib.Dec.{eqb}
 use lib.ListN.{length, take, drop, replicate, length-append, length-drop, take-append-drop}
 use lib.Seq.{length-take-le, take_all}
@@ -20,7 +20,7 @@ use Rattle.plan_record.specs.Record.{Recordable, recordable, ring_byte, ring_len
 use Rattle.plan_record.specs.Write.{Holds, cycle_in, holds_cycle, writable, write_refusal, write_answer, write_out}
 use Rattle.plan_record.proofs.CycleLaws.{recordable_facts, total_most}
 use Rattle.plan_record.proofs.RingLaws.{ring_length_lem}
-use Rattle.plan_record.proofs.RecordLaws.{record-length}
+use Rattle.plan_record.proofs.RecordLaws.{record_length}
 use Rattle.text.proofs.SameLaws.{same_eq, same_behind}
 
 -- The test as facts
@@ -68,12 +68,12 @@ held_rest p n few r s =
 
 -- The record's parts, one behind the other
 
-pub record-placed : (l b b1 b2 b3 : List ℕ) → length (record_of l) ≤ length b → b1 ≡ put_in b 0 (fields (length l) (total l)) → b2 ≡ put_in b1 8 l
+pub record_placed : (l b b1 b2 b3 : List ℕ) → length (record_of l) ≤ length b → b1 ≡ put_in b 0 (fields (length l) (total l)) → b2 ≡ put_in b1 8 l
     → b3 ≡ placed b2 (8 + length l) (ring_of l) → b3 ≡ placed b 0 (record_of l)
 unfolding record_of
-record-placed l b b1 b2 b3 room e1 e2 e3 =
+record_placed l b b1 b2 b3 room e1 e2 e3 =
     let head : List ℕ = fields (length l) (total l) in
-    let n = record-length l in
+    let n = record_length l in
     let r = ring_length_lem l in
     let p1 : b1 ≡ placed b 0 head = e1 ∙ put_fits b 0 head (omega arith) in
     let n1 : length b1 ≡ length b = ap length p1 ∙ placed_length b 0 head (omega arith) in
@@ -92,7 +92,7 @@ pub plan_placed : (p : Plan) (head b b1 b2 b3 : List ℕ) → holds_cycle p ≡ 
 unfolding ring_of
 plan_placed p head b b1 b2 b3 e room f e1 e2 e3 =
     let h = (held p e).holds in
-    record-placed (cycle_in p) b b1 b2 b3 room (e1 ∙ ap (put_in b 0) (f ∙ ap₂ fields h.count h.sum)) e2
+    record_placed (cycle_in p) b b1 b2 b3 room (e1 ∙ ap (put_in b 0) (f ∙ ap₂ fields h.count h.sum)) e2
     (e3 ∙ ap₂ (λ (i j : ℕ). placed b2 (8 + i) (list_below (ring_length j) (ring_byte (cycle_in p)))) h.count h.sum)
 
 -- room for the ring, and how long it is
@@ -101,51 +101,51 @@ pub ring_room : (p : Plan) (room : ℕ) → holds_cycle p ≡ true → length (r
 ring_room p room e h =
     let k = held p e in (
       omega (arith, total_most (cycle_in p) k.cycle, k.holds.sum),
-      omega (arith, record-length (cycle_in p), k.holds.count, ap (λ s. (s + 7) / 8) k.holds.sum),
+      omega (arith, record_length (cycle_in p), k.holds.count, ap (λ s. (s + 7) / 8) k.holds.sum),
     )
 
 -- Which plans can be written
 
 module _ (p : Plan) where
-  pub writable-none : p.tag ≡ 0 → writable p ≡ false
+  pub writable_none : p.tag ≡ 0 → writable p ≡ false
   unfolding writable
-  writable-none z = simp (eq-eqb p.tag 0 z)
+  writable_none z = simp (eq-eqb p.tag 0 z)
 
-  pub writable-held : (p.tag ≡ 0 → ⊥) → writable p ≡ holds_cycle p
+  pub writable_held : (p.tag ≡ 0 → ⊥) → writable p ≡ holds_cycle p
   unfolding writable
-  writable-held n = rw (ne_eqb p.tag 0 n)
+  writable_held n = rw (ne_eqb p.tag 0 n)
 
-  pub writable-tag : writable p ≡ true → p.tag ≡ 0 → ⊥
+  pub writable_tag : writable p ≡ true → p.tag ≡ 0 → ⊥
   unfolding writable
-  writable-tag e = eqb-false p.tag 0 (not-true (eqb p.tag 0) (and_left (not (eqb p.tag 0)) _ e))
+  writable_tag e = eqb-false p.tag 0 (not_true (eqb p.tag 0) (and_left (not (eqb p.tag 0)) _ e))
 
-  pub writable-holds : writable p ≡ true → holds_cycle p ≡ true
+  pub writable_holds : writable p ≡ true → holds_cycle p ≡ true
   unfolding writable
-  writable-holds e = and_right (not (eqb p.tag 0)) (holds_cycle p) e
+  writable_holds e = and_right (not (eqb p.tag 0)) (holds_cycle p) e
 
 -- How a call ends
 
 module _ (p : Plan) (b : List ℕ) where
-  pub ends-bad : writable p ≡ false → (Written.Refused BadRecord ≡ write_answer p (length b)) × (b ≡ write_out p b)
+  pub ends_bad : writable p ≡ false → (Written.Refused BadRecord ≡ write_answer p (length b)) × (b ≡ write_out p b)
   unfolding write_answer write_out write_refusal
-  ends-bad e = (simp e, simp e)
+  ends_bad e = (simp e, simp e)
 
   module _ (e : writable p ≡ true) (size : ℕ) (s : size ≡ 8 + p.count + (p.sum + 7) / 8) where
     whole : length (record_of (cycle_in p)) ≡ size
     whole =
-        let h = (held p (writable-holds p e)).holds in
-        record-length (cycle_in p) ∙ ap₂ (λ (i j : ℕ). 8 + i + (j + 7) / 8) (sym h.count) (sym h.sum) ∙ sym s
+        let h = (held p (writable_holds p e)).holds in
+        record_length (cycle_in p) ∙ ap₂ (λ (i j : ℕ). 8 + i + (j + 7) / 8) (sym h.count) (sym h.sum) ∙ sym s
 
-    pub write-room : size ≤ length b → length (record_of (cycle_in p)) ≤ length b
-    write-room h = omega (arith, whole)
+    pub write_room : size ≤ length b → length (record_of (cycle_in p)) ≤ length b
+    write_room h = omega (arith, whole)
 
     pub ends_short : length b < size → (Written.Refused ShortOutput ≡ write_answer p (length b)) × (b ≡ write_out p b)
     unfolding write_answer write_out write_refusal
     ends_short h = let l = lt-leb (length (record_of (cycle_in p))) (length b) (omega (arith, whole)) in (simp (e, l), simp (e, l))
 
-    pub ends-written : (out : List ℕ) → size ≤ length b → out ≡ placed b 0 (record_of (cycle_in p))
+    pub ends_written : (out : List ℕ) → size ≤ length b → out ≡ placed b 0 (record_of (cycle_in p))
         → (Written.Length size ≡ write_answer p (length b)) × (out ≡ write_out p b)
     unfolding write_answer write_out write_refusal
-    ends-written out h w =
+    ends_written out h w =
         let l = le-leb (length (record_of (cycle_in p))) (length b) (omega (arith, whole)) in
         (rw (e, l) (ap Written.Length (sym whole)), rw (e, l) (w ∙ placed_front b (record_of (cycle_in p))))

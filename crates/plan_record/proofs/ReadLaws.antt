@@ -41,43 +41,43 @@ unfolding record_answer
 refuses b e = rw e
 
 module _ (b : List ℕ) where
-  pub report-refused : is_record b ≡ false → Shown.Refused BadRecord ≡ report_answer b
+  pub report_refused : is_record b ≡ false → Shown.Refused BadRecord ≡ report_answer b
   unfolding report_answer
-  report-refused e = rw (refuses b e)
+  report_refused e = rw (refuses b e)
 
-  pub load-refused : is_record b ≡ false → Shown.Refused BadRecord ≡ load_answer b
+  pub load_refused : is_record b ≡ false → Shown.Refused BadRecord ≡ load_answer b
   unfolding load_answer
-  load-refused e = rw (refuses b e)
+  load_refused e = rw (refuses b e)
 
-  pub list-refused : is_record b ≡ false → [] ≡ report_list b
+  pub list_refused : is_record b ≡ false → [] ≡ report_list b
   unfolding report_list
-  list-refused e = rw (refuses b e)
+  list_refused e = rw (refuses b e)
 
-  pub ring-refused : is_record b ≡ false → [] ≡ load_ring b
+  pub ring_refused : is_record b ≡ false → [] ≡ load_ring b
   unfolding load_ring
-  ring-refused e = rw (refuses b e)
+  ring_refused e = rw (refuses b e)
 
-  pub report-shown : (r : ℕ) → is_record b ≡ true → r ≡ count_in b → Shown.Number r ≡ report_answer b
+  pub report_shown : (r : ℕ) → is_record b ≡ true → r ≡ count_in b → Shown.Number r ≡ report_answer b
   unfolding report_answer
-  report-shown r e v = rw (accepts b e) (ap Shown.Number v)
+  report_shown r e v = rw (accepts b e) (ap Shown.Number v)
 
-  pub load-shown : (r : ℕ) → is_record b ≡ true → r ≡ sum_in b → Shown.Number r ≡ load_answer b
+  pub load_shown : (r : ℕ) → is_record b ≡ true → r ≡ sum_in b → Shown.Number r ≡ load_answer b
   unfolding load_answer
-  load-shown r e v = rw (accepts b e) (ap Shown.Number v)
+  load_shown r e v = rw (accepts b e) (ap Shown.Number v)
 
-  pub list-is : is_record b ≡ true → report_list b ≡ list_in b
+  pub list_is : is_record b ≡ true → report_list b ≡ list_in b
   unfolding report_list
-  list-is e = rw (accepts b e)
+  list_is e = rw (accepts b e)
 
-  pub ring-is : is_record b ≡ true → load_ring b ≡ ring_in b
+  pub ring_is : is_record b ≡ true → load_ring b ≡ ring_in b
   unfolding load_ring
-  ring-is e = rw (accepts b e)
+  ring_is e = rw (accepts b e)
 
   -- the parts that are handed out
-  pub list-shown : (r : ℕ) → is_record b ≡ true → r ≡ count_in b → take (8 + r - 8) (drop 8 b) ≡ report_list b
-  list-shown r e v = let k : 8 + r - 8 ≡ count_in b = omega arith in ap (λ i. take i (drop 8 b)) k ∙ sym (list-is e)
+  pub list_shown : (r : ℕ) → is_record b ≡ true → r ≡ count_in b → take (8 + r - 8) (drop 8 b) ≡ report_list b
+  list_shown r e v = let k : 8 + r - 8 ≡ count_in b = omega arith in ap (λ i. take i (drop 8 b)) k ∙ sym (list_is e)
 
-  pub ring-shown : (r : ℕ) → is_record b ≡ true → r ≡ count_in b → take (length b - (8 + r)) (drop (8 + r) b) ≡ load_ring b
-  ring-shown r e v =
+  pub ring_shown : (r : ℕ) → is_record b ≡ true → r ≡ count_in b → take (length b - (8 + r)) (drop (8 + r) b) ≡ load_ring b
+  ring_shown r e v =
       let n : length (drop (8 + r) b) ≤ length b - (8 + r) = omega (arith, length-drop (8 + r) b) in
-      take_all (length b - (8 + r)) (drop (8 + r) b) n ∙ ap (λ i. drop (8 + i) b) v ∙ sym (ring-is e)
+      take_all (length b - (8 + r)) (drop (8 + r) b) n ∙ ap (λ i. drop (8 + i) b) v ∙ sym (ring_is e)

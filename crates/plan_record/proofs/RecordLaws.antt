@@ -21,38 +21,38 @@ use Rattle.text.proofs.SameLaws.{same_eq, same_of}
 -- The record of a cycle
 
 module _ (l : List ℕ) where
-  pub record-length : length (record_of l) ≡ 8 + length l + ring_length (total l)
+  pub record_length : length (record_of l) ≡ 8 + length l + ring_length (total l)
   unfolding record_of
-  record-length = length-append (fields (length l) (total l)) (l ++ ring_of l) ∙ ap (λ k. 8 + k) (length-append l (ring_of l)) ∙ omega (arith, ring_length_lem l)
+  record_length = length-append (fields (length l) (total l)) (l ++ ring_of l) ∙ ap (λ k. 8 + k) (length-append l (ring_of l)) ∙ omega (arith, ring_length_lem l)
 
-  pub record-rest : drop 8 (record_of l) ≡ l ++ ring_of l
+  pub record_rest : drop 8 (record_of l) ≡ l ++ ring_of l
   unfolding record_of
-  record-rest = refl
+  record_rest = refl
 
   module _ (r : Recordable l) where
-    pub record-count : count_in (record_of l) ≡ length l
+    pub record_count : count_in (record_of l) ≡ length l
     unfolding record_of
-    record-count = half_value (length l) (omega (arith, r.few))
+    record_count = half_value (length l) (omega (arith, r.few))
 
-    pub record-sum : sum_in (record_of l) ≡ total l
+    pub record_sum : sum_in (record_of l) ≡ total l
     unfolding record_of
-    record-sum = half_value (total l) (omega (arith, total_most l r))
+    record_sum = half_value (total l) (omega (arith, total_most l r))
 
-    pub record-list-at : word16 (record_of l) 4 ≡ 8
+    pub record_list_at : word16 (record_of l) 4 ≡ 8
     unfolding record_of
-    record-list-at = refl
+    record_list_at = refl
 
-    pub record-ring-at : word16 (record_of l) 6 ≡ 8 + length l
+    pub record_ring_at : word16 (record_of l) 6 ≡ 8 + length l
     unfolding record_of
-    record-ring-at = half_value (8 + length l) (omega (arith, r.few))
+    record_ring_at = half_value (8 + length l) (omega (arith, r.few))
 
-    pub record-list : list_in (record_of l) ≡ l
-    record-list = ap (take (count_in (record_of l))) record-rest ∙ take_at l (ring_of l) (count_in (record_of l)) (sym record-count)
+    pub record_list : list_in (record_of l) ≡ l
+    record_list = ap (take (count_in (record_of l))) record_rest ∙ take_at l (ring_of l) (count_in (record_of l)) (sym record_count)
 
-    pub record-ring : ring_in (record_of l) ≡ ring_of l
-    record-ring =
+    pub record_ring : ring_in (record_of l) ≡ ring_of l
+    record_ring =
         sym (drop-drop (count_in (record_of l)) 8 (record_of l))
-        ∙ ap (drop (count_in (record_of l))) record-rest ∙ drop_at l (ring_of l) (count_in (record_of l)) (sym record-count)
+        ∙ ap (drop (count_in (record_of l))) record_rest ∙ drop_at l (ring_of l) (count_in (record_of l)) (sym record_count)
 
 -- Bytes that are one
 
@@ -64,8 +64,8 @@ is_record_lem bytes e =
 pub record_is : (l : List ℕ) → Recordable l → is_record (record_of l) ≡ true
 unfolding is_record
 record_is l r =
-    and_true (ap recordable (record-list l r) ∙ recordable_of l r)
-    (same_of (record_of l) (record_of (list_in (record_of l))) (ap record_of (sym (record-list l r))))
+    and_true (ap recordable (record_list l r) ∙ recordable_of l r)
+    (same_of (record_of l) (record_of (list_in (record_of l))) (ap record_of (sym (record_list l r))))
 
 -- the same as facts, one for each test
 pub record Fits (bytes : List ℕ) : Type 0 where
@@ -78,26 +78,26 @@ pub record Fits (bytes : List ℕ) : Type 0 where
   pub size : length bytes ≡ 8 + count_in bytes + ring_length (sum_in bytes)
   pub ring : ring_in bytes ≡ list_below (length (ring_in bytes)) (ring_byte (list_in bytes))
 
-record-fits : (l : List ℕ) → Recordable l → Fits (record_of l)
+record_fits : (l : List ℕ) → Recordable l → Fits (record_of l)
 unfolding ring_of
-record-fits l r =
-    let n = record-length l in
-    let k = record-count l r in
-    let s = record-sum l r in
+record_fits l r =
+    let n = record_length l in
+    let k = record_count l r in
+    let s = record_sum l r in
     record {
       long = omega arith;
-      list_at = record-list-at l r;
-      ring_at = record-ring-at l r ∙ ap (λ i. 8 + i) (sym k);
+      list_at = record_list_at l r;
+      ring_at = record_ring_at l r ∙ ap (λ i. 8 + i) (sym k);
       inside = omega arith;
-      cycle = subst (λ (x : List ℕ). Recordable x) (sym (record-list l r)) r;
-      sum = ap total (record-list l r) ∙ sym s;
+      cycle = subst (λ (x : List ℕ). Recordable x) (sym (record_list l r)) r;
+      sum = ap total (record_list l r) ∙ sym s;
       size = n ∙ ap₂ (λ (i j : ℕ). 8 + i + ring_length j) (sym k) (sym s);
-      ring = record-ring l r
-          ∙ ap₂ (λ (i : ℕ) (x : List ℕ). list_below i (ring_byte x)) (sym (ring_length_lem l) ∙ ap length (sym (record-ring l r))) (sym (record-list l r));
+      ring = record_ring l r
+          ∙ ap₂ (λ (i : ℕ) (x : List ℕ). list_below i (ring_byte x)) (sym (ring_length_lem l) ∙ ap length (sym (record_ring l r))) (sym (record_list l r));
     }
 
 pub fits : (bytes : List ℕ) → is_record bytes ≡ true → Fits bytes
-fits bytes e = let i = is_record_lem bytes e in subst (λ (x : List ℕ). Fits x) (sym i.1) (record-fits (list_in bytes) i.0)
+fits bytes e = let i = is_record_lem bytes e in subst (λ (x : List ℕ). Fits x) (sym i.1) (record_fits (list_in bytes) i.0)
 
 -- one of the facts fails
 pub no_record_lem : (bytes : List ℕ) → (Fits bytes → ⊥) → is_record bytes ≡ false

@@ -40,9 +40,9 @@ module _ (l : List ℕ) (j : ℕ) where
       reached = rw (i, n, ← further) (reached_start l (8 * j + bit) index next t.reached e);
     }
 
-    pub turn-tick : (byte' index' next' : ℕ) → ltb index (length l) && eqb (8 * j + bit) next ≡ false
+    pub turn_tick : (byte' index' next' : ℕ) → ltb index (length l) && eqb (8 * j + bit) next ≡ false
         → byte' ≡ set_bit byte bit → index' ≡ index → next' ≡ next → Turn l j (bit + 1) byte' index' next'
-    turn-tick byte' index' next' e b i n = record {
+    turn_tick byte' index' next' e b i n = record {
       few = omega arith;
       made = b ∙ ap (λ w. set_bit w bit) t.made
           ∙ word_one bit (λ b. not (starts l (8 * j + b))) (omega arith) (ap not (reached_bit l (8 * j + bit) index next t.reached ∙ e));
@@ -68,7 +68,7 @@ module _ (l : List ℕ) (j : ℕ) where
       let e : bit ≡ 8 = omega (arith, t.few) in
       t.made ∙ ap (λ k. word_below k (λ b. not (starts l (8 * j + b)))) e
 
-  pub turn-reached : (bit byte index next : ℕ) → Turn l j bit byte index next → 8 ≤ bit → Reached l (8 * j + 8) index next
-  turn-reached bit byte index next t h =
+  pub turn_reached : (bit byte index next : ℕ) → Turn l j bit byte index next → 8 ≤ bit → Reached l (8 * j + 8) index next
+  turn_reached bit byte index next t h =
       let e : 8 * j + bit ≡ 8 * j + 8 = omega (arith, t.few) in
       subst (λ (i : ℕ). Reached l i index next) e t.reached

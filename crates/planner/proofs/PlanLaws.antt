@@ -67,8 +67,8 @@ plan_is q w bytes latencies c first s e f t = λ i. record { tag = q; count = lo
     l : List ℕ
     l = found w c.count
 
-    front-is : take c.count bytes ≡ l
-    front-is = bytes_front w bytes c.count s.latencies e
+    front_is : take c.count bytes ≡ l
+    front_is = bytes_front w bytes c.count s.latencies e
 
     long : c.count ≡ length (in_first_rotation l)
     long = sym (rotate_length l (first_rotation l) ∙ found_length w c.count s.latencies)
@@ -78,5 +78,5 @@ plan_is q w bytes latencies c first s e f t = λ i. record { tag = q; count = lo
 
     same : latencies ≡ in_first_rotation l ++ replicate (256 - length (in_first_rotation l)) 0
     same =
-        t ∙ ap₂ (λ (a : List ℕ) (r : ℕ). rotate a r ++ replicate (256 - c.count) 0) front-is (f ∙ ap first_rotation front-is)
+        t ∙ ap₂ (λ (a : List ℕ) (r : ℕ). rotate a r ++ replicate (256 - c.count) 0) front_is (f ∙ ap first_rotation front_is)
         ∙ ap (λ k. in_first_rotation l ++ replicate (256 - k) 0) long

@@ -21,13 +21,13 @@ use Rattle.unit.specs.Calls.{check, and_then, tag_answer}
 use Rattle.unit.proofs.Laws.{never_done}
 use Rattle.collision.specs.Pipeline.{total}
 use Rattle.collision.specs.Vector.{vector_word}
-use Rattle.collision.proofs.VectorLaws.{marked_bounded, vector-lt}
+use Rattle.collision.proofs.VectorLaws.{marked_bounded, vector_lt}
 use Rattle.diagram.specs.Diagram.{width, longest}
 use Rattle.diagram.specs.States.{states}
 use Rattle.diagram.specs.Answers.{states_of, few_states}
 use Rattle.diagram.specs.Cycles.{CycleFrom}
 use Rattle.diagram.proofs.StatesLaws.{Vector}
-use Rattle.diagram.proofs.Walks.{walk-permits}
+use Rattle.diagram.proofs.Walks.{walk_permits}
 use Rattle.diagram.proofs.WidthLaws.{width_le}
 use Rattle.cycles.specs.Greedy.{WorkAfter}
 use Rattle.graphs.specs.Rotation.{rotate}
@@ -70,22 +70,22 @@ sought_short u q w before answer p v h e = record {
 -- Whether a search of the diagram was made
 
 module _ (u : FunctionUnit) (q w : ℕ) (before : List ℕ) (v : Vector u q w) (h : 16000 ≤ length before) where
-  few-test : searchable (length before) 1 w ≡ leb (length (states 256 1 (width w) w)) 256
+  few_test : searchable (length before) 1 w ≡ leb (length (states 256 1 (width w) w)) 256
   unfolding searchable
-  few-test =
-      let low : w < 2 ^ 31 = subst (λ (x : ℕ). x < 2 ^ 31) v.word (vector-lt (marked u) (marked_bounded u) q) in
+  few_test =
+      let low : w < 2 ^ 31 = subst (λ (x : ℕ). x < 2 ^ 31) v.word (vector_lt (marked u) (marked_bounded u) q) in
       simp (le-leb 2048 (length before) (omega arith), lt-ltb w (2 ^ 31) low)
 
-  answer-is : (b : Bool) → searchable (length before) 1 w ≡ b → search_answer u q (length before) ≡ check b TooManyStates Done
+  answer_is : (b : Bool) → searchable (length before) 1 w ≡ b → search_answer u q (length before) ≡ check b TooManyStates Done
   unfolding search_answer
-  answer-is b e =
+  answer_is b e =
       let same : leb (length (states_of 1 (marked u) q)) 256 ≡ b =
-      ap (λ x. leb (length (states 256 1 (width x) x)) 256) v.word ∙ sym few-test ∙ e in
+      ap (λ x. leb (length (states 256 1 (width x) x)) 256) v.word ∙ sym few_test ∙ e in
       simp (v.accepted, le-leb 16000 (length before) h, same)
 
   pub sought_many : (words : List ℕ) (answer : Answer) (p : Plan) → Searched 1 w before words No → answer ≡ Refused TooManyStates → Sought u q before words answer p
   sought_many words answer p s e = record {
-    says = e ∙ sym (answer-is false (sym s.answer));
+    says = e ∙ sym (answer_is false (sym s.answer));
     found = λ d. not_found answer TooManyStates e d;
     work = record {
       size = s.size;
@@ -107,29 +107,29 @@ module _ (u : FunctionUnit) (q w : ℕ) (before : List ℕ) (v : Vector u q w) (
     long = length-take-le c.count (drop 1536 words) (rw (length-drop 1536 words) (omega (arith, room, least.few)))
 
     -- no latency is above 33
-    label-low : (i : ℕ) → i < c.count → get_or (found words c.count) i 0 ≤ 33
-    label-low i l =
-        let p = walk-permits least.cycle.closed i (omega (arith, long)) in
+    label_low : (i : ℕ) → i < c.count → get_or (found words c.count) i 0 ≤ 33
+    label_low i l =
+        let p = walk_permits least.cycle.closed i (omega (arith, long)) in
         omega (arith, p.small, width_le w)
 
     label_small : (i : ℕ) → i < c.count → get_or words (1536 + i) 0 < 2 ^ 8
-    label_small i l = omega (arith, label-low i l, found_at words c.count i l)
+    label_small i l = omega (arith, label_low i l, found_at words c.count i l)
 
     pub standing : Standing words c
     standing = record {
       some = least.some;
       latencies = record { room = room; few = least.few; small = label_small };
       adds = least.adds;
-      low = omega (arith, least.adds, least.few, total_most 33 (found words c.count) (λ i l. label-low i (omega (arith, long))), long);
+      low = omega (arith, least.adds, least.few, total_most 33 (found words c.count) (λ i l. label_low i (omega (arith, long))), long);
     }
       where
         total_most : (b : ℕ) (l : List ℕ) → ((i : ℕ) → i < length l → get_or l i 0 ≤ b) → total l ≤ length l * b
         total_most b [] f = omega arith
         total_most b (x ∷ l) f = omega (arith, f 0 (omega arith), total_most b l (λ i k. f (suc i) (omega arith)), suc-mul (length l) b)
 
-    pub sought-found : (p : Plan) → p ≡ plan_of q (in_first_rotation (found words c.count)) → Sought u q before words Done p
-    sought-found p e = record {
-      says = sym (answer-is true (sym s.answer));
+    pub sought_found : (p : Plan) → p ≡ plan_of q (in_first_rotation (found words c.count)) → Sought u q before words Done p
+    sought_found p e = record {
+      says = sym (answer_is true (sym s.answer));
       found = λ d. record {
         cycle = in_first_rotation l;
         few = omega (arith, rotate_length l (first_rotation l), long, least.few);

@@ -53,17 +53,17 @@ abbrev put : List ℕ → List ℕ → ℕ → List ℕ
 put xs ys a = put_mid a (a + 262 - a) xs ys
 
 module _ (xs ys : List ℕ) (a : ℕ) (size : length ys ≡ 262) (fits : a + 262 ≤ length xs) where
-  put-take : take (a + 262) (put xs ys a) ≡ take a xs ++ ys
-  put-take =
+  put_take : take (a + 262) (put xs ys a) ≡ take a xs ++ ys
+  put_take =
       let n : length (take a xs ++ ys) ≡ a + 262 = length-append (take a xs) ys ∙ ap₂ ◌+◌ (length-take-le a xs (omega arith)) size in
       ap (take (a + 262)) (sym (append_assoc (take a xs) ys (post_of a (a + 262 - a) xs)))
       ∙ take_at (take a xs ++ ys) (post_of a (a + 262 - a) xs) (a + 262) n
 
-  put-drop : drop (a + 262) (put xs ys a) ≡ drop (a + 262) xs
-  put-drop = drop_put a (a + 262) xs ys (omega arith) fits (omega arith)
+  put_drop : drop (a + 262) (put xs ys a) ≡ drop (a + 262) xs
+  put_drop = drop_put a (a + 262) xs ys (omega arith) fits (omega arith)
 
-  put-length : length (put xs ys a) ≡ length xs
-  put-length =
+  put_length : length (put xs ys a) ≡ length xs
+  put_length =
       let n : 262 ≡ a + 262 - a = omega arith in
       same_len_mid a (a + 262 - a) xs ys (size ∙ n ∙ sym (mid_len a (a + 262) xs fits))
 
@@ -94,11 +94,11 @@ playing_start first calls before work = record {
 }
 
 module _ (first : FunctionUnit) (calls before work : List ℕ) (n : ℕ) (after words : List ℕ) (u : FunctionUnit) where
-  pub playing-more : (used : List ℕ) (number : ℕ) (p : Plan) (left : FunctionUnit) (ys : List ℕ)
+  pub playing_more : (used : List ℕ) (number : ℕ) (p : Plan) (left : FunctionUnit) (ys : List ℕ)
       → Playing first calls before work n after words u → Turned u (call_at (length words) calls n) words used number p left
       → ys ≡ number ∷ plan_bytes p → length ys ≡ 262 → n * 262 + 262 ≤ length before
       → Playing first calls before work (n + 1) (put_mid (n * 262) (n * 262 + 262 - n * 262) after ys) used left
-  playing-more used number p left ys h turned e size fits =
+  playing_more used number p left ys h turned e size fits =
       let k = call_at (length work) calls n in
       let w = length work in
       let t : Turned u k words used number p left = subst (λ (x : ℕ). Turned u (call_at x calls n) words used number p left) h.room turned in
@@ -108,9 +108,9 @@ module _ (first : FunctionUnit) (calls before work : List ℕ) (n : ℕ) (after 
       record {
         replies = h.replies ++ t.reply ∷ [];
         run = rw ks (run_more (calls_of w calls n) h.replies first u k t.reply left h.run t.step);
-        wrote = rw (m, put-take after ys (n * 262) size f, h.wrote, e, t.bytes) (sym (bytes_more h.replies t.reply));
-        rest = rw (m, put-drop after ys (n * 262) size f, ← drop-drop 262 (n * 262) after, h.rest, drop-drop 262 (n * 262) before);
-        size = put-length after ys (n * 262) size f ∙ h.size;
+        wrote = rw (m, put_take after ys (n * 262) size f, h.wrote, e, t.bytes) (sym (bytes_more h.replies t.reply));
+        rest = rw (m, put_drop after ys (n * 262) size f, ← drop-drop 262 (n * 262) after, h.rest, drop-drop 262 (n * 262) before);
+        size = put_length after ys (n * 262) size f ∙ h.size;
         room = t.room ∙ h.room;
         beyond = λ i g. t.beyond i g ∙ h.beyond i g;
         kept = λ g.

@@ -34,19 +34,19 @@ module _ (l : List ℕ) (number : ℕ) (p : Plan) (room : length l ≡ 262) (siz
   abbrev pub written : ℕ → List ℕ
   written i = paste (headed l number p) 6 p.latencies i
 
-  pub written-length : (i : ℕ) → i ≤ 256 → length (written i) ≡ 262
-  written-length i h =
+  pub written_length : (i : ℕ) → i ≤ 256 → length (written i) ≡ 262
+  written_length i h =
       let n : length (headed l number p) ≡ 262 = headed_length l number p ∙ room in
       length-paste (headed l number p) 6 p.latencies i (omega arith) (omega arith) ∙ n
 
-  pub written-more : (i : ℕ) → i < 256 → set (written i) (6 + i) (get_or p.latencies i 0) ≡ written (i + 1)
-  written-more i h =
+  pub written_more : (i : ℕ) → i < 256 → set (written i) (6 + i) (get_or p.latencies i 0) ≡ written (i + 1)
+  written_more i h =
       let n : length (headed l number p) ≡ 262 = headed_length l number p ∙ room in
       paste-suc (headed l number p) 6 p.latencies i 0 (omega arith) (omega arith) ∙ ap written (sym (add-one i))
 
-  pub written-end : written 256 ≡ number ∷ plan_bytes p
+  pub written_end : written 256 ≡ number ∷ plan_bytes p
   unfolding plan_bytes
-  written-end =
+  written_end =
       let n : length (headed l number p) ≡ 262 = headed_length l number p ∙ room in
       ap₂ (λ (x y : List ℕ). take 6 (headed l number p) ++ x ++ y) (take_all 256 p.latencies (omega arith)) (drop_of_length-le (headed l number p) {i = 262} (omega arith))
       ∙ append-nil (take 6 (headed l number p) ++ p.latencies)

@@ -54,10 +54,10 @@ module _ (u : FunctionUnit) (kind q s c : ℕ) (work : List ℕ) (n : ℕ) (p : 
   at_call k words e t = subst (λ (x : Call). Turned u x work words n p after) (sym e) t
 
   -- a call that hands out no plan
-  told-turn : (k : Call) (words : List ℕ) (r : Outcome) → Told r n p after → Step u k (reply_to r.answer) r.unit
+  told_turn : (k : Call) (words : List ℕ) (r : Outcome) → Told r n p after → Step u k (reply_to r.answer) r.unit
       → length words ≡ length work → ((i : ℕ) → 2048 ≤ i → get_or words i 0 ≡ get_or work i 0) → (may_use k (reply_to r.answer) ≡ false → words ≡ work)
       → Turned u k work words n p after
-  told-turn k words r t step room beyond kept = record {
+  told_turn k words r t step room beyond kept = record {
     reply = reply_to r.answer;
     step = subst (λ (x : FunctionUnit). Step u k (reply_to r.answer) x) (sym t.unit) step;
     bytes = ap₂ (λ (x : ℕ) (y : Plan). x ∷ plan_bytes y) t.number t.plan ∙ told_bytes r.answer;
@@ -66,30 +66,30 @@ module _ (u : FunctionUnit) (kind q s c : ℕ) (work : List ℕ) (n : ℕ) (p : 
     kept = kept;
   }
 
-  pub mark-turn : (r : Outcome) → kind ≡ 0 → r ≡ mark_of u q s c → Told r n p after → Turned u (call_of (length work) kind q s c) work work n p after
-  mark-turn r z e t =
+  pub mark_turn : (r : Outcome) → kind ≡ 0 → r ≡ mark_of u q s c → Told r n p after → Turned u (call_of (length work) kind q s c) work work n p after
+  mark_turn r z e t =
       at_call (Mark q s c) work (simp (eq-eqb kind 0 z))
-      (told-turn (Mark q s c) work r t (r, e, refl, refl) refl (λ i h. refl) (λ h. refl))
+      (told_turn (Mark q s c) work r t (r, e, refl, refl) refl (λ i h. refl) (λ h. refl))
 
-  pub unmark-turn : (r : Outcome) → (kind ≡ 0 → ⊥) → kind ≡ 1 → r ≡ unmark_of u q s c → Told r n p after
+  pub unmark_turn : (r : Outcome) → (kind ≡ 0 → ⊥) → kind ≡ 1 → r ≡ unmark_of u q s c → Told r n p after
       → Turned u (call_of (length work) kind q s c) work work n p after
-  unmark-turn r y z e t =
+  unmark_turn r y z e t =
       at_call (Unmark q s c) work (simp (ne_eqb kind 0 y, eq-eqb kind 1 z))
-      (told-turn (Unmark q s c) work r t (r, e, refl, refl) refl (λ i h. refl) (λ h. refl))
+      (told_turn (Unmark q s c) work r t (r, e, refl, refl) refl (λ i h. refl) (λ h. refl))
 
-  pub search-turn : (r : Outcome) (words : List ℕ) → (kind ≡ 0 → ⊥) → (kind ≡ 1 → ⊥) → kind ≡ 2
+  pub search_turn : (r : Outcome) (words : List ℕ) → (kind ≡ 0 → ⊥) → (kind ≡ 1 → ⊥) → kind ≡ 2
       → SearchPromise u q work words r.answer r.unit → Told r n p after → Turned u (call_of (length work) kind q s c) work words n p after
-  search-turn r words x y z h t =
+  search_turn r words x y z h t =
       at_call (Search q (length work)) words (simp (ne_eqb kind 0 x, ne_eqb kind 1 y, eq-eqb kind 2 z))
-      (told-turn (Search q (length work)) words r t
+      (told_turn (Search q (length work)) words r t
       (record { before = work; words = words; lent = refl; answer = r.answer; promise = h; told = refl })
       h.work.size
       h.work.beyond
       (search_kept u r.unit q work words r.answer h))
 
-  pub read-turn : (r : Handed) → (kind ≡ 0 → ⊥) → (kind ≡ 1 → ⊥) → (kind ≡ 2 → ⊥) → r ≡ read_of u → n ≡ number_in r.answer → p ≡ r.plan → after ≡ u
+  pub read_turn : (r : Handed) → (kind ≡ 0 → ⊥) → (kind ≡ 1 → ⊥) → (kind ≡ 2 → ⊥) → r ≡ read_of u → n ≡ number_in r.answer → p ≡ r.plan → after ≡ u
       → Turned u (call_of (length work) kind q s c) work work n p after
-  read-turn r x y z e b f g =
+  read_turn r x y z e b f g =
       at_call Read work (simp (ne_eqb kind 0 x, ne_eqb kind 1 y, ne_eqb kind 2 z))
       (record {
         reply = read_reply r.answer r.plan;

@@ -28,7 +28,7 @@ use Rattle.callers.specs.Parts.{arrival_in, arrival_on_by, unit_in, unit_on_by}
 use Rattle.port.specs.Inner.{reach_of, loaded_of, stored_of}
 use Rattle.callers.proofs.PartLaws.{drop_take, parts, queue_length}
 use Rattle.callers.proofs.TestedLaws.{one_of_lem, arrival_accepted}
-use Rattle.callers.proofs.SameLaws.{arrival-same, passed-same, started_there}
+use Rattle.callers.proofs.SameLaws.{arrival_same, passed_same, started_there}
 
 -- How many are copied
 
@@ -58,16 +58,16 @@ module _ (ys : List Waiting) (n : ℕ) (there : n ≤ length ys) where
   copied : (m : ℕ) → m ≤ n → take m copy ≡ take m ys
   copied m h = take-append-le m (take n ys) (replicate (32 - n) no_record) (omega (arith, length-take-le n ys there)) ∙ take-take m n ys h
 
-  pub loaded-queue : (i : ℕ) → place_of i + room ≤ n → queue_of copy i ≡ queue_of ys i
-  loaded-queue i h = sym (drop_take (place_of i) room copy) ∙ ap (drop (place_of i)) (copied (place_of i + room) h) ∙ drop_take (place_of i) room ys
+  pub loaded_queue : (i : ℕ) → place_of i + room ≤ n → queue_of copy i ≡ queue_of ys i
+  loaded_queue i h = sym (drop_take (place_of i) room copy) ∙ ap (drop (place_of i)) (copied (place_of i + room) h) ∙ drop_take (place_of i) room ys
 
   -- nothing changed
-  pub stored-own : stored_of ys copy n ≡ ys
-  stored-own = ap (λ (l : List Waiting). l ++ drop n ys) (copied n (omega arith)) ∙ take-append-drop n ys
+  pub stored_own : stored_of ys copy n ≡ ys
+  stored_own = ap (λ (l : List Waiting). l ++ drop n ys) (copied n (omega arith)) ∙ take-append-drop n ys
 
   -- a queue changed
-  pub stored-with : (i : ℕ) (q : List Waiting) → place_of i + room ≤ n → length q ≡ room → stored_of ys (with_queue copy i q) n ≡ with_queue ys i q
-  stored-with i q h l =
+  pub stored_with : (i : ℕ) (q : List Waiting) → place_of i + room ≤ n → length q ≡ room → stored_of ys (with_queue copy i q) n ≡ with_queue ys i q
+  stored_with i q h l =
       let e = place_of i + room in
       let k = n - e in
       let fronts : take (place_of i) copy ≡ take (place_of i) ys = copied (place_of i) (omega arith) in
@@ -96,27 +96,27 @@ module _ (u : FunctionUnit) (C i : ℕ) (ys : List Waiting) (count : ℕ) (w : W
   same o l =
       let c = one_of_lem C i o in
       let e = reach_all i (length ys) (omega (arith, c.few, c.most)) (omega (arith, c.least)) in
-      loaded-queue ys own (reach_there i (length ys)) i (omega (arith, e, c.least))
+      loaded_queue ys own (reach_there i (length ys)) i (omega (arith, e, c.least))
 
   found : arrival_in u C i (length ys) held count w.tag ≡ arrival_at u C i (queue_of ys i) count w
-  found = arrival-same u C i held ys same count w
+  found = arrival_same u C i held ys same count w
 
   stored : (a : Answer) → arrival_in u C i (length ys) held count w.tag ≡ a
       → stored_of ys (with_queue held i (list_then a (queue_of held i) count w)) own ≡ with_queue ys i (list_then a (queue_of ys i) count w)
-  stored (Refused why) e = ap (λ (l : List Waiting). stored_of ys l own) (parts held i) ∙ stored-own ys own (reach_there i (length ys)) ∙ sym (parts ys i)
+  stored (Refused why) e = ap (λ (l : List Waiting). stored_of ys l own) (parts held i) ∙ stored_own ys own (reach_there i (length ys)) ∙ sym (parts ys i)
   stored Done e =
       let a = arrival_accepted u C i (length ys) held count w.tag e in
       let c = one_of_lem C i a.caller in
       let n = reach_all i (length ys) (omega (arith, c.few, c.most)) (omega (arith, c.least, a.long)) in
       let q = same a.caller a.long in
       ap (λ (l : List Waiting). stored_of ys (with_queue held i (set l count w)) own) q
-      ∙ stored-with ys own (reach_there i (length ys)) i (set (queue_of ys i) count w) (omega (arith, n, c.least))
+      ∙ stored_with ys own (reach_there i (length ys)) i (set (queue_of ys i) count w) (omega (arith, n, c.least))
       (length-set (queue_of ys i) count w ∙ queue_length ys i a.long)
 
-  pub arrival-lent : (on : ArrivalOn) → on ≡ arrival_on_by i held count w (arrival_in u C i (length ys) held count w.tag)
+  pub arrival_lent : (on : ArrivalOn) → on ≡ arrival_on_by i held count w (arrival_in u C i (length ys) held count w.tag)
       → (on.arrival ≡ arrival_of u C i ys count w) × (stored_of ys on.records.list own ≡ arrival_list u C i ys count w)
   unfolding arrival_of arrival_list
-  arrival-lent on e = (
+  arrival_lent on e = (
     ap (λ (x : ArrivalOn). x.arrival) e ∙ ap (λ (a : Answer). record { answer = a; count = count_then a count }) found,
     ap (λ (x : ArrivalOn). stored_of ys x.records.list own) e
         ∙ stored (arrival_in u C i (length ys) held count w.tag) refl
@@ -138,26 +138,26 @@ module _ (u : FunctionUnit) (b : Bank) (C turn : ℕ) (ys : List Waiting) (count
   alike : inside C 4 ≡ true → room * C ≤ length ys → (i : ℕ) → inside i C ≡ true → queue_of whole i ≡ queue_of ys i
   alike c l i h =
       let e = reach_all C (length ys) (within C 4 c).most l in
-      loaded-queue ys all (reach_there C (length ys)) i (omega (arith, e, (within i C h).least, (within i C h).most))
+      loaded_queue ys all (reach_there C (length ys)) i (omega (arith, e, (within i C h).least, (within i C h).most))
 
   passes : passed_then (unit_in u C turn (length ys) whole counts) (oldest b (waiting_of whole counts caller)) ≡ passed_at u b C turn ys counts
-  passes = passed-same u C turn whole ys counts alike b
+  passes = passed_same u C turn whole ys counts alike b
 
   left : (a : Passed) → passed_at u b C turn ys counts ≡ a → stored_of ys (list_by whole counts caller a) all ≡ list_by ys counts caller a
-  left Passed.Idle e = ap (λ (l : List Waiting). stored_of ys l all) (parts whole caller) ∙ stored-own ys all (reach_there C (length ys)) ∙ sym (parts ys caller)
-  left (Passed.Refused why) e = ap (λ (l : List Waiting). stored_of ys l all) (parts whole caller) ∙ stored-own ys all (reach_there C (length ys)) ∙ sym (parts ys caller)
+  left Passed.Idle e = ap (λ (l : List Waiting). stored_of ys l all) (parts whole caller) ∙ stored_own ys all (reach_there C (length ys)) ∙ sym (parts ys caller)
+  left (Passed.Refused why) e = ap (λ (l : List Waiting). stored_of ys l all) (parts whole caller) ∙ stored_own ys all (reach_there C (length ys)) ∙ sym (parts ys caller)
   left (Passed.Started w) e =
       let d = started_there u b C turn ys counts w e in
       let n = reach_all C (length ys) d.caller.few d.long in
       ap (λ (l : List Waiting). stored_of ys (with_queue whole caller (forward l (count_of counts caller))) all)
       (alike d.four d.long caller (inside_of caller C d.caller.least d.caller.most))
-      ∙ stored-with ys all (reach_there C (length ys)) caller (forward (queue_of ys caller) (count_of counts caller)) (omega (arith, n, d.caller.least, d.caller.most))
+      ∙ stored_with ys all (reach_there C (length ys)) caller (forward (queue_of ys caller) (count_of counts caller)) (omega (arith, n, d.caller.least, d.caller.most))
       (forward_length (queue_of ys caller) (count_of counts caller) (omega (arith, d.few, d.full)) d.some ∙ d.full)
 
-  pub unit-lent : (on : UnitOn) → on ≡ unit_on_by u b C turn whole counts (unit_in u C turn (length ys) whole counts)
+  pub unit_lent : (on : UnitOn) → on ≡ unit_on_by u b C turn whole counts (unit_in u C turn (length ys) whole counts)
       → (on.turned ≡ unit_of u b C turn ys counts) × (stored_of ys on.records.list all ≡ unit_list u b C turn ys counts)
   unfolding unit_of unit_list
-  unit-lent on e = (
+  unit_lent on e = (
     ap (λ (x : UnitOn). x.turned) e ∙ ap (turned_by u b C turn counts caller) passes,
     ap (λ (x : UnitOn). stored_of ys x.records.list all) e
         ∙ ap (λ (a : Passed). stored_of ys (list_by whole counts caller a) all) passes

@@ -24,11 +24,11 @@ module _ {X : Type 0} where
   replaced (y ∷ ys) (r ∷ rs) zero d h k = refl
   replaced (y ∷ ys) (r ∷ rs) (suc j) d h k = ap {B = List X} (λ l. r ∷ l) (replaced ys rs j d (le_of_suc-le-suc h) (le_of_suc-le-suc k))
 
-  replaced-length : (ys rs : List X) (j : ℕ) → j ≤ length ys → j ≤ length rs → length (take j rs ++ drop j ys) ≡ length ys
-  replaced-length ys rs zero h k = refl
-  replaced-length [] rs (suc j) h k = absurd (not-suc-le-zero h)
-  replaced-length (y ∷ ys) [] (suc j) h k = absurd (not-suc-le-zero k)
-  replaced-length (y ∷ ys) (r ∷ rs) (suc j) h k = ap suc (replaced-length ys rs j (le_of_suc-le-suc h) (le_of_suc-le-suc k))
+  replaced_length : (ys rs : List X) (j : ℕ) → j ≤ length ys → j ≤ length rs → length (take j rs ++ drop j ys) ≡ length ys
+  replaced_length ys rs zero h k = refl
+  replaced_length [] rs (suc j) h k = absurd (not-suc-le-zero h)
+  replaced_length (y ∷ ys) [] (suc j) h k = absurd (not-suc-le-zero k)
+  replaced_length (y ∷ ys) (r ∷ rs) (suc j) h k = ap suc (replaced_length ys rs j (le_of_suc-le-suc h) (le_of_suc-le-suc k))
 
 left : {j : ℕ} → j < 32 → suc (32 - suc j) ≡ 32 - j
 left p = omega arith
@@ -43,7 +43,7 @@ pub stored_more : (ys rs : List Waiting) (j : ℕ) → j < length ys → j < len
 stored_more ys rs j h k = replaced ys rs j no_record h k
 
 pub stored_length : (ys rs : List Waiting) (j : ℕ) → j ≤ length ys → j ≤ length rs → length (stored_of ys rs j) ≡ length ys
-stored_length ys rs j h k = replaced-length ys rs j h k
+stored_length ys rs j h k = replaced_length ys rs j h k
 
 -- numbers
 pub within : {j n l m : ℕ} → j ≤ n → n ≤ l → m ≡ l → j ≤ m

@@ -31,16 +31,16 @@ pub record Handed (u : FunctionUnit) (q : ℕ) (bytes : List ℕ) (counted : Cou
   pub adds : counted.sum ≡ total (greedy_of 1 (marked u) q)
 
 module _ (u : FunctionUnit) (q : ℕ) where
-  greedy-few : greedy_refusal u q 16000 256 ≡ Done → length (greedy_of 1 (marked u) q) ≤ 256
+  greedy_few : greedy_refusal u q 16000 256 ≡ Done → length (greedy_of 1 (marked u) q) ≤ 256
   unfolding greedy_refusal
-  greedy-few e =
+  greedy_few e =
       let s : length (states_of 1 (marked u) q) ≤ 256 = few_done (length (states_of 1 (marked u) q)) (then_done (tag_answer u q) _ e) in
       (greedy_cycle_lem 1 (width (vector_word (marked u) q)) (vector_word (marked u) q) s).few
 
-  pub greedy-handed : (words : List ℕ) {asked : GreedyAnswer} {counted : Counted} {bytes : List ℕ} → length words ≡ 256 → asked ≡ greedy_answer u q 16000 256
+  pub greedy_handed : (words : List ℕ) {asked : GreedyAnswer} {counted : Counted} {bytes : List ℕ} → length words ≡ 256 → asked ≡ greedy_answer u q 16000 256
       → bytes ≡ greedy_out u q 16000 words → asked ≡ GreedyAnswer.Cycle counted → Handed u q bytes counted
   unfolding greedy_answer greedy_out
-  greedy-handed words {counted = counted} {bytes} l a w t =
+  greedy_handed words {counted = counted} {bytes} l a w t =
       go (greedy_refusal u q 16000 256) refl (sym t ∙ a) (w ∙ ap (λ k. written (greedy_refusal u q 16000 k) (greedy_of 1 (marked u) q) words) l)
     where
       go : (r : Answer) → greedy_refusal u q 16000 256 ≡ r → GreedyAnswer.Cycle counted ≡ counting r (greedy_of 1 (marked u) q)
@@ -49,24 +49,24 @@ module _ (u : FunctionUnit) (q : ℕ) where
           let is : counted ≡ record { count = length (greedy_of 1 (marked u) q); sum = total (greedy_of 1 (marked u) q) } = cc in
           record {
             passed = p;
-            cycle = front_written (greedy_of 1 (marked u) q) words (ap (λ c. c.count) is) (greedy-few p) w;
+            cycle = front_written (greedy_of 1 (marked u) q) words (ap (λ c. c.count) is) (greedy_few p) w;
             adds = ap (λ c. c.sum) is;
           }
       go (Refused why) p e w = let z : ◌≡◌ {A = ℕ} 0 1 = cc in absurd (omega arith)
 
-  pub greedy-refused : {asked : GreedyAnswer} {why : Refusal} → asked ≡ greedy_answer u q 16000 256 → asked ≡ GreedyAnswer.Refused why
+  pub greedy_refused : {asked : GreedyAnswer} {why : Refusal} → asked ≡ greedy_answer u q 16000 256 → asked ≡ GreedyAnswer.Refused why
       → refused_line why ≡ greedy_reply u q
   unfolding greedy_answer greedy_reply
-  greedy-refused {why = why} a t = go (greedy_refusal u q 16000 256) (sym t ∙ a)
+  greedy_refused {why = why} a t = go (greedy_refusal u q 16000 256) (sym t ∙ a)
     where
       go : (r : Answer) → GreedyAnswer.Refused why ≡ counting r (greedy_of 1 (marked u) q)
           → refused_line why ≡ answered r (cycle_line "greedy" (greedy_of 1 (marked u) q))
       go Done e = let z : ◌≡◌ {A = ℕ} 0 1 = cc in absurd (omega arith)
       go (Refused other) e = let s : why ≡ other = cc in ap refused_line s
 
-  pub greedy-shown : {bytes : List ℕ} {counted : Counted} → Handed u q bytes counted
+  pub greedy_shown : {bytes : List ℕ} {counted : Counted} → Handed u q bytes counted
       → ascii "greedy" ++ spaced (take counted.count bytes) ++ ascii " sum " ++ decimal counted.sum ++ newline ≡ greedy_reply u q
   unfolding greedy_reply
-  greedy-shown h =
+  greedy_shown h =
       ap₂ (λ (l : List ℕ) (n : ℕ). ascii "greedy" ++ spaced l ++ ascii " sum " ++ decimal n ++ newline) h.cycle.front h.adds
       ∙ ap (λ r. answered r (cycle_line "greedy" (greedy_of 1 (marked u) q))) (sym h.passed)

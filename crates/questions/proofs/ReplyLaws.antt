@@ -37,19 +37,19 @@ module _ (u : FunctionUnit) (q : ℕ) {asked : Number} (a : asked ≡ vector_ans
   unfolding vector_reply
   vector_refused t = numbered_refused (λ w. row_line (ascii "vector ") (width w) w) (sym a ∙ t)
 
-  pub vector-shown : {w columns : ℕ} → asked ≡ Number.Value w → columns ≡ width w → row_line (ascii "vector ") columns w ≡ vector_reply u q
+  pub vector_shown : {w columns : ℕ} → asked ≡ Number.Value w → columns ≡ width w → row_line (ascii "vector ") columns w ≡ vector_reply u q
   unfolding vector_reply
-  vector-shown {w} t e =
+  vector_shown {w} t e =
       ap (λ n. row_line (ascii "vector ") n w) e ∙ numbered_value (λ w. row_line (ascii "vector ") (width w) w) (sym a ∙ t)
 
 module _ (u : FunctionUnit) (q r : ℕ) {asked : Number} (a : asked ≡ row_answer u q r) where
-  pub row-refused : {why : Refusal} → asked ≡ Number.Refused why → refused_line why ≡ row_reply u q r
+  pub row_refused : {why : Refusal} → asked ≡ Number.Refused why → refused_line why ≡ row_reply u q r
   unfolding row_reply
-  row-refused t = numbered_refused (row_line (ascii "row ") (matrix_width (marked u) r)) (sym a ∙ t)
+  row_refused t = numbered_refused (row_line (ascii "row ") (matrix_width (marked u) r)) (sym a ∙ t)
 
-  pub row-shown : {w columns : ℕ} → asked ≡ Number.Value w → columns ≡ matrix_width (marked u) r → row_line (ascii "row ") columns w ≡ row_reply u q r
+  pub row_shown : {w columns : ℕ} → asked ≡ Number.Value w → columns ≡ matrix_width (marked u) r → row_line (ascii "row ") columns w ≡ row_reply u q r
   unfolding row_reply
-  row-shown {w} t e = ap (λ n. row_line (ascii "row ") n w) e ∙ numbered_value (row_line (ascii "row ") (matrix_width (marked u) r)) (sym a ∙ t)
+  row_shown {w} t e = ap (λ n. row_line (ascii "row ") n w) e ∙ numbered_value (row_line (ascii "row ") (matrix_width (marked u) r)) (sym a ∙ t)
 
 -- The question
 

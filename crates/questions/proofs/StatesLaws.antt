@@ -65,27 +65,27 @@ abbrev pub states_line : List ℕ → ℕ → List ℕ
 states_line list n = ascii "states " ++ decimal n ++ ascii ":" ++ spaced list ++ newline
 
 module _ (u : FunctionUnit) (q : ℕ) where
-  states-few : states_refusal u q 256 ≡ Done → length (states_of 1 (marked u) q) ≤ 256
+  states_few : states_refusal u q 256 ≡ Done → length (states_of 1 (marked u) q) ≤ 256
   unfolding states_refusal
-  states-few e = few_done (length (states_of 1 (marked u) q)) (then_done (tag_answer u q) _ e)
+  states_few e = few_done (length (states_of 1 (marked u) q)) (then_done (tag_answer u q) _ e)
 
   -- they stand in front of the words
-  pub states-front : (words : List ℕ) {asked : Number} {n : ℕ} {area : List ℕ} → length words ≡ 256 → asked ≡ states_answer u q 256
+  pub states_front : (words : List ℕ) {asked : Number} {n : ℕ} {area : List ℕ} → length words ≡ 256 → asked ≡ states_answer u q 256
       → area ≡ states_out u q words → asked ≡ Number.Value n → Front (states_of 1 (marked u) q) area n
   unfolding states_answer states_out
-  states-front words {n = n} {area} l a w t =
+  states_front words {n = n} {area} l a w t =
       go (states_refusal u q 256) refl (sym t ∙ a) (w ∙ ap (λ k. written (states_refusal u q k) (states_of 1 (marked u) q) words) l)
     where
       go : (r : Answer) → states_refusal u q 256 ≡ r → Number.Value n ≡ answering r (length (states_of 1 (marked u) q))
           → area ≡ written r (states_of 1 (marked u) q) words → Front (states_of 1 (marked u) q) area n
-      go Done p e w = let c : n ≡ length (states_of 1 (marked u) q) = cc in front_written (states_of 1 (marked u) q) words c (states-few p) w
+      go Done p e w = let c : n ≡ length (states_of 1 (marked u) q) = cc in front_written (states_of 1 (marked u) q) words c (states_few p) w
       go (Refused why) p e w = let z : ◌≡◌ {A = ℕ} 0 1 = cc in absurd (omega arith)
 
   pub states_refused : {asked : Number} {why : Refusal} → asked ≡ states_answer u q 256 → asked ≡ Number.Refused why → refused_line why ≡ states_reply u q
   unfolding states_reply
   states_refused a t = numbered_refused (states_line (states_of 1 (marked u) q)) (sym a ∙ t)
 
-  pub states-shown : {asked : Number} {n : ℕ} {list : List ℕ} → asked ≡ states_answer u q 256 → asked ≡ Number.Value n → list ≡ states_of 1 (marked u) q
+  pub states_shown : {asked : Number} {n : ℕ} {list : List ℕ} → asked ≡ states_answer u q 256 → asked ≡ Number.Value n → list ≡ states_of 1 (marked u) q
       → states_line list n ≡ states_reply u q
   unfolding states_reply
-  states-shown {n = n} a t e = ap (λ l. states_line l n) e ∙ numbered_value (states_line (states_of 1 (marked u) q)) (sym a ∙ t)
+  states_shown {n = n} a t e = ap (λ l. states_line l n) e ∙ numbered_value (states_line (states_of 1 (marked u) q)) (sym a ∙ t)

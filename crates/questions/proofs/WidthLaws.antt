@@ -16,13 +16,13 @@ row_width T r i = width (row_word T (i + 1) r)
 
 module _ (T : Table) (r : ℕ) where
   -- the widest of the first rows is kept, or the next is wider
-  pub widest-kept : (i : ℕ) → row_width T r i ≤ max_below i (row_width T r) → max_below i (row_width T r) ≡ max_below (i + 1) (row_width T r)
-  widest-kept i h = omega (arith, max_more i (row_width T r))
+  pub widest_kept : (i : ℕ) → row_width T r i ≤ max_below i (row_width T r) → max_below i (row_width T r) ≡ max_below (i + 1) (row_width T r)
+  widest_kept i h = omega (arith, max_more i (row_width T r))
 
-  pub widest-new : (i : ℕ) → max_below i (row_width T r) < row_width T r i → row_width T r i ≡ max_below (i + 1) (row_width T r)
-  widest-new i h = omega (arith, max_more i (row_width T r))
+  pub widest_new : (i : ℕ) → max_below i (row_width T r) < row_width T r i → row_width T r i ≡ max_below (i + 1) (row_width T r)
+  widest_new i h = omega (arith, max_more i (row_width T r))
 
   -- no row has more than 32 columns
-  pub matrix-most : matrix_width T r ≤ 32
+  pub matrix_most : matrix_width T r ≤ 32
   unfolding matrix_width
-  matrix-most = max_most 4 (row_width T r) 32 (λ i l. width_le (row_word T (i + 1) r))
+  matrix_most = max_most 4 (row_width T r) 32 (λ i l. width_le (row_word T (i + 1) r))

@@ -26,11 +26,11 @@ module _ (u : FunctionUnit) (b : Bank) (count : ℕ) (w : Waiting) (s : Startabl
   waits : eqb count 0 ≡ false
   waits = ne_eqb count 0 (λ z. omega (arith, s.some))
 
-  pub tried-granted : event_answer u b (Start (tag_of w)) ≡ Done → Passed.Started w ≡ oldest_by b count w
-  tried-granted e = sym (simp (waits, (start_accepted u b (tag_of w) e).granted))
+  pub tried_granted : event_answer u b (Start (tag_of w)) ≡ Done → Passed.Started w ≡ oldest_by b count w
+  tried_granted e = sym (simp (waits, (start_accepted u b (tag_of w) e).granted))
 
-  pub tried-refused : (why : Refusal) → event_answer u b (Start (tag_of w)) ≡ Refused why → Passed.Idle ≡ oldest_by b count w
-  tried-refused why e = by_test (granted b w.tag)
+  pub tried_refused : (why : Refusal) → event_answer u b (Start (tag_of w)) ≡ Refused why → Passed.Idle ≡ oldest_by b count w
+  tried_refused why e = by_test (granted b w.tag)
       (λ g. never_done (sym e ∙ start_answered u b (tag_of w) s.sound s.tag g))
       (λ g. sym (simp (waits, g)))
 

@@ -15,7 +15,7 @@ use Rattle.unit.specs.Unit.{inside}
 use Rattle.queue.specs.declared.Waiting.{Waiting}
 use Rattle.queue.specs.Line.{no_record, tags_inside, forward}
 use Rattle.queue.specs.Inner.{seen_of, look_of}
-use Rattle.queue.proofs.Shift.{shift-length}
+use Rattle.queue.proofs.Shift.{shift_length}
 
 and_one : (b : Bool) → b && true ≡ true && b
 and_one true = refl
@@ -60,7 +60,7 @@ set_line list count w h = rw add-one (take-suc-set list count w h)
 
 pub forward_length : (list : List Waiting) (count : ℕ) → count ≤ length list → 1 ≤ count → length (forward list count) ≡ length list
 unfolding forward
-forward_length list count h l = shift-length list (count - 1) (omega arith)
+forward_length list count h l = shift_length list (count - 1) (omega arith)
 
 pub forward_line : (list : List Waiting) (count : ℕ) (w : Waiting) (line : List Waiting) → count ≤ length list → take count list ≡ w ∷ line
     → take (count - 1) (forward list count) ≡ line

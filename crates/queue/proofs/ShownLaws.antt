@@ -47,9 +47,9 @@ module _ (size : ℕ) (u : FunctionUnit) (list : List Waiting) (count : ℕ) (w 
   abbrev fit : Bool
   fit = (seen_of u.functions (take (shown_of size (length list) count) list)).fit
 
-  pub arrival-shown : arrival_by size u (length list) count w.tag fit ≡ arrival_answer size u list count w
+  pub arrival_shown : arrival_by size u (length list) count w.tag fit ≡ arrival_answer size u list count w
   unfolding arrival_answer seen_of
-  arrival-shown = by_test (leb size (length list)) long short
+  arrival_shown = by_test (leb size (length list)) long short
     where
       short : leb size (length list) ≡ false → arrival_by size u (length list) count w.tag (tags_inside u.functions (take (shown_of size (length list) count) list))
           ≡ arrival_by size u (length list) count w.tag (tags_inside u.functions (take count list))
@@ -62,28 +62,28 @@ module _ (size : ℕ) (u : FunctionUnit) (list : List Waiting) (count : ℕ) (w 
           (shown_all size (length list) count (leb-true size (length list) e) (omega (arith, ltb-true count size l))))
           (λ l. simp l)
 
-  pub arrival-found : (r : Arrival) → r ≡ arrived_by (arrival_by size u (length list) count w.tag fit) count → r ≡ arrival_of size u list count w
+  pub arrival_found : (r : Arrival) → r ≡ arrived_by (arrival_by size u (length list) count w.tag fit) count → r ≡ arrival_of size u list count w
   unfolding arrival_of
-  arrival-found r e = e ∙ ap (λ (a : Answer). arrived_by a count) arrival-shown
+  arrival_found r e = e ∙ ap (λ (a : Answer). arrived_by a count) arrival_shown
 
   -- one more waits exactly where the arrival was accepted
 
-  pub arrival-place : (r : Arrival) → r ≡ arrival_of size u list count w → count < r.count → count < length list
+  pub arrival_place : (r : Arrival) → r ≡ arrival_of size u list count w → count < r.count → count < length list
   unfolding arrival_of
-  arrival-place r e l = go (arrival_answer size u list count w) refl
+  arrival_place r e l = go (arrival_answer size u list count w) refl
     where
       go : (a : Answer) → arrival_answer size u list count w ≡ a → count < length list
       go Done p =
-          let f = (arrival_by_lem size u (length list) count w.tag fit (arrival-shown ∙ p)).few in
-          let e1 = check_next (sound_of u) NotSound _ (arrival-shown ∙ p) in
+          let f = (arrival_by_lem size u (length list) count w.tag fit (arrival_shown ∙ p)).few in
+          let e1 = check_next (sound_of u) NotSound _ (arrival_shown ∙ p) in
           omega (arith, leb-true size (length list) (check_ok (leb size (length list)) ShortOutput _ e1))
       go (Refused why) p =
           let n : r.count ≡ count = ap (λ (x : Arrival). x.count) e ∙ ap (λ (x : Answer). count_then x count) p in
           absurd (omega arith)
 
-  pub arrival-stored : (r : Arrival) → r ≡ arrival_of size u list count w → count < r.count → set list count w ≡ arrival_list size u list count w
+  pub arrival_stored : (r : Arrival) → r ≡ arrival_of size u list count w → count < r.count → set list count w ≡ arrival_list size u list count w
   unfolding arrival_of arrival_list
-  arrival-stored r e l = go (arrival_answer size u list count w) refl
+  arrival_stored r e l = go (arrival_answer size u list count w) refl
     where
       go : (a : Answer) → arrival_answer size u list count w ≡ a → set list count w ≡ list_then (arrival_answer size u list count w) list count w
       go Done p = sym (ap (λ (x : Answer). list_then x list count w) p)
@@ -91,9 +91,9 @@ module _ (size : ℕ) (u : FunctionUnit) (list : List Waiting) (count : ℕ) (w 
           let n : r.count ≡ count = ap (λ (x : Arrival). x.count) e ∙ ap (λ (x : Answer). count_then x count) p in
           absurd (omega arith)
 
-  pub arrival-kept : (r : Arrival) → r ≡ arrival_of size u list count w → r.count ≤ count → list ≡ arrival_list size u list count w
+  pub arrival_kept : (r : Arrival) → r ≡ arrival_of size u list count w → r.count ≤ count → list ≡ arrival_list size u list count w
   unfolding arrival_of arrival_list
-  arrival-kept r e l = go (arrival_answer size u list count w) refl
+  arrival_kept r e l = go (arrival_answer size u list count w) refl
     where
       go : (a : Answer) → arrival_answer size u list count w ≡ a → list ≡ list_then (arrival_answer size u list count w) list count w
       go (Refused why) p = sym (ap (λ (x : Answer). list_then x list count w) p)
@@ -107,9 +107,9 @@ module _ (size : ℕ) (u : FunctionUnit) (b : Bank) (list : List Waiting) (count
   abbrev line : List Waiting
   line = take (shown_of size (length list) count) list
 
-  pub unit-shown : unit_by size u (length list) count (seen_of u.functions line).fit ≡ unit_answer size u list count
+  pub unit_shown : unit_by size u (length list) count (seen_of u.functions line).fit ≡ unit_answer size u list count
   unfolding unit_answer seen_of
-  unit-shown = by_test (leb size (length list)) long short
+  unit_shown = by_test (leb size (length list)) long short
     where
       short : leb size (length list) ≡ false → unit_by size u (length list) count (tags_inside u.functions (take (shown_of size (length list) count) list))
           ≡ unit_by size u (length list) count (tags_inside u.functions (take count list))
@@ -128,7 +128,7 @@ module _ (size : ℕ) (u : FunctionUnit) (b : Bank) (list : List Waiting) (count
   pub first_fits : FirstFits size u (length list) count (seen_of u.functions line).first (seen_of u.functions line).fit
   unfolding seen_of
   first_fits e some =
-      let p = sym unit-shown ∙ e in
+      let p = sym unit_shown ∙ e in
       let a = unit_accepted size u list count p in
       subst (λ (l : List Waiting). inside (get_or l 0 no_record).tag u.functions ≡ true) (sym (all_shown p)) (first list count some (omega (arith, a.long, a.few)) a.tags)
     where
@@ -138,16 +138,16 @@ module _ (size : ℕ) (u : FunctionUnit) (b : Bank) (list : List Waiting) (count
       first [] (suc count) some l t = absurd (omega arith)
       first (x ∷ list) (suc count) some l t = tags_first u x (take count list) t
 
-  oldest-first : (list : List Waiting) (count : ℕ) → count ≤ length list → oldest_by b count (get_or (take count list) 0 no_record) ≡ oldest b (take count list)
+  oldest_first : (list : List Waiting) (count : ℕ) → count ≤ length list → oldest_by b count (get_or (take count list) 0 no_record) ≡ oldest b (take count list)
   unfolding oldest
-  oldest-first list zero l = refl
-  oldest-first [] (suc count) l = absurd (omega arith)
-  oldest-first (x ∷ list) (suc count) l = let e : eqb (suc count) 0 ≡ false = ne_eqb (suc count) 0 (λ z. omega arith) in simp e
+  oldest_first list zero l = refl
+  oldest_first [] (suc count) l = absurd (omega arith)
+  oldest_first (x ∷ list) (suc count) l = let e : eqb (suc count) 0 ≡ false = ne_eqb (suc count) 0 (λ z. omega arith) in simp e
 
-  pub passed-shown : passed_then (unit_by size u (length list) count (seen_of u.functions line).fit) (oldest_by b count (seen_of u.functions line).first) ≡ passed_of size u b list count
+  pub passed_shown : passed_then (unit_by size u (length list) count (seen_of u.functions line).fit) (oldest_by b count (seen_of u.functions line).first) ≡ passed_of size u b list count
   unfolding passed_of seen_of
-  passed-shown =
-      ap (λ (x : Answer). passed_then x (oldest_by b count (get_or line 0 no_record))) unit-shown
+  passed_shown =
+      ap (λ (x : Answer). passed_then x (oldest_by b count (get_or line 0 no_record))) unit_shown
       ∙ go (unit_answer size u list count) refl
     where
       go : (x : Answer) → unit_answer size u list count ≡ x
@@ -155,15 +155,15 @@ module _ (size : ℕ) (u : FunctionUnit) (b : Bank) (list : List Waiting) (count
       go Done p =
           let a = unit_accepted size u list count p in
           ap (passed_then (unit_answer size u list count))
-          (ap (λ (l : List Waiting). oldest_by b count (get_or l 0 no_record)) (all_shown p) ∙ oldest-first list count (omega (arith, a.long, a.few)))
+          (ap (λ (l : List Waiting). oldest_by b count (get_or l 0 no_record)) (all_shown p) ∙ oldest_first list count (omega (arith, a.long, a.few)))
       go (Refused why) p =
           ap (λ (x : Answer). passed_then x (oldest_by b count (get_or line 0 no_record))) p
           ∙ sym (ap (λ (x : Answer). passed_then x (oldest b (take count list))) p)
 
-  pub pass-found : (r : Pass) → r ≡ pass_by u b count (passed_then (unit_by size u (length list) count (seen_of u.functions line).fit) (oldest_by b count (seen_of u.functions line).first))
+  pub pass_found : (r : Pass) → r ≡ pass_by u b count (passed_then (unit_by size u (length list) count (seen_of u.functions line).fit) (oldest_by b count (seen_of u.functions line).first))
       → r ≡ pass_of size u b list count
   unfolding pass_of
-  pass-found r e = e ∙ ap (pass_by u b count) passed-shown
+  pass_found r e = e ∙ ap (pass_by u b count) passed_shown
 
   -- one record less waits exactly where a record was started
 

@@ -18,7 +18,7 @@ use Rattle.queue.specs.declared.Queue.{Queue}
 use Rattle.queue.specs.Line.{forward}
 use Rattle.queue.specs.Calls.{arrival_by, unit_by, room, arrival_of, passed_then, pass_of, pass_list, join_of, advance_of}
 use Rattle.queue.specs.Inner.{arrived_by, oldest_by, pass_by, FirstFits, seen_of, shown_of}
-use Rattle.queue.proofs.ShownLaws.{arrival-found, arrival-place, arrival-stored, arrival-kept, first_fits, pass-found, pass_removes, pass_stays}
+use Rattle.queue.proofs.ShownLaws.{arrival_found, arrival_place, arrival_stored, arrival_kept, first_fits, pass_found, pass_removes, pass_stays}
 
 module _ (u : FunctionUnit) (q : Queue) (full : length q.list ≡ 32) (n : ℕ) (s : Seen)
     (shown : n ≡ shown_of 32 32 q.count) (seen : s ≡ seen_of u.functions (take n q.list)) where
@@ -33,23 +33,23 @@ module _ (u : FunctionUnit) (q : Queue) (full : length q.list ≡ 32) (n : ℕ) 
   module _ (w : Waiting) (r : Arrival) (e : r ≡ arrived_by (arrival_by 32 u 32 q.count w.tag s.fit) q.count) where
     pub joins : r ≡ arrival_of room u q.list q.count w
     joins =
-        arrival-found 32 u q.list q.count w r
+        arrival_found 32 u q.list q.count w r
         (e ∙ ap₂ (λ (k : ℕ) (x : Seen). arrived_by (arrival_by 32 u k q.count w.tag x.fit) q.count) (sym full) look)
 
     pub place : q.count < r.count → q.count < 32
-    place h = omega (arith, arrival-place 32 u q.list q.count w r joins h, full)
+    place h = omega (arith, arrival_place 32 u q.list q.count w r joins h, full)
 
     pub stored : q.count < r.count
         → record { answer = r.answer; queue = record { list = set q.list q.count w; count = r.count } } ≡ join_of u q w
     stored h = λ i. record {
       answer = (joins i).answer;
-      queue = record { list = arrival-stored 32 u q.list q.count w r joins h i; count = (joins i).count };
+      queue = record { list = arrival_stored 32 u q.list q.count w r joins h i; count = (joins i).count };
     }
 
     pub kept : r.count ≤ q.count → record { answer = r.answer; queue = record { list = q.list; count = r.count } } ≡ join_of u q w
     kept h = λ i. record {
       answer = (joins i).answer;
-      queue = record { list = arrival-kept 32 u q.list q.count w r joins h i; count = (joins i).count };
+      queue = record { list = arrival_kept 32 u q.list q.count w r joins h i; count = (joins i).count };
     }
 
   -- A time unit
@@ -62,7 +62,7 @@ module _ (u : FunctionUnit) (q : Queue) (full : length q.list ≡ 32) (n : ℕ) 
   module _ (b : Bank) (r : Pass) (e : r ≡ pass_by u b q.count (passed_then (unit_by 32 u 32 q.count s.fit) (oldest_by b q.count s.first))) where
     pub passes : r ≡ pass_of room u b q.list q.count
     passes =
-        pass-found 32 u b q.list q.count r
+        pass_found 32 u b q.list q.count r
         (e
         ∙ ap₂ (λ (k : ℕ) (x : Seen). pass_by u b q.count (passed_then (unit_by 32 u k q.count x.fit) (oldest_by b q.count x.first))) (sym full) look)
 

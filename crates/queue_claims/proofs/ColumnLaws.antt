@@ -10,8 +10,8 @@ use Rattle.unit.specs.Unit.{inside, marked, sound_of}
 use Rattle.unit.proofs.Laws.{within, inside_of, sound_has}
 use Rattle.unit.proofs.SoundLaws.{sound_means}
 use Rattle.collision.specs.Vector.{row_word, largest_column}
-use Rattle.collision.proofs.VectorLaws.{marked_bounded, collides→, row-bit}
-use Rattle.collision.proofs.MatrixLaws.{column-means, row_below}
+use Rattle.collision.proofs.VectorLaws.{marked_bounded, collides→, row_bit}
+use Rattle.collision.proofs.MatrixLaws.{column_means, row_below}
 use Rattle.queue_claims.specs.Claims.{LastColumn}
 
 -- what has a mark is one of the unit's functions
@@ -28,10 +28,10 @@ column_of_tags u sound =
       most = λ q r t i j h x.
           let few : q < 5 = omega (arith, (within q u.functions i).most, four.most) in
           let few' : r < 5 = omega (arith, (within r u.functions j).most, four.most) in
-          let set = (row-bit (marked u) (marked_bounded u) q r t h).1 x in
+          let set = (row_bit (marked u) (marked_bounded u) q r t h).1 x in
           omega (arith, set_below (row_word (marked u) q r) (largest_column (marked u)) (t - 1) (row_below (marked u) q r few few') set);
       reached = λ h.
-          let m = (column-means (marked u)).reached h in
+          let m = (column_means (marked u)).reached h in
           let x = collides→ (marked u) m.0 m.1 (largest_column (marked u)) m.2 in
           (m.0, m.1, tag_marked u sound _ _ _ x.later, tag_marked u sound _ _ _ x.earlier, x);
     }

@@ -33,14 +33,14 @@ low_started u q b sound i low =
 -- The ticks up to a start
 
 module _ (n : ℕ) (b : Bank) (below : Below n b) (q : ℕ) where
-  pub delay-most : delay b q ≤ n
+  pub delay_most : delay b q ≤ n
   unfolding delay
-  delay-most = least_le 32 0 (λ d. granted (ticked d b) q) n (omega arith) (granted_late n n b q below (omega arith))
+  delay_most = least_le 32 0 (λ d. granted (ticked d b) q) n (omega arith) (granted_late n n b q below (omega arith))
 
   -- a start that is not granted now has one tick less to go after a tick
-  pub delay-tick : n ≤ 31 → granted b q ≡ false → delay b q ≡ delay (shifted b) q + 1
+  pub delay_tick : n ≤ 31 → granted b q ≡ false → delay b q ≡ delay (shifted b) q + 1
   unfolding delay
-  delay-tick m e =
+  delay_tick m e =
       let f : ℕ → Bool = λ d. granted (ticked d b) q in
       let h : ℕ → Bool = λ d. granted (ticked d (shifted b)) q in
       let some : 1 ≤ n = positive n (granted_late n 0 b q below) in
@@ -82,7 +82,7 @@ due_most u sound b (w ∷ line) low tags =
     let i = and_left (inside w.tag u.functions) _ tags in
     let later = low_started u w.tag (ticked d b) sound i (ticked_below n d b low) in
     let rest = due_most u sound (started u w.tag (ticked d b)) line later (and_right (inside w.tag u.functions) _ tags) in
-    omega (arith, delay-most n b low w.tag, suc-mul (length line) (n + 1))
+    omega (arith, delay_most n b low w.tag, suc-mul (length line) (n + 1))
 
 -- a start that is granted now takes this time unit
 pub due_granted : (u : FunctionUnit) (b : Bank) (w : Waiting) (line : List Waiting) → granted b w.tag ≡ true
@@ -97,7 +97,7 @@ pub due_tick : (u : FunctionUnit) (b : Bank) (w : Waiting) (line : List Waiting)
 unfolding due_unit
 due_tick u b w line low g =
     let d : ℕ = delay (shifted b) w.tag in
-    let e = delay-tick (largest_column (marked u)) b low w.tag (largest_31 u) g in
+    let e = delay_tick (largest_column (marked u)) b low w.tag (largest_31 u) g in
     let s : d + 1 ≡ suc d = omega arith in
     ap (λ d. d + 1 + due_unit u (started u w.tag (ticked d b)) line) (e ∙ s)
     ∙ ap (λ (c : Bank). suc d + 1 + due_unit u (started u w.tag c) line) (sym (ticked_shifted d b))

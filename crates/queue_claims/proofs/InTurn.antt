@@ -75,9 +75,9 @@ AllTimely u calls =
     → Timely (get_or line j no_record) (due_unit u p.bank (take (suc j) line)) n j (units_in calls) (starts u p n calls)
 
 module _ (u : FunctionUnit) (sound : sound_of u ≡ true) where
-  timely-arrival : (w : Waiting) (calls : List Call) → AllTimely u calls → AllTimely u (arrival w ∷ calls)
+  timely_arrival : (w : Waiting) (calls : List Call) → AllTimely u calls → AllTimely u (arrival w ∷ calls)
   unfolding starts units_in
-  timely-arrival w calls all p line n j r h = go (ready_arrival u p line w r)
+  timely_arrival w calls all p line n j r h = go (ready_arrival u p line w r)
     where
       go : Ready u (after u p (arrival w)) line ⊎ Ready u (after u p (arrival w)) (line ++ w ∷ [])
           → Timely (get_or line j no_record) (due_unit u p.bank (take (suc j) line)) n j (units_in calls) (starts u (after u p (arrival w)) n calls)
@@ -101,30 +101,30 @@ module _ (u : FunctionUnit) (sound : sound_of u ≡ true) where
     abbrev first : Start
     first = record { task = w; unit = n + 1 }
 
-    first-or-behind : (j : ℕ) → j < length (w ∷ line) → Ready u (after u p unit) line → (after u p unit).bank ≡ started u w.tag p.bank
+    first_or_behind : (j : ℕ) → j < length (w ∷ line) → Ready u (after u p unit) line → (after u p unit).bank ≡ started u w.tag p.bank
         → Timely (get_or (w ∷ line) j no_record) (due_unit u (started u w.tag p.bank) (take j line) + 1) n j (units_in calls + 1) (first ∷ rest)
-    first-or-behind zero h s e =
+    first_or_behind zero h s e =
         subst (λ (k : ℕ). Timely w k n 0 (units_in calls + 1) (first ∷ rest)) (due_none u (started u w.tag p.bank)) (timely_first w n (units_in calls) rest)
-    first-or-behind (suc j) h s e =
+    first_or_behind (suc j) h s e =
         timely_behind first
         (subst (λ (b : Bank). Timely (get_or line j no_record) (due_unit u b (take (suc j) line)) (n + 1) j (units_in calls) rest) e
         (all (after u p unit) line (n + 1) j s (omega arith)))
 
-    timely-granted : (j : ℕ) → j < length (w ∷ line) → granted p.bank w.tag ≡ true
+    timely_granted : (j : ℕ) → j < length (w ∷ line) → granted p.bank w.tag ≡ true
         → Timely (get_or (w ∷ line) j no_record) (due_unit u p.bank (take (suc j) (w ∷ line))) n j (units_in calls + 1)
         (start_in (passed_of room u p.bank p.list p.count) (n + 1) ++ rest)
-    timely-granted j h g =
+    timely_granted j h g =
         let d = unit_starts u sound p w line r g in
         subst (λ (a : Passed). Timely (get_or (w ∷ line) j no_record) (due_unit u p.bank (take (suc j) (w ∷ line))) n j (units_in calls + 1) (start_in a (n + 1) ++ rest))
         (sym d.passed)
         (subst (λ (k : ℕ). Timely (get_or (w ∷ line) j no_record) k n j (units_in calls + 1) (first ∷ rest))
         (sym (due_granted u p.bank w (take j line) g))
-        (first-or-behind j h d.ready d.bank))
+        (first_or_behind j h d.ready d.bank))
 
-    timely-held : (j : ℕ) → j < length (w ∷ line) → granted p.bank w.tag ≡ false
+    timely_held : (j : ℕ) → j < length (w ∷ line) → granted p.bank w.tag ≡ false
         → Timely (get_or (w ∷ line) j no_record) (due_unit u p.bank (take (suc j) (w ∷ line))) n j (units_in calls + 1)
         (start_in (passed_of room u p.bank p.list p.count) (n + 1) ++ rest)
-    timely-held j h g =
+    timely_held j h g =
         let d = unit_waits u sound p w line r g in
         subst (λ (a : Passed). Timely (get_or (w ∷ line) j no_record) (due_unit u p.bank (take (suc j) (w ∷ line))) n j (units_in calls + 1) (start_in a (n + 1) ++ rest))
         (sym d.passed)
@@ -134,37 +134,37 @@ module _ (u : FunctionUnit) (sound : sound_of u ≡ true) where
         (subst (λ (b : Bank). Timely (get_or (w ∷ line) j no_record) (due_unit u b (take (suc j) (w ∷ line))) (n + 1) j (units_in calls) rest) d.bank
         (all (after u p unit) (w ∷ line) (n + 1) j d.ready h))))
 
-  timely-unit : (calls : List Call) → AllTimely u calls → AllTimely u (unit ∷ calls)
+  timely_unit : (calls : List Call) → AllTimely u calls → AllTimely u (unit ∷ calls)
   unfolding starts units_in
-  timely-unit calls all p [] n j r h = absurd (omega arith)
-  timely-unit calls all p (w ∷ line) n j r h =
-      by_test (granted p.bank w.tag) (timely-granted calls all p w line n r j h) (timely-held calls all p w line n r j h)
+  timely_unit calls all p [] n j r h = absurd (omega arith)
+  timely_unit calls all p (w ∷ line) n j r h =
+      by_test (granted p.bank w.tag) (timely_granted calls all p w line n r j h) (timely_held calls all p w line n r j h)
 
-  timely-none : AllTimely u []
+  timely_none : AllTimely u []
   unfolding starts units_in
-  timely-none p line n j r h = record {
+  timely_none p line n j r h = record {
     there = λ l. absurd (omega (arith, due_some u p.bank line j h));
     begins = λ l. absurd (omega (arith, due_some u p.bank line j h));
     waits = λ l. omega arith;
   }
 
   pub timely : (calls : List Call) → AllTimely u calls
-  timely [] = timely-none
-  timely (arrival w ∷ calls) = timely-arrival w calls (timely calls)
-  timely (unit ∷ calls) = timely-unit calls (timely calls)
+  timely [] = timely_none
+  timely (arrival w ∷ calls) = timely_arrival w calls (timely calls)
+  timely (unit ∷ calls) = timely_unit calls (timely calls)
 
   -- every action keeps the registers low
 
-  low-done : (p : Port) (d : Action) → Low u p.bank → Low u (done u p d).bank
+  low_done : (p : Port) (d : Action) → Low u p.bank → Low u (done u p d).bank
   unfolding done
-  low-done p (event e) low = step_below u p.bank e sound low
-  low-done p (call (arrival w)) low = arrival_low u p w low
-  low-done p (call unit) low = unit_low u sound p low
+  low_done p (event e) low = step_below u p.bank e sound low
+  low_done p (call (arrival w)) low = arrival_low u p w low
+  low_done p (call unit) low = unit_low u sound p low
 
-  pub low-all : (actions : List Action) (p : Port) → Low u p.bank → Low u (done_all u p actions).bank
+  pub low_all : (actions : List Action) (p : Port) → Low u p.bank → Low u (done_all u p actions).bank
   unfolding done_all
-  low-all [] p low = low
-  low-all (d ∷ actions) p low = low-all actions (done u p d) (low-done p d low)
+  low_all [] p low = low
+  low_all (d ∷ actions) p low = low_all actions (done u p d) (low_done p d low)
 
   -- at a port that is ready, the record with k ahead of it
   turn : (p : Port) (k : ℕ) → Ready u p (take p.count p.list) → k < p.count → (calls : List Call) → InTurn u p k (get_or p.list k no_record) calls
@@ -200,7 +200,7 @@ waits_in_turn u list actions k h calls =
     let sound = d.sound some in
     turn u sound p k
     (record {
-      low = low-all u sound actions (empty_port list) (empty_below (largest_column (marked u)));
+      low = low_all u sound actions (empty_port list) (empty_below (largest_column (marked u)));
       long = d.long some;
       few = d.few;
       waits = refl;

@@ -14,7 +14,7 @@ use Rattle.controller.specs.declared.Event.TheVariants.{Tick, Start}
 use Rattle.controller.specs.Bank.{granted, event_answer, step_of}
 use Rattle.controller.specs.History.{History, Course, accepted, history_then, task_now, outset, next, played, bank_after, history_after, Free, Apart}
 use Rattle.controller.proofs.StepLaws.{start_answered, start_accepted}
-use Rattle.controller.proofs.TickLaws.{tick-answered}
+use Rattle.controller.proofs.TickLaws.{tick_answered}
 use Rattle.controller.proofs.Demand2.{granted_exactly, granted_apart}
 use Rattle.queue.specs.declared.Waiting.{Waiting}
 use Rattle.queue.specs.declared.Passed.{Passed}
@@ -47,7 +47,7 @@ pub unit_plays : (u : FunctionUnit) (c : Course) (a : Passed) → ((w : Waiting)
     → (a ≡ Passed.Idle → sound_of u ≡ true) → played u c (unit_events a) ≡ record { bank = bank_then u a c.bank; history = unit_then a c.history }
 unfolding played
 unit_plays u c (Passed.Started w) s i = accepted_next u c (Start (tag_of w)) (s w refl)
-unit_plays u c Passed.Idle s i = accepted_next u c Tick (tick-answered u (i refl) c.bank)
+unit_plays u c Passed.Idle s i = accepted_next u c Tick (tick_answered u (i refl) c.bank)
 unit_plays u c (Passed.Refused why) s i = refl
 
 -- A unit that is not sound: every event is refused

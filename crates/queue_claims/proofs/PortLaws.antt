@@ -16,7 +16,7 @@ use Rattle.controller.specs.declared.Event.TheVariants.{Tick, Start}
 use Rattle.controller.specs.declared.Stepped.{Stepped}
 use Rattle.controller.specs.Bank.{shifted, started, granted, moved, step_of}
 use Rattle.controller.proofs.StepLaws.{step_done, start_answered}
-use Rattle.controller.proofs.TickLaws.{tick-shifts, shifted_below, step_below}
+use Rattle.controller.proofs.TickLaws.{tick_shifts, shifted_below, step_below}
 use Rattle.queue.specs.declared.Waiting.{Waiting}
 use Rattle.queue.specs.declared.Passed.{Passed}
 use Rattle.queue.specs.declared.Passed.TheVariants as Passed
@@ -89,9 +89,9 @@ unit_port u p a e =
     ap (λ (a : Passed). record { bank = bank_then u a p.bank; list = list_after a p.list p.count; count = fewer a p.count }) e
 
 module _ (u : FunctionUnit) (sound : sound_of u ≡ true) (p : Port) where
-  passed-oldest : (line : List Waiting) → Ready u p line → passed_of room u p.bank p.list p.count ≡ oldest p.bank line
+  passed_oldest : (line : List Waiting) → Ready u p line → passed_of room u p.bank p.list p.count ≡ oldest p.bank line
   unfolding passed_of
-  passed-oldest line r =
+  passed_oldest line r =
       let t : tags_inside u.functions (take p.count p.list) ≡ true = ap (tags_inside u.functions) r.waits ∙ r.tags in
       ap (λ (a : Answer). passed_then a (oldest p.bank (take p.count p.list))) (unit_answered room u p.list p.count sound r.long r.few t)
       ∙ ap (oldest p.bank) r.waits
@@ -106,7 +106,7 @@ module _ (u : FunctionUnit) (sound : sound_of u ≡ true) (p : Port) where
   ticks_on : (line : List Waiting) → Ready u p line → passed_of room u p.bank p.list p.count ≡ Passed.Idle
       → Does Passed.Idle (shifted p.bank) line
   ticks_on line r e =
-      let t = tick-shifts u sound p.bank in
+      let t = tick_shifts u sound p.bank in
       record {
         passed = e;
         bank = ap (λ (q : Port). q.bank) (unit_port u p Passed.Idle e) ∙ t;
@@ -126,13 +126,13 @@ module _ (u : FunctionUnit) (sound : sound_of u ≡ true) (p : Port) where
 
     pub unit_waits : granted p.bank w.tag ≡ false → Does Passed.Idle (shifted p.bank) (w ∷ line)
     unfolding oldest
-    unit_waits g = ticks_on (w ∷ line) r (passed-oldest (w ∷ line) r ∙ ap (λ ok. cond ok (Passed.Started w) Passed.Idle) g)
+    unit_waits g = ticks_on (w ∷ line) r (passed_oldest (w ∷ line) r ∙ ap (λ ok. cond ok (Passed.Started w) Passed.Idle) g)
 
     pub unit_starts : granted p.bank w.tag ≡ true → Does (Passed.Started w) (started u w.tag p.bank) line
     unfolding oldest
     unit_starts g =
         let e : passed_of room u p.bank p.list p.count ≡ Passed.Started w =
-        passed-oldest (w ∷ line) r ∙ ap (λ ok. cond ok (Passed.Started w) Passed.Idle) g in
+        passed_oldest (w ∷ line) r ∙ ap (λ ok. cond ok (Passed.Started w) Passed.Idle) g in
         let s = bank_start u p.bank w sound tag_there g in
         let n : suc (length line) ≡ p.count = ready_count r in
         record {

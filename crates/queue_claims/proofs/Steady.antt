@@ -34,13 +34,13 @@ pub record Held (u : FunctionUnit) (list : List Waiting) (count : ℕ) : Type 0 
   pub tags : tags_inside u.functions (take count list) ≡ true
 
 module _ (u : FunctionUnit) where
-  held-empty : (list : List Waiting) → Held u list 0
+  held_empty : (list : List Waiting) → Held u list 0
   unfolding tags_inside
-  held-empty list = record { sound = λ h. absurd (omega arith); long = λ h. absurd (omega arith); few = omega arith; tags = refl }
+  held_empty list = record { sound = λ h. absurd (omega arith); long = λ h. absurd (omega arith); few = omega arith; tags = refl }
 
-  held-arrival : (p : Port) (w : Waiting) → Held u p.list p.count → Held u (after u p (arrival w)).list (after u p (arrival w)).count
+  held_arrival : (p : Port) (w : Waiting) → Held u p.list p.count → Held u (after u p (arrival w)).list (after u p (arrival w)).count
   unfolding after arrival_of arrival_list
-  held-arrival p w h = go (arrival_answer room u p.list p.count w) refl
+  held_arrival p w h = go (arrival_answer room u p.list p.count w) refl
     where
       go : (a : Answer) → arrival_answer room u p.list p.count w ≡ a → Held u (list_then a p.list p.count w) (count_then a p.count)
       go (Refused why) e = h
@@ -54,9 +54,9 @@ module _ (u : FunctionUnit) where
                 (tags_joined u (take p.count p.list) w a.tags a.tag);
           }
 
-  held-unit : (p : Port) → Held u p.list p.count → Held u (after u p unit).list (after u p unit).count
+  held_unit : (p : Port) → Held u p.list p.count → Held u (after u p unit).list (after u p unit).count
   unfolding after passed_of pass_of pass_list
-  held-unit p h = go (passed_of room u p.bank p.list p.count) refl
+  held_unit p h = go (passed_of room u p.bank p.list p.count) refl
     where
       go : (a : Passed) → passed_of room u p.bank p.list p.count ≡ a → Held u (list_after a p.list p.count) (fewer a p.count)
       go (Passed.Refused why) e = h
@@ -74,19 +74,19 @@ module _ (u : FunctionUnit) where
                 (tags_rest u w s.rest (subst (λ (x : List Waiting). tags_inside u.functions x ≡ true) s.first a.tags));
           }
 
-  held-done : (p : Port) (d : Action) → Held u p.list p.count → Held u (done u p d).list (done u p d).count
+  held_done : (p : Port) (d : Action) → Held u p.list p.count → Held u (done u p d).list (done u p d).count
   unfolding done
-  held-done p (event e) h = h
-  held-done p (call (arrival w)) h = held-arrival p w h
-  held-done p (call unit) h = held-unit p h
+  held_done p (event e) h = h
+  held_done p (call (arrival w)) h = held_arrival p w h
+  held_done p (call unit) h = held_unit p h
 
   held_all : (actions : List Action) (p : Port) → Held u p.list p.count → Held u (done_all u p actions).list (done_all u p actions).count
   unfolding done_all
   held_all [] p h = h
-  held_all (d ∷ actions) p h = held_all actions (done u p d) (held-done p d h)
+  held_all (d ∷ actions) p h = held_all actions (done u p d) (held_done p d h)
 
   pub held : (list : List Waiting) (actions : List Action) → Held u (done_all u (empty_port list) actions).list (done_all u (empty_port list) actions).count
-  held list actions = held_all actions (empty_port list) (held-empty list)
+  held list actions = held_all actions (empty_port list) (held_empty list)
 
   -- so that the tests of the count and of the tags that wait always pass
 
@@ -103,8 +103,8 @@ module _ (u : FunctionUnit) where
   arrivals list count w h = simp h.tags
 
   -- and a time unit is accepted where something waits
-  pub waits-accepted : (list : List Waiting) (count : ℕ) → Held u list count → 1 ≤ count → unit_answer room u list count ≡ Done
-  waits-accepted list count h l = unit_answered room u list count (h.sound l) (h.long l) h.few h.tags
+  pub waits_accepted : (list : List Waiting) (count : ℕ) → Held u list count → 1 ≤ count → unit_answer room u list count ≡ Done
+  waits_accepted list count h l = unit_answered room u list count (h.sound l) (h.long l) h.few h.tags
 
 pub stays_steady : StaysSteady
 stays_steady u list actions =

@@ -24,7 +24,7 @@ use Rattle.queue.proofs.LineLaws.{tags_first}
 use Rattle.queue_claims.proofs.PassLaws.{was_started, was_idle, granted_started}
 use Rattle.queue_claims.proofs.PlayLaws.{played_joined, started_answered, unit_plays, all_apart, grants_exactly}
 use Rattle.queue.proofs.AcceptedLaws.{UnitAccepted, unit_accepted}
-use Rattle.queue_claims.proofs.Steady.{held, waits-accepted}
+use Rattle.queue_claims.proofs.Steady.{held, waits_accepted}
 
 -- One action
 
@@ -33,9 +33,9 @@ abbrev at : Port → History → Course
 at p h = record { bank = p.bank; history = h }
 
 module _ (u : FunctionUnit) where
-  call-plays : (p : Port) (h : History) → played u (at p h) (action_events u p (call unit)) ≡ at (done u p (call unit)) (history_next u p h (call unit))
+  call_plays : (p : Port) (h : History) → played u (at p h) (action_events u p (call unit)) ≡ at (done u p (call unit)) (history_next u p h (call unit))
   unfolding done after pass_of passed_of history_next
-  call-plays p h = unit_plays u (at p h) (passed_of room u p.bank p.list p.count) begun (λ e. (accepts (was_idle p.bank answer line e)).sound)
+  call_plays p h = unit_plays u (at p h) (passed_of room u p.bank p.list p.count) begun (λ e. (accepts (was_idle p.bank answer line e)).sound)
     where
       answer : Answer
       answer = unit_answer room u p.list p.count
@@ -49,25 +49,25 @@ module _ (u : FunctionUnit) where
       begun : (w : Waiting) → passed_then answer (oldest p.bank line) ≡ Passed.Started w → event_answer u p.bank (Start (tag_of w)) ≡ Done
       begun w e = let s = was_started p.bank answer line w e in started_answered u s (accepts s.accepted).sound (accepts s.accepted).tags
 
-  action-plays : (p : Port) (h : History) (d : Action) → played u (at p h) (action_events u p d) ≡ at (done u p d) (history_next u p h d)
+  action_plays : (p : Port) (h : History) (d : Action) → played u (at p h) (action_events u p d) ≡ at (done u p d) (history_next u p h d)
   unfolding done after history_next played
-  action-plays p h (event e) = refl
-  action-plays p h (call (arrival w)) = refl
-  action-plays p h (call unit) = call-plays p h
+  action_plays p h (event e) = refl
+  action_plays p h (call (arrival w)) = refl
+  action_plays p h (call unit) = call_plays p h
 
-  actions-play : (actions : List Action) (p : Port) (h : History) → played u (at p h) (events_from u p actions) ≡ at (done_all u p actions) (history_from u p h actions)
+  actions_play : (actions : List Action) (p : Port) (h : History) → played u (at p h) (events_from u p actions) ≡ at (done_all u p actions) (history_from u p h actions)
   unfolding done_all history_from events_from played
-  actions-play [] p h = refl
-  actions-play (d ∷ actions) p h =
+  actions_play [] p h = refl
+  actions_play (d ∷ actions) p h =
       played_joined u (at p h) (action_events u p d) (events_from u (done u p d) actions)
-      ∙ ap (λ (c : Course). played u c (events_from u (done u p d) actions)) (action-plays p h d)
-      ∙ actions-play actions (done u p d) (history_next u p h d)
+      ∙ ap (λ (c : Course). played u c (events_from u (done u p d) actions)) (action_plays p h d)
+      ∙ actions_play actions (done u p d) (history_next u p h d)
 
 -- The claims
 
 pub queue_plays : QueuePlays
 queue_plays u list actions =
-    let e = sym (actions-play u actions (empty_port list) outset.history) in
+    let e = sym (actions_play u actions (empty_port list) outset.history) in
     (ap (λ (c : Course). c.bank) e, ap (λ (c : Course). c.history) e)
 
 pub queue_apart : QueueApart
@@ -83,7 +83,7 @@ queue_exactly u list actions w line e =
     let some : 1 ≤ p.count = omega (arith, length-take p.count p.list) in
     let t = tags_first u w line (ap (tags_inside u.functions) (sym e) ∙ d.tags) in
     let x = grants_exactly u (d.sound some) (events_of u list actions) p.bank _ (queue_plays u list actions).0 (queue_plays u list actions).1 w t in
-    let a = waits-accepted u p.list p.count d some in (
+    let a = waits_accepted u p.list p.count d some in (
       λ s. x.0 (was_started p.bank (unit_answer room u p.list p.count) (take p.count p.list) w s).granted,
       λ f. granted_started p.bank (unit_answer room u p.list p.count) (take p.count p.list) w line a e (x.1 f),
     )

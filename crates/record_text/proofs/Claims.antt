@@ -31,7 +31,7 @@ use Rattle.record_text.specs.Plans.{plan_record_refusal, plan_record_answer}
 use Rattle.function_plan.specs.Own.{own_answer}
 use Rattle.function_plan.proofs.Claims.{own_exactly, tag_taken, best_recordable, planned}
 use Rattle.record_text.specs.Claims.{RecordedBest, SearchRecorded, EightExactly}
-use Rattle.record_text.proofs.RecordLaws.{writer-answer, writer_out}
+use Rattle.record_text.proofs.RecordLaws.{writer_answer, writer_out}
 
 -- The writer takes its plan
 
@@ -60,7 +60,7 @@ taken p room n g h = go (write_refusal p room) refl
 searched : (u after : FunctionUnit) (q : ℕ) → tag_answer u q ≡ Done → Found u q after → (bytes : List ℕ) → longest_record ≤ length bytes → RecordedBest u q after bytes
 searched u after q t f bytes room = record {
   size = length (record_of (cycle_in p));
-  written = writer-answer after q owns (length bytes) ∙ answer;
+  written = writer_answer after q owns (length bytes) ∙ answer;
   cycle = f.cycle;
   best = f.best;
   shown = subst₂ (λ (x l : List ℕ). Shows x l) (ap (take (length (record_of (cycle_in p)))) (sym (writer_out after q owns bytes))) held
@@ -111,7 +111,7 @@ eight_exactly u q room t = (never, other)
 
     never : plan_record_answer u q room ≡ Written.Refused NoPlan → u.plan.tag ≡ q → ⊥
     never e own =
-        let w = sym (writer-answer u q ((own_exactly u q t).done.1 own) room) ∙ e in
+        let w = sym (writer_answer u q ((own_exactly u q t).done.1 own) room) ∙ e in
         by ((plan_exactly u.plan room).numbers NoPlan w)
       where
         by : (NoPlan ≡ BadRecord) ⊎ (NoPlan ≡ ShortOutput) → ⊥

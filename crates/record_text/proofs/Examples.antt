@@ -79,9 +79,9 @@ left = refl
 
 -- 3 4 is not best for a function without marks, however well it is written and read: 1 is better
 
-record-of-1 : plan_record_out (planned 1) 1 (replicate 11 9) ≡ 2 ∷ 0 ∷ 7 ∷ 0 ∷ 8 ∷ 0 ∷ 10 ∷ 0 ∷ 3 ∷ 4 ∷ 246 ∷ []
+record_of_1 : plan_record_out (planned 1) 1 (replicate 11 9) ≡ 2 ∷ 0 ∷ 7 ∷ 0 ∷ 8 ∷ 0 ∷ 10 ∷ 0 ∷ 3 ∷ 4 ∷ 246 ∷ []
 unfolding plan_record_out plan_record_refusal own_answer tag_answer read_answer sound_of marks_inside marked write_refusal writable holds_cycle recordable record_of ring_of ring_byte starts list_below word_below some_below same
-record-of-1 = refl
+record_of_1 = refl
 
 list_of_1 : report_list (2 ∷ 0 ∷ 7 ∷ 0 ∷ 8 ∷ 0 ∷ 10 ∷ 0 ∷ 3 ∷ 4 ∷ 246 ∷ []) ≡ 3 ∷ 4 ∷ []
 unfolding report_list record_answer is_record recordable record_of ring_of ring_byte starts list_below word_below some_below same
@@ -102,7 +102,7 @@ pub not_best : RecordedBest (planned 0) 1 (planned 1) (replicate 11 9) → ⊥
 not_best r =
     let size : r.size ≡ 11 = ap length_told (sym r.written ∙ of_1) in
     let is : r.cycle ≡ 3 ∷ 4 ∷ [] =
-    sym r.shown.list ∙ ap₂ (λ (n : ℕ) (b : List ℕ). report_list (take n b)) size record-of-1 ∙ list_of_1
+    sym r.shown.list ∙ ap₂ (λ (n : ℕ) (b : List ℕ). report_list (take n b)) size record_of_1 ∙ list_of_1
     in
     let least = r.best.least (1 ∷ []) (record { nonempty = omega arith; each = λ i h. first i h }) one_never in
     omega (arith, least, ap total is, ap length is)

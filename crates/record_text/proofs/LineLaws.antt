@@ -62,18 +62,18 @@ bits_length count ring = list_length count (bit_text ring)
 -- What is told of a file
 
 module _ (file before after : List ℕ) (end : ℕ) where
-  pub report-refused : (why : Refusal) → report_answer file ≡ Shown.Refused why → Line (refused_line why) before after end → Line (report_line file) before after end
+  pub report_refused : (why : Refusal) → report_answer file ≡ Shown.Refused why → Line (refused_line why) before after end → Line (report_line file) before after end
   unfolding report_line
-  report-refused why e l = line_as (ap (λ (x : Shown). shown_line x (λ K. list_line K (report_list file))) (sym e)) l
+  report_refused why e l = line_as (ap (λ (x : Shown). shown_line x (λ K. list_line K (report_list file))) (sym e)) l
 
-  pub report-shown : (K : ℕ) → report_answer file ≡ Shown.Number K → Line (list_line K (report_list file)) before after end → Line (report_line file) before after end
+  pub report_shown : (K : ℕ) → report_answer file ≡ Shown.Number K → Line (list_line K (report_list file)) before after end → Line (report_line file) before after end
   unfolding report_line
-  report-shown K e l = line_as (ap (λ (x : Shown). shown_line x (λ K. list_line K (report_list file))) (sym e)) l
+  report_shown K e l = line_as (ap (λ (x : Shown). shown_line x (λ K. list_line K (report_list file))) (sym e)) l
 
-  pub load-refused : (why : Refusal) → load_answer file ≡ Shown.Refused why → Line (refused_line why) before after end → Line (load_line file) before after end
+  pub load_refused : (why : Refusal) → load_answer file ≡ Shown.Refused why → Line (refused_line why) before after end → Line (load_line file) before after end
   unfolding load_line
-  load-refused why e l = line_as (ap (λ (x : Shown). shown_line x (λ S. ring_line S (load_ring file))) (sym e)) l
+  load_refused why e l = line_as (ap (λ (x : Shown). shown_line x (λ S. ring_line S (load_ring file))) (sym e)) l
 
-  pub load-shown : (S : ℕ) → load_answer file ≡ Shown.Number S → Line (ring_line S (load_ring file)) before after end → Line (load_line file) before after end
+  pub load_shown : (S : ℕ) → load_answer file ≡ Shown.Number S → Line (ring_line S (load_ring file)) before after end → Line (load_line file) before after end
   unfolding load_line
-  load-shown S e l = line_as (ap (λ (x : Shown). shown_line x (λ S. ring_line S (load_ring file))) (sym e)) l
+  load_shown S e l = line_as (ap (λ (x : Shown). shown_line x (λ S. ring_line S (load_ring file))) (sym e)) l

@@ -16,22 +16,22 @@ use Rattle.plan_record.specs.Record.{record_of}
 use Rattle.plan_record.specs.Write.{cycle_in, write_refusal, write_answer, write_out}
 use Rattle.planner.specs.declared.Handed.{Handed}
 use Rattle.function_plan.specs.Own.{own_answer, own_plan}
-use Rattle.function_plan.proofs.Claims.{own-says, own-hands}
+use Rattle.function_plan.proofs.Claims.{own_says, own_hands}
 use Rattle.record_text.specs.Plans.{plan_record_refusal, plan_record_answer, plan_record_out}
 
 -- what is left is the writer's
 module _ (u : FunctionUnit) (q : ℕ) (own : own_answer u q ≡ Done) where
-  by-writer : (room : ℕ) → plan_record_refusal u q room ≡ write_refusal u.plan room
+  by_writer : (room : ℕ) → plan_record_refusal u q room ≡ write_refusal u.plan room
   unfolding plan_record_refusal
-  by-writer room = ap (λ (a : Answer). and_then a (write_refusal u.plan room)) own
+  by_writer room = ap (λ (a : Answer). and_then a (write_refusal u.plan room)) own
 
-  pub writer-answer : (room : ℕ) → plan_record_answer u q room ≡ write_answer u.plan room
+  pub writer_answer : (room : ℕ) → plan_record_answer u q room ≡ write_answer u.plan room
   unfolding plan_record_answer write_answer
-  writer-answer room = ap (λ (a : Answer). length_answer a (length (record_of (cycle_in u.plan)))) (by-writer room)
+  writer_answer room = ap (λ (a : Answer). length_answer a (length (record_of (cycle_in u.plan)))) (by_writer room)
 
   pub writer_out : (bytes : List ℕ) → plan_record_out u q bytes ≡ write_out u.plan bytes
   unfolding plan_record_out write_out
-  writer_out bytes = ap (λ (a : Answer). file_in_front a (record_of (cycle_in u.plan)) bytes) (by-writer (length bytes))
+  writer_out bytes = ap (λ (a : Answer). file_in_front a (record_of (cycle_in u.plan)) bytes) (by_writer (length bytes))
 
 abbrev Ends : FunctionUnit → ℕ → List ℕ → List ℕ → Written → Type 0
 Ends u q before after r = (r ≡ plan_record_answer u q (length before)) × (after ≡ plan_record_out u q before)
@@ -42,16 +42,16 @@ module _ (u : FunctionUnit) (q : ℕ) (h : Handed) (e : h ≡ own_plan u q) wher
   unfolding plan_record_answer plan_record_out plan_record_refusal
   plan_refused before why d =
       let no : plan_record_refusal u q (length before) ≡ Refused why =
-      ap (λ (a : Answer). and_then a (write_refusal u.plan (length before))) (sym (own-says u q h e) ∙ d) in (
+      ap (λ (a : Answer). and_then a (write_refusal u.plan (length before))) (sym (own_says u q h e) ∙ d) in (
         sym (ap (λ (a : Answer). length_answer a (length (record_of (cycle_in u.plan)))) no),
         sym (ap (λ (a : Answer). file_in_front a (record_of (cycle_in u.plan)) before) no),
       )
 
-  pub plan-written : (before after : List ℕ) (r : Written) → h.answer ≡ Done
+  pub plan_written : (before after : List ℕ) (r : Written) → h.answer ≡ Done
       → (r ≡ write_answer h.plan (length before)) × (after ≡ write_out h.plan before) → Ends u q before after r
-  plan-written before after r d w =
-      let own : own_answer u q ≡ Done = sym (own-says u q h e) ∙ d in
-      let same : h.plan ≡ u.plan = own-hands u q h e d in (
-        w.0 ∙ ap (λ (p : Plan). write_answer p (length before)) same ∙ sym (writer-answer u q own (length before)),
+  plan_written before after r d w =
+      let own : own_answer u q ≡ Done = sym (own_says u q h e) ∙ d in
+      let same : h.plan ≡ u.plan = own_hands u q h e d in (
+        w.0 ∙ ap (λ (p : Plan). write_answer p (length before)) same ∙ sym (writer_answer u q own (length before)),
         w.1 ∙ ap (λ (p : Plan). write_out p before) same ∙ sym (writer_out u q own before),
       )

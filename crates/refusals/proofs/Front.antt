@@ -43,10 +43,10 @@ module _ {M : Type 1} {𝓤 : Ura M} (𝓛 : Logic 𝓤) (R : RattleType) (n k :
   abbrev front : GName → MutBor (List R.Denot)
   front γ = record { ref_ptr = (l, 0); ghost_name = γ; now = take k xs }
 
-  pub lends-front : (ℓ : Lifetime) (m : ℕ) → Single R.mir → length (take k xs) ≡ m → Room R (length (take k xs))
+  pub lends_front : (ℓ : Lifetime) (m : ℕ) → Single R.mir → length (take k xs) ≡ m → Room R (length (take k xs))
       → ent 𝓤 (sem 𝓛 (part_at (Array R n) full_share xs l 0))
       (H.⇛ (ex 𝓤 (λ (γ : GName). sep 𝓤 (sem 𝓛 ((MutSlice ℓ κ R).own_val (front γ) (slice_val (l, 0) m ∷ []))) (sep 𝓤 (sem 𝓛 (Loan γ)) (sem 𝓛 Others)))))
-  lends-front ℓ m one is room =
+  lends_front ℓ m one is room =
       qed 𝓛 (‵ (part_at (Array R n) full_share xs l 0) ∷ []) ∵ updating ! $ use1 𝓛 (‵ ((arr_parts (shares R) n).part full_share xs l 0)) (Array-apart 𝓛 R full_share one n xs l 0) $ fsplit ! $ drop ! $
       use1 𝓛 (‵ (cells (mem R) xs l 0)) (whole_in 𝓛 R xs l 0) $
       rewrite ! 0 (λ (ys : List R.Denot). ‵ (cells (mem R) ys l 0)) (sym (take-append-drop k xs)) refl $
@@ -55,9 +55,9 @@ module _ {M : Type 1} {𝓤 : Ura M} (𝓛 : Logic 𝓤) (R : RattleType) (n k :
       rewrite ! 0 (λ (c : ℕ). ‵ ((MutSlice ℓ κ R).own_val (front γ) (slice_val (l, 0) c ∷ []))) is refl $ at_once ! $
       show ! (λ (γ' : GName). sep 𝓤 (sem 𝓛 ((MutSlice ℓ κ R).own_val (front γ') (slice_val (l, 0) m ∷ []))) (sep 𝓤 (sem 𝓛 (Loan γ')) (sem 𝓛 Others))) γ $ done !)
 
-  pub front-back : (γ : GName) (zs : List R.Denot) → length xs ≡ n
+  pub front_back : (γ : GName) (zs : List R.Denot) → length xs ≡ n
       → ent 𝓤 (sep 𝓤 (A.dead κ) (sep 𝓤 (sem 𝓛 (Loan γ)) (sem 𝓛 (fsep (finally R γ zs) Others)))) (H.⇛ (sem 𝓛 (part_at (Array R n) full_share (zs ++ others k xs) l 0)))
-  front-back γ zs e =
+  front_back γ zs e =
       qed 𝓛 (‵ (fdead κ) ∷ ‵ (Loan γ) ∷ ‵ (fsep (finally R γ zs) Others) ∷ []) ∵ updating ! $ move ! (2 ∷ []) $ fsplit ! $ move ! (2 ∷ 3 ∷ 0 ∷ 1 ∷ []) $
       use3 𝓛 (later (‵ ((Arr (mem R) (length (take k xs))).own_at zs l 0))) (slice_back 𝓛 R κ γ zs (length (take k xs)) l 0) $ await ! tt $ fsplit ! $ feq_l ! (λ same.
       -- [the elements that come back; the others]

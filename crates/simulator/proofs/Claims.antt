@@ -4,7 +4,7 @@ use mathlib.Core.Path.{◌≡◌, refl, sym, ap, ap₂, ◌∙◌, subst, subst�
 use mathlib.Core.Bool.{true, not}
 use mathlib.Core.List.{List, [], ◌∷◌, ◌++◌}
 use native.Mathlib.Omega.{arith}
-use borrow.Author.Tests.{not-true, eqb-false}
+use borrow.Author.Tests.{not_true, eqb-false}
 use lib.Dec.{eqb}
 use lib.ListN.{length, replicate, take-append-drop}
 use lib.Seq.{length-take-le, take-append_seam}
@@ -32,7 +32,7 @@ use Rattle.plan_record.specs.Write.{cycle_in, holds_cycle}
 use Rattle.plan_record.proofs.Claims.{holds_exactly}
 use Rattle.function_plan.proofs.Claims.{best_recordable, planned}
 use Rattle.simulator.specs.Claims.{Plays, NoEdit, EveryPlanPlays, EverySearchPlays}
-use Rattle.simulator.proofs.PlayLaws.{never-plays}
+use Rattle.simulator.proofs.PlayLaws.{never_plays}
 
 -- The plan that is owed is one that a record holds
 
@@ -49,8 +49,8 @@ module _ (u : FunctionUnit) (t : Sheet) (n : Noted u t) (some : t.owed ≡ 0 →
   best : Best 1 (marked u) plan.tag (cycle_in plan)
   best = subst₂ (λ (T : Table) (q : ℕ). Best 1 T q (cycle_in plan)) (sym n.table) (sym n.tag) owed.best
 
-  owed-holds : holds_cycle plan ≡ true
-  owed-holds = (holds_exactly plan).1 (record {
+  owed_holds : holds_cycle plan ≡ true
+  owed_holds = (holds_exactly plan).1 (record {
     cycle = cycle_in plan;
     recordable = best_recordable u plan.tag (cycle_in plan) (omega (arith, long, owed.few)) best;
     holds = record {
@@ -70,7 +70,7 @@ read_gives u p e = go (read_answer u) refl e
     go : (a : Answer) → read_answer u ≡ a → handing a u.plan ≡ record { answer = Done; plan = p } → (u.plan ≡ p) × (u.plan.tag ≡ 0 → ⊥)
     go Done d e =
         let held = check_ok (not (eqb u.plan.tag 0)) NoPlan Done (check_next (sound_of u) NotSound _ d) in
-        (ap (λ (h : Handed). h.plan) e, eqb-false u.plan.tag 0 (not-true (eqb u.plan.tag 0) held))
+        (ap (λ (h : Handed). h.plan) e, eqb-false u.plan.tag 0 (not_true (eqb u.plan.tag 0) held))
     go (Refused why) d e = never_done (ap (λ (h : Handed). h.answer) e)
 
 -- Calls of which no edit is accepted
@@ -134,7 +134,7 @@ unedited (k ∷ calls) (a ∷ replies) u left (after, one, run) n =
 same_plays : (p : Plan) (u left : FunctionUnit) → holds_cycle p ≡ true → sound_of u ≡ true → inside p.tag u.functions ≡ true
     → NeverCollides (marked u) p.tag (cycle_in p) → SameMarks u left → Plays left p
 same_plays p u left holds sound member never same =
-    never-plays p holds left (same.sound sound) (ap (inside p.tag) same.functions ∙ member)
+    never_plays p holds left (same.sound sound) (ap (inside p.tag) same.functions ∙ member)
     (subst (λ (T : Table). NeverCollides T p.tag (cycle_in p)) (sym same.marks) never)
 
 pub every_plan_plays : EveryPlanPlays
@@ -146,7 +146,7 @@ every_plan_plays p later told left h quiet =
     let some : t.owed ≡ 0 → ⊥ = λ z. r.1 (n.tag ∙ z) in
     let member : inside u.plan.tag u.functions ≡ true = ap₂ inside n.tag n.functions ∙ n.member some in
     subst (λ (x : Plan). Plays left x) r.0
-    (same_plays u.plan u left (owed-holds u t n some) n.sound member (best u t n some).never (unedited later told u left h.stays quiet))
+    (same_plays u.plan u left (owed_holds u t n some) n.sound member (best u t n some).never (unedited later told u left h.stays quiet))
 
 pub every_search_plays : EverySearchPlays
 unfolding search_answer

@@ -289,7 +289,7 @@ pub one_plays : Plays (with_plan clear one) one
 one_plays = every_plan_plays one [] [] (with_plan clear one) (one_handed [] [] (with_plan clear one) refl) tt
 
 pub one_plays_on : Plays (with_plan clear one) one
-one_plays_on = every_search_plays one (Read ∷ []) (handed one ∷ []) (with_plan clear one) (one_found_plan _ _ (with_plan clear one) one-read) tt
+one_plays_on = every_search_plays one (Read ∷ []) (handed one ∷ []) (with_plan clear one) (one_found_plan _ _ (with_plan clear one) one_read) tt
   where
-    one-read : Leaves (with_plan clear one) (Read ∷ []) (handed one ∷ []) (with_plan clear one)
-    one-read = (with_plan clear one, (record { answer = Done; plan = one }, sym read_one, refl, refl), refl)
+    one_read : Leaves (with_plan clear one) (Read ∷ []) (handed one ∷ []) (with_plan clear one)
+    one_read = (with_plan clear one, (record { answer = Done; plan = one }, sym read_one, refl, refl), refl)

@@ -11,7 +11,7 @@ use native.Mathlib.Decide.{dec_lt}
 use native.Mathlib.Nat.{le_dest, mod-lt, div-add-mod', suc-mod, mod_self, mod-eq_of_lt, mul-add-mod_self_right, le_of_lt, le_refl}
 use native.Mathlib.Numerals.{add-one}
 use native.Mathlib.Omega.{arith}
-use borrow.Author.Tests.{eqb-true, eqb-false, not-true, not-false}
+use borrow.Author.Tests.{eqb-true, eqb-false, not_true, not_false}
 use lib.Dec.{eqb}
 use lib.ListN.{length, take}
 use Rattle.words.proofs.Tests.{by_test}
@@ -76,8 +76,8 @@ module _ (p : Plan) (holds : holds_cycle p ≡ true) where
   some : 0 < p.sum
   some = omega (arith, sum_is, total_least cycle can)
 
-  on-ring : (n : ℕ) → OnRing p (n % p.sum)
-  on-ring n = record { holds = holds; before = mod-lt n some }
+  on_ring : (n : ℕ) → OnRing p (n % p.sum)
+  on_ring n = record { holds = holds; before = mod-lt n some }
 
   rising : Cycle 1 cycle
   rising = record { nonempty = can.some; each = can.least }
@@ -85,7 +85,7 @@ module _ (p : Plan) (holds : holds_cycle p ≡ true) where
   -- a unit with bit 0 is a start of the cycle
   start_is : (n : ℕ) → bit_of p (n % p.sum) ≡ false → FallsOn cycle n
   start_is n e =
-      let s = start_has cycle (n % p.sum) can (not-false _ (sym (bit_starts p (n % p.sum) (on-ring n)) ∙ e)) in
+      let s = start_has cycle (n % p.sum) can (not_false _ (sym (bit_starts p (n % p.sum) (on_ring n)) ∙ e)) in
       let k = s.index in
       let turns = start_at_turns_add cycle (n / p.sum) k in
       let first = start_at_take cycle k (le_of_lt s.inside) in
@@ -108,14 +108,14 @@ module _ (p : Plan) (holds : holds_cycle p ≡ true) where
       let less : total (take k cycle) < p.sum = omega (arith, sum_rises cycle can k K below (le_refl K), sum_all cycle, sum_is) in
       let place : start_at cycle j % p.sum ≡ total (take k cycle) =
       ap (λ m. m % p.sum) at ∙ mul-add-mod_self_right r p.sum (total (take k cycle)) ∙ mod-eq_of_lt less in
-      bit_starts p (start_at cycle j % p.sum) (on-ring (start_at cycle j)) ∙ ap (λ m. not (starts cycle m)) place ∙ ap not (start_of cycle k can below)
+      bit_starts p (start_at cycle j % p.sum) (on_ring (start_at cycle j)) ∙ ap (λ m. not (starts cycle m)) place ∙ ap not (start_of cycle k can below)
 
-  falls-bit : (n : ℕ) → FallsOn cycle n → bit_of p (n % p.sum) ≡ false
-  falls-bit n f = sym (ap (λ m. bit_of p (m % p.sum)) f.start) ∙ start_bit f.index
+  falls_bit : (n : ℕ) → FallsOn cycle n → bit_of p (n % p.sum) ≡ false
+  falls_bit n f = sym (ap (λ m. bit_of p (m % p.sum)) f.start) ∙ start_bit f.index
 
   -- an earlier start has a smaller index
-  start-order : (j m : ℕ) → start_at cycle j < start_at cycle m → j < m
-  start-order j m h = go (dec_lt j m)
+  start_order : (j m : ℕ) → start_at cycle j < start_at cycle m → j < m
+  start_order j m h = go (dec_lt j m)
     where
       go : Dec (j < m) → j < m
       go (yes o) = o
@@ -124,8 +124,8 @@ module _ (p : Plan) (holds : holds_cycle p ≡ true) where
           absurd (omega (arith, interval_least cycle rising m d.0, ap (start_at cycle) d.1))
 
   -- the position after n modulo S
-  following-is : (n : ℕ) → position_after p (n % p.sum) ≡ suc n % p.sum
-  following-is n =
+  following_is : (n : ℕ) → position_after p (n % p.sum) ≡ suc n % p.sum
+  following_is n =
       by_test (eqb (n % p.sum + 1) p.sum)
       (λ e.
       let s : suc (n % p.sum) ≡ p.sum = omega (arith, eqb-true (n % p.sum + 1) p.sum e) in
@@ -138,14 +138,14 @@ module _ (p : Plan) (holds : holds_cycle p ≡ true) where
   module _ (u : FunctionUnit) (sound : sound_of u ≡ true) (member : inside p.tag u.functions ≡ true) (never : NeverCollides (marked u) p.tag cycle) where
     playable : (n : ℕ) → Playable u p (n % p.sum)
     unfolding tag_answer
-    playable n = record { tag = rw (sound, member); ring = on-ring n }
+    playable n = record { tag = rw (sound, member); ring = on_ring n }
 
     abbrev course : ℕ → Course
     course n = played u outset (events_below p n)
 
     -- the bank grants every start
-    granted-start : (n : ℕ) → Told p n (course n).history → bit_of p (n % p.sum) ≡ false → event_answer u (course n).bank (Start (tag_of p)) ≡ Done
-    granted-start n t e = (granted_exactly u sound (events_below p n) (tag_of p) member).1 free
+    granted_start : (n : ℕ) → Told p n (course n).history → bit_of p (n % p.sum) ≡ false → event_answer u (course n).bank (Start (tag_of p)) ≡ Done
+    granted_start n t e = (granted_exactly u sound (events_below p n) (tag_of p) member).1 free
       where
         free : (y : Task) → Memᴰ y (course n).history.tasks → Clash (marked u) y (task_now (course n).history p.tag) → ⊥
         free y m clash =
@@ -153,42 +153,42 @@ module _ (p : Plan) (holds : holds_cycle p ≡ true) where
             let s = start_is n e in
             let now : task_now (course n).history p.tag ≡ task_at p.tag cycle s.index =
             ap (λ (k : ℕ). record { tag = p.tag; start = k }) (t.time ∙ sym s.start) in
-            never x.index s.index (start-order x.index s.index (omega (arith, x.before, s.start)))
+            never x.index s.index (start_order x.index s.index (omega (arith, x.before, s.start)))
             (subst₂ (λ (a b : Task). Clash (marked u) a b) x.task now clash)
 
-    tick-done : (b : Bank) → event_answer u b Tick ≡ Done
+    tick_done : (b : Bank) → event_answer u b Tick ≡ Done
     unfolding event_answer
-    tick-done b = rw sound
+    tick_done b = rw sound
 
-    granted-event : (n : ℕ) → Told p n (course n).history → event_answer u (course n).bank (event_of p (n % p.sum)) ≡ Done
-    granted-event n t =
+    granted_event : (n : ℕ) → Told p n (course n).history → event_answer u (course n).bank (event_of p (n % p.sum)) ≡ Done
+    granted_event n t =
         by_test (bit_of p (n % p.sum))
-        (λ e. ap (λ b. event_answer u (course n).bank (cond b Tick (Start (tag_of p)))) e ∙ tick-done (course n).bank)
-        (λ e. ap (λ b. event_answer u (course n).bank (cond b Tick (Start (tag_of p)))) e ∙ granted-start n t e)
+        (λ e. ap (λ b. event_answer u (course n).bank (cond b Tick (Start (tag_of p)))) e ∙ tick_done (course n).bank)
+        (λ e. ap (λ b. event_answer u (course n).bank (cond b Tick (Start (tag_of p)))) e ∙ granted_start n t e)
 
     -- one unit more
-    course-next : (n : ℕ) → course (suc n) ≡ next u (course n) (event_of p (n % p.sum))
+    course_next : (n : ℕ) → course (suc n) ≡ next u (course n) (event_of p (n % p.sum))
     unfolding events_below
-    course-next n = played_more u (events_below p n) outset (event_of p (n % p.sum))
+    course_next n = played_more u (events_below p n) outset (event_of p (n % p.sum))
 
-    history-next : (n : ℕ) → Told p n (course n).history → (course (suc n)).history ≡ accepted (course n).history (event_of p (n % p.sum))
+    history_next_lem : (n : ℕ) → Told p n (course n).history → (course (suc n)).history ≡ accepted (course n).history (event_of p (n % p.sum))
     unfolding step_of
-    history-next n t =
-        ap (λ (c : Course). c.history) (course-next n)
-        ∙ ap (λ (a : Answer). history_then a (course n).history (event_of p (n % p.sum))) (granted-event n t)
+    history_next_lem n t =
+        ap (λ (c : Course). c.history) (course_next n)
+        ∙ ap (λ (a : Answer). history_then a (course n).history (event_of p (n % p.sum))) (granted_event n t)
 
-    bank-next : (n : ℕ) → Told p n (course n).history → (course (suc n)).bank ≡ moved u (course n).bank (event_of p (n % p.sum))
+    bank_next : (n : ℕ) → Told p n (course n).history → (course (suc n)).bank ≡ moved u (course n).bank (event_of p (n % p.sum))
     unfolding step_of
-    bank-next n t =
-        ap (λ (c : Course). c.bank) (course-next n)
-        ∙ ap (λ (a : Answer). bank_then a (course n).bank (moved u (course n).bank (event_of p (n % p.sum)))) (granted-event n t)
+    bank_next n t =
+        ap (λ (c : Course). c.bank) (course_next n)
+        ∙ ap (λ (a : Answer). bank_then a (course n).bank (moved u (course n).bank (event_of p (n % p.sum)))) (granted_event n t)
 
     later : (n : ℕ) (y : Task) → Earlier p n y → Earlier p (suc n) y
     later n y x = record { index = x.index; task = x.task; before = omega (arith, x.before) }
 
-    told-event : (n : ℕ) (h : History) → Told p n h → (bit : Bool) → bit_of p (n % p.sum) ≡ bit → Told p (suc n) (accepted h (cond bit Tick (Start (tag_of p))))
-    told-event n h t true e = record { time = omega (arith, t.time); tasks = λ y m. later n y (t.tasks y m) }
-    told-event n h t false e = record {
+    told_event : (n : ℕ) (h : History) → Told p n h → (bit : Bool) → bit_of p (n % p.sum) ≡ bit → Told p (suc n) (accepted h (cond bit Tick (Start (tag_of p))))
+    told_event n h t true e = record { time = omega (arith, t.time); tasks = λ y m. later n y (t.tasks y m) }
+    told_event n h t false e = record {
       time = omega (arith, t.time);
       tasks = λ y m. ⊎_elim (λ new. fresh y new) (λ old. later n y (t.tasks y old)) (Memᴰ.cases_cons m);
     }
@@ -207,39 +207,39 @@ module _ (p : Plan) (holds : holds_cycle p ≡ true) where
     told zero = record { time = refl; tasks = λ y m. absurd (Memᴰ.not-nil m) }
     told (suc n) =
         let t = told n in
-        subst (λ (h : History). Told p (suc n) h) (sym (history-next n t)) (told-event n (course n).history t (bit_of p (n % p.sum)) refl)
+        subst (λ (h : History). Told p (suc n) h) (sym (history_next_lem n t)) (told_event n (course n).history t (bit_of p (n % p.sum)) refl)
 
     -- the step is played
-    played-is : (n : ℕ) → play_of u p (n % p.sum) (course n).bank ≡ playing Done u p (n % p.sum) (course n).bank
+    played_is : (n : ℕ) → play_of u p (n % p.sum) (course n).bank ≡ playing Done u p (n % p.sum) (course n).bank
     unfolding play_of
-    played-is n =
+    played_is n =
         ap (λ (a : Answer). playing a u p (n % p.sum) (course n).bank)
-        (sym (ring_answer_lem u p (n % p.sum) (course n).bank (playable n)) ∙ granted-event n (told n))
+        (sym (ring_answer_lem u p (n % p.sum) (course n).bank (playable n)) ∙ granted_event n (told n))
 
-    abbrev placeAt : ℕ → Place
-    placeAt n = record { position = n % p.sum; bank = (course n).bank }
+    abbrev place_at_lem : ℕ → Place
+    place_at_lem n = record { position = n % p.sum; bank = (course n).bank }
 
-    place_is : (n : ℕ) → place_after u p n ≡ placeAt n
+    place_is_lem : (n : ℕ) → place_after u p n ≡ place_at_lem n
     unfolding place_after events_below played
-    place_is zero = λ i. record { position = sym (mod-eq_of_lt some) i; bank = empty }
-    place_is (suc n) =
-        ap (λ (x : Place). onward (play_of u p x.position x.bank)) (place_is n)
+    place_is_lem zero = λ i. record { position = sym (mod-eq_of_lt some) i; bank = empty }
+    place_is_lem (suc n) =
+        ap (λ (x : Place). onward (play_of u p x.position x.bank)) (place_is_lem n)
         ∙ (λ i. record {
-          position = (ap (λ (x : UnitPlayed). x.position) (played-is n) ∙ following-is n) i;
-          bank = (ap (λ (x : UnitPlayed). x.bank) (played-is n) ∙ sym (bank-next n (told n))) i;
+          position = (ap (λ (x : UnitPlayed). x.position) (played_is n) ∙ following_is n) i;
+          bank = (ap (λ (x : UnitPlayed). x.bank) (played_is n) ∙ sym (bank_next n (told n))) i;
         })
 
-    unit-is : (n : ℕ) → unit_after u p n ≡ playing Done u p (n % p.sum) (course n).bank
-    unit-is n = ap (λ (x : Place). play_of u p x.position x.bank) (place_is n) ∙ played-is n
+    unit_is : (n : ℕ) → unit_after u p n ≡ playing Done u p (n % p.sum) (course n).bank
+    unit_is n = ap (λ (x : Place). play_of u p x.position x.bank) (place_is_lem n) ∙ played_is n
 
     bank_is : (n : ℕ) → (place_after u p n).bank ≡ (course n).bank
-    bank_is n = ap (λ (x : Place). x.bank) (place_is n)
+    bank_is n = ap (λ (x : Place). x.bank) (place_is_lem n)
 
     bit_is : (n : ℕ) → bit_of p (place_after u p n).position ≡ bit_of p (n % p.sum)
-    bit_is n = ap (λ (x : Place). bit_of p x.position) (place_is n)
+    bit_is n = ap (λ (x : Place). bit_of p x.position) (place_is_lem n)
 
-    started-is : (n : ℕ) → (unit_after u p n).started ≡ not (bit_of p (n % p.sum))
-    started-is n = ap (λ (x : UnitPlayed). x.started) (unit-is n)
+    started_is : (n : ℕ) → (unit_after u p n).started ≡ not (bit_of p (n % p.sum))
+    started_is n = ap (λ (x : UnitPlayed). x.started) (unit_is n)
 
     -- the event of the unit, granted, and the bank that it leaves
     abbrev Goes : ℕ → Event → Bool → Type 0
@@ -251,32 +251,32 @@ module _ (p : Plan) (holds : holds_cycle p ≡ true) where
     unfolding step_of
     goes n x bit b e =
         let g : event_answer u (place_after u p n).bank x ≡ Done =
-        ap₂ (λ (k : Bank) (y : Event). event_answer u k y) (bank_is n) (sym e) ∙ granted-event n (told n) in (
+        ap₂ (λ (k : Bank) (y : Event). event_answer u k y) (bank_is n) (sym e) ∙ granted_event n (told n) in (
           g,
           ap (λ (a : Answer). bank_then a (place_after u p n).bank (moved u (place_after u p n).bank x)) g
-              ∙ ap₂ (λ (k : Bank) (y : Event). moved u k y) (bank_is n) (sym e) ∙ sym (bank-next n (told n)) ∙ sym (bank_is (suc n))
+              ∙ ap₂ (λ (k : Bank) (y : Event). moved u k y) (bank_is n) (sym e) ∙ sym (bank_next n (told n)) ∙ sym (bank_is (suc n))
               ∙ ap (λ k. (place_after u p k).bank) (sym (add-one n)),
-          started-is n ∙ ap not b,
+          started_is n ∙ ap not b,
         )
 
-    plays-at : (n : ℕ) → PlaysAt u p n
-    plays-at n = record {
-      position = ap (λ (x : Place). x.position) (place_is n);
-      accepted = ap (λ (x : UnitPlayed). x.answer) (unit-is n);
+    plays_at : (n : ℕ) → PlaysAt u p n
+    plays_at n = record {
+      position = ap (λ (x : Place). x.position) (place_is_lem n);
+      accepted = ap (λ (x : UnitPlayed). x.answer) (unit_is n);
       start = λ e. let b = sym (bit_is n) ∙ e in goes n (Start (tag_of p)) false b (ap (λ b. cond b Tick (Start (tag_of p))) b);
       tick = λ e. let b = sym (bit_is n) ∙ e in goes n Tick true b (ap (λ b. cond b Tick (Start (tag_of p))) b);
     }
 
-    started-falls : (n : ℕ) → (unit_after u p n).started ≡ true → FallsOn cycle n
-    started-falls n e = start_is n (not-true _ (sym (started-is n) ∙ e))
+    started_falls : (n : ℕ) → (unit_after u p n).started ≡ true → FallsOn cycle n
+    started_falls n e = start_is n (not_true _ (sym (started_is n) ∙ e))
 
-    pub never-plays : Plays u p
-    never-plays = record {
-      each = plays-at;
-      starts = λ n. (started-falls n, λ f. started-is n ∙ ap not (falls-bit n f));
+    pub never_plays : Plays u p
+    never_plays = record {
+      each = plays_at;
+      starts = λ n. (started_falls n, λ f. started_is n ∙ ap not (falls_bit n f));
       apart = λ m n h a b clash.
-          let x = started-falls m a in
-          let y = started-falls n b in
-          never x.index y.index (start-order x.index y.index (omega (arith, x.start, y.start)))
+          let x = started_falls m a in
+          let y = started_falls n b in
+          never x.index y.index (start_order x.index y.index (omega (arith, x.start, y.start)))
           (subst₂ (λ (j k : ℕ). Clash (marked u) (task_of p j) (task_of p k)) (sym x.start) (sym y.start) clash);
     }

@@ -27,13 +27,13 @@ pub record Passed (l : List ℕ) (position index next : ℕ) : Type 0 where
 
 module _ (l : List ℕ) (position index next : ℕ) (a : Passed l position index next) where
   -- there is a next one up to the position
-  pub passed-inside : next ≤ position → index < length l
-  passed-inside h =
+  pub passed_inside : next ≤ position → index < length l
+  passed_inside h =
       ⊎_elim (λ e. absurd (omega (arith, a.sum, a.before, sum_all l, ap (λ k. total (take k l)) e))) (λ o. o) (eq-or-lt_of_le a.inside)
 
   pub passed_more : next < position → Passed l position (index + 1) (next + get_or l index 0)
   passed_more h =
-      let i = passed-inside (omega arith) in
+      let i = passed_inside (omega arith) in
       record {
         cycle = a.cycle;
         before = a.before;
@@ -50,4 +50,4 @@ module _ (l : List ℕ) (position index next : ℕ) (a : Passed l position index
       (λ e. eq-eqb next position (sym (eqb-true position next (and_right (ltb index (length l)) _ e))))
       (λ e.
       let s = eqb-true next position e in
-      and_true (lt-ltb index (length l) (passed-inside (omega arith))) (eq-eqb position next (sym s)))
+      and_true (lt-ltb index (length l) (passed_inside (omega arith))) (eq-eqb position next (sym s)))

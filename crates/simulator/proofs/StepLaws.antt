@@ -70,14 +70,14 @@ module _ (u : FunctionUnit) (p : Plan) (i : ℕ) (b : Bank) (r : Playable u p i)
   unfolding step_of
   answered = ap (λ (x : Stepped). x.answer) stepped ∙ ap (event_answer u b) same ∙ ring_answer_lem u p i b r
 
-  pub ring-refused : (why : Refusal) → s.answer ≡ Refused why → stopped why i b ≡ play_of u p i b
+  pub ring_refused : (why : Refusal) → s.answer ≡ Refused why → stopped why i b ≡ play_of u p i b
   unfolding play_of
-  ring-refused why a = sym (ap (λ (x : Answer). playing x u p i b) (sym answered ∙ a))
+  ring_refused why a = sym (ap (λ (x : Answer). playing x u p i b) (sym answered ∙ a))
 
-  pub ring-played : (started : Bool) (next : ℕ) → s.answer ≡ Done → started ≡ is_start e → next ≡ position_after p i
+  pub ring_played : (started : Bool) (next : ℕ) → s.answer ≡ Done → started ≡ is_start e → next ≡ position_after p i
       → ◌≡◌ {A = UnitPlayed} (record { answer = Done; started = started; position = next; bank = s.bank }) (play_of u p i b)
   unfolding play_of step_of
-  ring-played started next a st n =
+  ring_played started next a st n =
       let done : event_answer u b e ≡ Done = ap (event_answer u b) same ∙ ring_answer_lem u p i b r ∙ sym answered ∙ a in
       let bank : s.bank ≡ moved u b (event_of p i) =
       ap (λ (x : Stepped). x.bank) stepped ∙ ap (λ (x : Answer). bank_then x b (moved u b e)) done ∙ ap (moved u b) same in
@@ -98,9 +98,9 @@ ring_done p i e h = rw (e, lt-ltb i p.sum h)
 
 module _ (u : FunctionUnit) (p : Plan) (i : ℕ) (b : Bank) where
   -- a step tests those first
-  ready-first : step_answer u p i b ≡ and_then (and_then (tag_answer u p.tag) (ring_answer p i)) (check (bit_of p i || granted b p.tag) NotGranted Done)
+  ready_first : step_answer u p i b ≡ and_then (and_then (tag_answer u p.tag) (ring_answer p i)) (check (bit_of p i || granted b p.tag) NotGranted Done)
   unfolding step_answer tag_answer
-  ready-first = go (sound_of u) (inside p.tag u.functions) (holds_cycle p && ltb i p.sum)
+  ready_first = go (sound_of u) (inside p.tag u.functions) (holds_cycle p && ltb i p.sum)
     where
       go : (s m r : Bool) → check s NotSound (check m NoSuchTag (check r BadRecord (check (bit_of p i || granted b p.tag) NotGranted Done)))
           ≡ and_then (and_then (check s NotSound (check m NoSuchTag Done)) (check r BadRecord Done)) (check (bit_of p i || granted b p.tag) NotGranted Done)
@@ -113,10 +113,10 @@ module _ (u : FunctionUnit) (p : Plan) (i : ℕ) (b : Bank) where
   unfolding play_of
   step_refused why e =
       sym (ap (λ (x : Answer). playing x u p i b)
-      (ready-first ∙ ap (λ (x : Answer). and_then x (check (bit_of p i || granted b p.tag) NotGranted Done)) e))
+      (ready_first ∙ ap (λ (x : Answer). and_then x (check (bit_of p i || granted b p.tag) NotGranted Done)) e))
 
-  pub step-ready : and_then (tag_answer u p.tag) (ring_answer p i) ≡ Done → Playable u p i
-  step-ready e =
+  pub step_ready : and_then (tag_answer u p.tag) (ring_answer p i) ≡ Done → Playable u p i
+  step_ready e =
       let both = then_both (tag_answer u p.tag) (ring_answer p i) e in
       let ring = check_ok (holds_cycle p && ltb i p.sum) BadRecord Done both.1 in
       record {

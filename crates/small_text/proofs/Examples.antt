@@ -41,33 +41,33 @@ number n = record { verb = Verb.Small; count = 3; first = 1; second = 1; third =
 
 module _ {s : Session} {before after : List ℕ} {t : Reply} where
   -- `small 1 1` is told the totals of that size in every session
-  pub told-one-column : SmallOn s size before after t → Line (ascii "tables 2 at bound 2 largest 1/1 first 0\n") before after t.end
+  pub told_one_column : SmallOn s size before after t → Line (ascii "tables 2 at bound 2 largest 1/1 first 0\n") before after t.end
   unfolding totals_answer
-  told-one-column x =
+  told_one_column x =
       let told = x.totals (omega arith) in
       let f = told.answers.found refl in
       line_as (ap totalled_line f.told ∙ ap totals_line (one_column.only f.totals f.of_size) ∙ one_column_line) told.line
 
   -- and leaves it as it was
-  pub kept-by-totals : SmallOn s size before after t → t.session ≡ s
-  kept-by-totals x = (x.totals (omega arith)).next
+  pub kept_by_totals : SmallOn s size before after t → t.session ≡ s
+  kept_by_totals x = (x.totals (omega arith)).next
 
   -- `small 1 1 1` leaves the table with a mark
-  pub taken-1 : SmallOn s (number 1) before after t → t.session ≡ taken s Done (unit_of 1 1 1 (small_table 1 1 1))
+  pub taken_1 : SmallOn s (number 1) before after t → t.session ≡ taken s Done (unit_of 1 1 1 (small_table 1 1 1))
   unfolding small_table_of small_table_answer
-  taken-1 x = (x.table (omega arith)).next
+  taken_1 x = (x.table (omega arith)).next
 
   -- there is no number 2, and the session stays
-  pub kept-at-2 : SmallOn s (number 2) before after t → t.session ≡ s
+  pub kept_at_2 : SmallOn s (number 2) before after t → t.session ≡ s
   unfolding small_table_of small_table_answer
-  kept-at-2 x = (x.table (omega arith)).next
+  kept_at_2 x = (x.table (omega arith)).next
 
 -- What is not so
 
 -- the totals do not make a unit
 pub not_by_totals : {before after : List ℕ} {t : Reply} → SmallOn opening size before after t → t.session.present ≡ true → ⊥
-not_by_totals x e = nowhere (sym (ap (λ (s : Session). s.present) (kept-by-totals x)) ∙ e)
+not_by_totals x e = nowhere (sym (ap (λ (s : Session). s.present) (kept_by_totals x)) ∙ e)
 
 -- nor does a number that no table has
 pub not_at_2 : {before after : List ℕ} {t : Reply} → SmallOn opening (number 2) before after t → t.session.present ≡ true → ⊥
-not_at_2 x e = nowhere (sym (ap (λ (s : Session). s.present) (kept-at-2 x)) ∙ e)
+not_at_2 x e = nowhere (sym (ap (λ (s : Session). s.present) (kept_at_2 x)) ∙ e)

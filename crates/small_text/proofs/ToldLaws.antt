@@ -26,12 +26,12 @@ told_as s r {a} {b} {zeros} {answer = answer} e f n p l = record { answer = answ
         (subst (λ (x : ℕ). AnswersTotals a x 16000 answer) f (subst (λ (x : ℕ). AnswersTotals a b x answer) n p.answers))
 
 module _ {s : Session} {r : Request} {before after : List ℕ} {t : Reply} where
-  pub on-totals : r.count < 3 → TotalsTold s r before after t → SmallOn s r before after t
-  on-totals few told = record { totals = λ h. told; table = λ h. absurd (omega arith) }
+  pub on_totals : r.count < 3 → TotalsTold s r before after t → SmallOn s r before after t
+  on_totals few told = record { totals = λ h. told; table = λ h. absurd (omega arith) }
 
-  pub on-table : {a b : ℕ} {made : Outcome} → 3 ≤ r.count → a ≡ one r → b ≡ two r → made ≡ small_table_of a b r.third → Made s made before after t
+  pub on_table : {a b : ℕ} {made : Outcome} → 3 ≤ r.count → a ≡ one r → b ≡ two r → made ≡ small_table_of a b r.third → Made s made before after t
       → SmallOn s r before after t
-  on-table {a} {b} many e f m taken = record {
+  on_table {a} {b} many e f m taken = record {
     totals = λ h. absurd (omega arith);
     table = λ h. made_as (m ∙ ap₂ (λ (x y : ℕ). small_table_of x y r.third) e f) taken;
   }

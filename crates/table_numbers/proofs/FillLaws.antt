@@ -59,8 +59,8 @@ column_at s c n k i h = word_set s (λ j. is_set n (j * c + (k - 1))) i h
 
 module _ {s c : ℕ} (m : Sized s c) (n : ℕ) where
   -- it has the marks of the table
-  column-bit : (k : ℕ) → inside k c ≡ true → (y : ℕ) → inside y 16 && is_set (column_word s c n k) (y - 1) ≡ small_table s c n 1 y k
-  column-bit k l y = same_test (inside y 16 && is_set (column_word s c n k) (y - 1)) (small_table s c n 1 y k) there back
+  column_bit : (k : ℕ) → inside k c ≡ true → (y : ℕ) → inside y 16 && is_set (column_word s c n k) (y - 1) ≡ small_table s c n 1 y k
+  column_bit k l y = same_test (inside y 16 && is_set (column_word s c n k) (y - 1)) (small_table s c n 1 y k) there back
     where
       there : inside y 16 && is_set (column_word s c n k) (y - 1) ≡ true → small_table s c n 1 y k ≡ true
       there e =
@@ -81,9 +81,9 @@ module _ {s c : ℕ} (m : Sized s c) (n : ℕ) where
   unfolding table_before
   before_mark k x y z e = (and_left (small_table s c n x y z) _ e, ltb-true z k (and_right (small_table s c n x y z) _ e))
 
-  mark-before : (k x y z : ℕ) → small_table s c n x y z ≡ true → z < k → table_before s c n k x y z ≡ true
+  mark_before : (k x y z : ℕ) → small_table s c n x y z ≡ true → z < k → table_before s c n k x y z ≡ true
   unfolding table_before
-  mark-before k x y z e l = and_true e (lt-ltb z k l)
+  mark_before k x y z e l = and_true e (lt-ltb z k l)
 
   of_size : (k : ℕ) → HasSize s c (table_before s c n k)
   of_size k x y z e = (small_mark s c n x y z (before_mark k x y z e).0).0
@@ -107,15 +107,15 @@ module _ {s c : ℕ} (m : Sized s c) (n : ℕ) where
           go true e =
               let p = eqb-true x 1 (and_left (eqb x 1) _ e) in
               let q = eqb-true z k (and_right (eqb x 1) _ e) in
-              rw (p, q) (column-bit k l y
+              rw (p, q) (column_bit k l y
               ∙ same_test (small_table s c n 1 y k) (table_before s c n (k + 1) 1 y k)
-              (λ h. mark-before (k + 1) 1 y k h (omega arith))
+              (λ h. mark_before (k + 1) 1 y k h (omega arith))
               (λ h. (before_mark (k + 1) 1 y k h).0))
           go false e =
               same_test (table_before s c n k x y z) (table_before s c n (k + 1) x y z)
-              (λ h. let a = before_mark k x y z h in mark-before (k + 1) x y z a.0 (omega (arith, a.1)))
+              (λ h. let a = before_mark k x y z h in mark_before (k + 1) x y z a.0 (omega (arith, a.1)))
               (λ h. let a = before_mark (k + 1) x y z h in
-              mark-before k x y z a.0 (below (of_size (k + 1) x y z h).tag a.1 (eqb z k) refl))
+              mark_before k x y z a.0 (below (of_size (k + 1) x y z h).tag a.1 (eqb z k) refl))
             where
               below : x ≡ 1 → z < k + 1 → (g : Bool) → eqb z k ≡ g → z < k
               below p q true g = nowhere (sym e ∙ and_true (eq-eqb x 1 p) g)
@@ -128,7 +128,7 @@ module _ {s c : ℕ} (m : Sized s c) (n : ℕ) where
       at x y z =
           same_test (table_before s c n (c + 1) x y z) (small_table s c n x y z)
           (λ h. (before_mark (c + 1) x y z h).0)
-          (λ h. let w = within z c (small_mark s c n x y z h).0.column in mark-before (c + 1) x y z h (omega arith))
+          (λ h. let w = within z c (small_mark s c n x y z h).0.column in mark_before (c + 1) x y z h (omega arith))
 
   -- The unit that was filled so far
 
@@ -138,8 +138,8 @@ module _ {s c : ℕ} (m : Sized s c) (n : ℕ) where
   pub counts_good : good_counts 1 s c ≡ true
   counts_good = and_true (inside_of s 16 m.segments1 (omega (arith, m.segments2))) (inside_of c 32 m.columns1 (omega (arith, m.columns6)))
 
-  pub size-inside : (T : Table) → HasSize s c T → InCounts 1 s c T
-  size-inside T h x y z e =
+  pub size_inside : (T : Table) → HasSize s c T → InCounts 1 s c T
+  size_inside T h x y z e =
       let o = h x y z e in
       let a = within y s o.segment in
       let b = within z c o.column in
@@ -147,10 +147,10 @@ module _ {s c : ℕ} (m : Sized s c) (n : ℕ) where
       (somewhere_of x y z (omega arith) (omega arith) a.least (omega (arith, m.segments2)) b.least (omega (arith, m.columns6)), omega arith, a.most, b.most)
 
   -- one column more
-  pub unit-more : (k : ℕ) → 1 ≤ k → k ≤ c → (column_of (unit_before s c n k) 1 k (column_word s c n k)).unit ≡ unit_before s c n (k + 1)
-  unit-more k k1 k2 =
+  pub unit_more : (k : ℕ) → 1 ≤ k → k ≤ c → (column_of (unit_before s c n k) 1 k (column_word s c n k)).unit ≡ unit_before s c n (k + 1)
+  unit_more k k1 k2 =
       let l = inside_of k c k1 k2 in
-      unit_of_column 1 s c (table_before s c n k) (table_before s c n (k + 1)) 1 k (column_word s c n k) counts_good (size-inside (table_before s c n k) (of_size k))
+      unit_of_column 1 s c (table_before s c n k) (table_before s c n (k + 1)) 1 k (column_word s c n k) counts_good (size_inside (table_before s c n k) (of_size k))
       refl l (column_lt s c n k) (before_more k l)
 
   pub unit_end : unit_before s c n (c + 1) ≡ unit_of 1 s c (small_table s c n)

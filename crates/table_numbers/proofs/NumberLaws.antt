@@ -80,18 +80,18 @@ mark_small s c n q r k o e = and_true (eq-eqb q 1 o.tag) (and_true o.segment (an
 
 module _ (s c : ℕ) (pos : 1 ≤ c) where
   -- bit i of the number is the mark at place i
-  pub small-bit : (n i : ℕ) → i < s * c → small_table s c n 1 (i / c + 1) (i % c + 1) ≡ is_set n i
-  small-bit n i l =
+  pub small_bit : (n i : ℕ) → i < s * c → small_table s c n 1 (i / c + 1) (i % c + 1) ≡ is_set n i
+  small_bit n i l =
       let p = spot s c i pos l in
       same_test (small_table s c n 1 (i / c + 1) (i % c + 1)) (is_set n i)
       (λ e. sym (ap (is_set n) p.place) ∙ (small_mark s c n 1 (i / c + 1) (i % c + 1) e).1)
       (λ e. mark_small s c n 1 (i / c + 1) (i % c + 1) (record { tag = refl; segment = p.segment; column = p.column }) (ap (is_set n) p.place ∙ e))
 
-  pub number-of-small : (n : ℕ) → n < table_count s c → number_of_table s c (small_table s c n) ≡ n
+  pub number_of_small : (n : ℕ) → n < table_count s c → number_of_table s c (small_table s c n) ≡ n
   unfolding number_of_table
-  number-of-small n l =
+  number_of_small n l =
       same_bits (s * c) (number_of_table s c (small_table s c n)) n (word_lt (s * c) marks) l
-      (λ i h. word_set (s * c) marks i h ∙ small-bit n i h)
+      (λ i h. word_set (s * c) marks i h ∙ small_bit n i h)
     where
       marks : ℕ → Bool
       marks i = small_table s c n 1 (i / c + 1) (i % c + 1)
@@ -107,8 +107,8 @@ module _ (s c : ℕ) (pos : 1 ≤ c) where
       word_set (s * c) (λ x. T 1 (x / c + 1) (x % c + 1)) ((r - 1) * c + (k - 1)) p.below
       ∙ ap (λ x. T 1 x (((r - 1) * c + (k - 1)) % c + 1)) p.segment ∙ ap (T 1 r) p.column
 
-  pub small-of-number : (T : Table) → HasSize s c T → small_table s c (number_of_table s c T) ≡ T
-  small-of-number T h = λ i q r k. at q r k i
+  pub small_of_number : (T : Table) → HasSize s c T → small_table s c (number_of_table s c T) ≡ T
+  small_of_number T h = λ i q r k. at q r k i
     where
       at : (q r k : ℕ) → small_table s c (number_of_table s c T) q r k ≡ T q r k
       at q r k =

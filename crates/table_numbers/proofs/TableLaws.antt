@@ -11,11 +11,11 @@ use Rattle.unit.specs.declared.Answer.TheVariants.{Done, Refused}
 use Rattle.unit.specs.Unit.{sound_of, marked}
 use Rattle.unit.specs.Calls.{check, tag_answer, outcome, blank, unit_of}
 use Rattle.unit.proofs.Laws.{check_ok}
-use Rattle.unit.proofs.TableLaws.{InCounts, unit-of-table, unit-of-sound}
+use Rattle.unit.proofs.TableLaws.{InCounts, unit_of_table, unit_of_sound}
 use Rattle.table_numbers.specs.Tables.{small_size, table_count, count_answer, small_table, small_table_answer, small_table_of}
 use Rattle.table_numbers.specs.Inner.{Sized}
 use Rattle.table_numbers.proofs.NumberLaws.{small_mark}
-use Rattle.table_numbers.proofs.FillLaws.{sized, counts_good, size-inside}
+use Rattle.table_numbers.proofs.FillLaws.{sized, counts_good, size_inside}
 
 -- an accepted number is one of a small table
 pub record Accepted (s c n : ℕ) : Type 0 where
@@ -55,16 +55,16 @@ unfolding small_table_of
 table_made s c n e l = ap (λ a. outcome a (blank 0 0 0) (unit_of 1 s c (small_table s c n))) (table_done s c n e l)
 
 module _ {s c : ℕ} (m : Sized s c) (n : ℕ) where
-  small-inside : InCounts 1 s c (small_table s c n)
-  small-inside = size-inside m n (small_table s c n) (λ q r k e. (small_mark s c n q r k e).0)
+  small_inside : InCounts 1 s c (small_table s c n)
+  small_inside = size_inside m n (small_table s c n) (λ q r k e. (small_mark s c n q r k e).0)
 
-  pub table-sound : sound_of (unit_of 1 s c (small_table s c n)) ≡ true
-  table-sound = unit-of-sound 1 s c (small_table s c n) (counts_good m n) small-inside
+  pub table_sound : sound_of (unit_of 1 s c (small_table s c n)) ≡ true
+  table_sound = unit_of_sound 1 s c (small_table s c n) (counts_good m n) small_inside
 
-  pub table-marked : marked (unit_of 1 s c (small_table s c n)) ≡ small_table s c n
-  table-marked = unit-of-table 1 s c (small_table s c n) (λ q r k e. (small-inside q r k e).0)
+  pub table_marked : marked (unit_of 1 s c (small_table s c n)) ≡ small_table s c n
+  table_marked = unit_of_table 1 s c (small_table s c n) (λ q r k e. (small_inside q r k e).0)
 
   -- it is a unit with function 1
-  pub table-tag : tag_answer (unit_of 1 s c (small_table s c n)) 1 ≡ Done
+  pub table_tag : tag_answer (unit_of 1 s c (small_table s c n)) 1 ≡ Done
   unfolding tag_answer unit_of
-  table-tag = simp table-sound
+  table_tag = simp table_sound

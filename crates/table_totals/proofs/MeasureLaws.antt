@@ -27,7 +27,7 @@ use Rattle.diagram.specs.Diagram.{width}
 use Rattle.diagram.specs.Answers.{states_of}
 use Rattle.diagram.proofs.Vectors.{vector_is}
 use Rattle.diagram.proofs.WidthLaws.{width_top}
-use Rattle.diagram.proofs.Listing.{states-distinct}
+use Rattle.diagram.proofs.Listing.{states_distinct}
 use Rattle.diagram.proofs.StateLaws.{states_width}
 use Rattle.diagram.proofs.Pigeon.{pigeon}
 use Rattle.planner.specs.Plans.{Best, search_answer, SearchPromise}
@@ -35,7 +35,7 @@ use Rattle.table_numbers.specs.Tables.{small_size, table_count, small_table, all
 use Rattle.table_numbers.specs.Inner.{Sized}
 use Rattle.table_numbers.proofs.NumberLaws.{small_mark}
 use Rattle.table_numbers.proofs.ListLaws.{tables_at}
-use Rattle.table_numbers.proofs.TableLaws.{table_made, table-marked, table-tag}
+use Rattle.table_numbers.proofs.TableLaws.{table_made, table_marked, table_tag}
 use Rattle.table_totals.specs.Totals.{totals_answer}
 use Rattle.table_totals.specs.Inner.{Measured}
 
@@ -74,7 +74,7 @@ bits_few n l d b = pigeon (2 ^ n) (length l) (λ i. get_or l i 0) b (λ i j h k 
 
 module _ {s c : ℕ} (m : Sized s c) (n : ℕ) where
   pub bounded : Bounded (small_table s c n)
-  bounded = subst Bounded (table-marked m n) (marked_bounded (unit_of 1 s c (small_table s c n)))
+  bounded = subst Bounded (table_marked m n) (marked_bounded (unit_of 1 s c (small_table s c n)))
 
   narrow : width (vector_word (small_table s c n) 1) ≤ 5
   narrow = go (dec_lt 0 (width (vector_word (small_table s c n) 1)))
@@ -83,27 +83,27 @@ module _ {s c : ℕ} (m : Sized s c) (n : ℕ) where
       go (yes l) = near m n (width (vector_word (small_table s c n) 1)) (((vector_is (small_table s c n) bounded 1).bits (width (vector_word (small_table s c n) 1)) l).0 (width_top (vector_word (small_table s c n) 1) l))
       go (no l) = omega arith
 
-  few-states : length (states_of 1 (small_table s c n) 1) ≤ 256
-  few-states =
+  few_states_lem : length (states_of 1 (small_table s c n) 1) ≤ 256
+  few_states_lem =
       let v : ℕ = vector_word (small_table s c n) 1 in
-      let f = bits_few (width v) (states_of 1 (small_table s c n) 1) (states-distinct 1 (width v) v 256) (states_width 256 1 v (row_lt (small_table s c n) 1 1)) in
+      let f = bits_few (width v) (states_of 1 (small_table s c n) 1) (states_distinct 1 (width v) v 256) (states_width 256 1 v (row_lt (small_table s c n) 1 1)) in
       let k : 2 ^ width v ≤ 2 ^ 8 = let w : width v ≤ 8 = omega (arith, narrow) in pow_mono w in
       omega arith
 
   -- the search of its unit is refused by 5 alone
-  pub search-answer : small_size s c ≡ true → (room : ℕ) → search_answer (unit_of 1 s c (small_table s c n)) 1 room ≡ totals_answer s c room
+  pub search_answer_lem : small_size s c ≡ true → (room : ℕ) → search_answer (unit_of 1 s c (small_table s c n)) 1 room ≡ totals_answer s c room
   unfolding search_answer totals_answer
-  search-answer small room =
-      let f : leb (length (states_of 1 (small_table s c n) 1)) 256 ≡ true = le-leb (length (states_of 1 (small_table s c n) 1)) 256 few-states in
-      simp (small, table-tag m n, table-marked m n, f)
+  search_answer_lem small room =
+      let f : leb (length (states_of 1 (small_table s c n) 1)) 256 ≡ true = le-leb (length (states_of 1 (small_table s c n) 1)) 256 few_states_lem in
+      simp (small, table_tag m n, table_marked m n, f)
 
   search_done : small_size s c ≡ true → (room : ℕ) → 16000 ≤ room → search_answer (unit_of 1 s c (small_table s c n)) 1 room ≡ Done
   unfolding totals_answer
-  search_done small room l = search-answer small room ∙ simp (small, le-leb 16000 room l)
+  search_done small room l = search_answer_lem small room ∙ simp (small, le-leb 16000 room l)
 
   -- the unit has function 1
-  pub function-one : {made : Outcome} → small_size s c ≡ true → n < table_count s c → made ≡ small_table_of s c n → tag_answer made.unit 1 ≡ Done
-  function-one small below e = ap (λ (o : Outcome). tag_answer o.unit 1) (e ∙ table_made s c n small below) ∙ table-tag m n
+  pub function_one : {made : Outcome} → small_size s c ≡ true → n < table_count s c → made ≡ small_table_of s c n → tag_answer made.unit 1 ≡ Done
+  function_one small below e = ap (λ (o : Outcome). tag_answer o.unit 1) (e ∙ table_made s c n small below) ∙ table_tag m n
 
   -- what it finds
   pub measured : {before words : List ℕ} {made searched : Outcome} {bound r : ℕ} → small_size s c ≡ true → n < table_count s c → 16000 ≤ length before
@@ -114,7 +114,7 @@ module _ {s c : ℕ} (m : Sized s c) (n : ℕ) where
       → Measured (all_tables s c) n before words (record { sum = searched.unit.plan.sum; count = searched.unit.plan.count; reaching = r })
   measured {before} {words} {made} {searched} {bound} {r} small below room e promise b h low =
       let u : made.unit ≡ unit_of 1 s c (small_table s c n) = ap (λ (o : Outcome). o.unit) (e ∙ table_made s c n small below) in
-      let T : marked made.unit ≡ nth_table (all_tables s c) n = ap marked u ∙ table-marked m n ∙ sym (tables_at s c n below) in
+      let T : marked made.unit ≡ nth_table (all_tables s c) n = ap marked u ∙ table_marked m n ∙ sym (tables_at s c n below) in
       let done : searched.answer ≡ Done = promise.says ∙ ap (λ (v : FunctionUnit). search_answer v 1 (length before)) u ∙ search_done small (length before) room in
       let f = promise.found done in
       let sum : searched.unit.plan.sum ≡ total f.cycle = ap (λ (v : FunctionUnit). v.plan.sum) f.unit in

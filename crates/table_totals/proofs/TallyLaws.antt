@@ -48,39 +48,39 @@ module _ {L : List Table} {n : ℕ} {t : Tally} {before words : List ℕ} {a : A
   cycles : ℕ → List ℕ
   cycles m = cond (eqb m n) one.cycle (all.best m)
 
-  cycles-next : (m : ℕ) → m ≡ n → cycles m ≡ one.cycle
+  cycles_next : (m : ℕ) → m ≡ n → cycles m ≡ one.cycle
   unfolding cycles
-  cycles-next m e = rw (eq-eqb m n e)
+  cycles_next m e = rw (eq-eqb m n e)
 
-  cycles-before : (m : ℕ) → m < n → cycles m ≡ all.best m
+  cycles_before : (m : ℕ) → m < n → cycles m ≡ all.best m
   unfolding cycles
-  cycles-before m l = rw (ne_eqb m n (λ e. omega arith))
+  cycles_before m l = rw (ne_eqb m n (λ e. omega arith))
 
   -- what holds of the next table and of those before holds of all
   every : (P : ℕ → List ℕ → Type 0) → P n one.cycle → ((m : ℕ) → m < n → P m (all.best m)) → (m : ℕ) → m < n + 1 → P m (cycles m)
   every P next old m l = go (eq-or-lt_of_le {n = m} {m = n} (omega arith))
     where
       go : (m ≡ n) ⊎ (m < n) → P m (cycles m)
-      go (inl e) = subst (λ k. P m k) (sym (cycles-next m e)) (subst (λ k. P k one.cycle) (sym e) next)
-      go (inr h) = subst (λ k. P m k) (sym (cycles-before m h)) (old m h)
+      go (inl e) = subst (λ k. P m k) (sym (cycles_next m e)) (subst (λ k. P k one.cycle) (sym e) next)
+      go (inr h) = subst (λ k. P m k) (sym (cycles_before m h)) (old m h)
 
   counted : t.reaching + a.reaching ≡ count_below (n + 1) (λ m. at_bound (nth_table L m) (cycles m))
   counted =
-      let old = count_same n (λ m. at_bound (nth_table L m) (cycles m)) (λ m. at_bound (nth_table L m) (all.best m)) (λ m l. ap (at_bound (nth_table L m)) (cycles-before m l)) in
-      let new : cond (at_bound (nth_table L n) (cycles n)) 1 0 ≡ a.reaching = ap (λ k. cond (at_bound (nth_table L n) k) 1 0) (cycles-next n refl) ∙ sym one.reaching in
+      let old = count_same n (λ m. at_bound (nth_table L m) (cycles m)) (λ m. at_bound (nth_table L m) (all.best m)) (λ m l. ap (at_bound (nth_table L m)) (cycles_before m l)) in
+      let new : cond (at_bound (nth_table L n) (cycles n)) 1 0 ≡ a.reaching = ap (λ k. cond (at_bound (nth_table L n) k) 1 0) (cycles_next n refl) ∙ sym one.reaching in
       omega (arith, count_more n (λ m. at_bound (nth_table L m) (cycles m)), all.by.reaching)
 
-  tally-larger : t.sum * a.count < a.sum * t.count
+  tally_larger : t.sum * a.count < a.sum * t.count
       → TalliedBy L (n + 1) cycles (record { reaching = t.reaching + a.reaching; sum = a.sum; count = a.count; first = n })
-  tally-larger l = record {
+  tally_larger l = record {
     bests = every (λ m k. Best 1 (nth_table L m) 1 k) one.best all.by.bests;
     reaching = counted;
     inside = omega arith;
-    sum = one.sum ∙ ap total (sym (cycles-next n refl));
-    count = one.count ∙ ap length (sym (cycles-next n refl));
+    sum = one.sum ∙ ap total (sym (cycles_next n refl));
+    count = one.count ∙ ap length (sym (cycles_next n refl));
     fitting = one.fitting;
     largest = every (λ m k. total k * a.count ≤ a.sum * length k) (rw (one.sum, one.count) (le_refl _)) (λ m h. (less m h).0);
-    earlier = λ m h. subst (λ k. total k * a.count < a.sum * length k) (sym (cycles-before m h)) (less m h).1;
+    earlier = λ m h. subst (λ k. total k * a.count < a.sum * length k) (sym (cycles_before m h)) (less m h).1;
   }
     where
       less : (m : ℕ) → m < n → (total (all.best m) * a.count ≤ a.sum * length (all.best m)) × (total (all.best m) * a.count < a.sum * length (all.best m))
@@ -88,28 +88,28 @@ module _ {L : List Table} {n : ℕ} {t : Tally} {before words : List ℕ} {a : A
           let x = below (total (all.best m)) (length (all.best m)) t.sum t.count a.sum a.count (all.by.bests m h).latencies.nonempty (all.by.largest m h) l in
           (omega arith, x)
 
-  tally-other : a.sum * t.count ≤ t.sum * a.count
+  tally_other : a.sum * t.count ≤ t.sum * a.count
       → TalliedBy L (n + 1) cycles (record { reaching = t.reaching + a.reaching; sum = t.sum; count = t.count; first = t.first })
-  tally-other l = record {
+  tally_other l = record {
     bests = every (λ m k. Best 1 (nth_table L m) 1 k) one.best all.by.bests;
     reaching = counted;
     inside = omega (arith, all.by.inside);
-    sum = all.by.sum ∙ ap total (sym (cycles-before t.first all.by.inside));
-    count = all.by.count ∙ ap length (sym (cycles-before t.first all.by.inside));
+    sum = all.by.sum ∙ ap total (sym (cycles_before t.first all.by.inside));
+    count = all.by.count ∙ ap length (sym (cycles_before t.first all.by.inside));
     fitting = all.by.fitting;
     largest = every (λ m k. total k * t.count ≤ t.sum * length k) (rw (one.sum, one.count) at l) all.by.largest;
     earlier = λ m h. let i : m < n = omega (arith, all.by.inside) in
-        subst (λ k. total k * t.count < t.sum * length k) (sym (cycles-before m i)) (all.by.earlier m h);
+        subst (λ k. total k * t.count < t.sum * length k) (sym (cycles_before m i)) (all.by.earlier m h);
   }
 
-  pub tally-more : (r : Tally) → Added t a n r → Tallied L (n + 1) r
-  tally-more r j = go (dec_lt (t.sum * a.count) (a.sum * t.count))
+  pub tally_more : (r : Tally) → Added t a n r → Tallied L (n + 1) r
+  tally_more r j = go (dec_lt (t.sum * a.count) (a.sum * t.count))
     where
       go : Dec (t.sum * a.count < a.sum * t.count) → Tallied L (n + 1) r
-      go (yes l) = record { best = cycles; by = subst (λ (x : Tally). TalliedBy L (n + 1) cycles x) (sym (j.larger l)) (tally-larger l) }
+      go (yes l) = record { best = cycles; by = subst (λ (x : Tally). TalliedBy L (n + 1) cycles x) (sym (j.larger l)) (tally_larger l) }
       go (no k) =
           let l : a.sum * t.count ≤ t.sum * a.count = omega arith in
-          record { best = cycles; by = subst (λ (x : Tally). TalliedBy L (n + 1) cycles x) (sym (j.other l)) (tally-other l) }
+          record { best = cycles; by = subst (λ (x : Tally). TalliedBy L (n + 1) cycles x) (sym (j.other l)) (tally_other l) }
 
 -- the largest average in lowest terms
 pub tally_end : {L : List Table} (n : ℕ) (t : Tally) (p q : ℕ) → n ≡ length L → Tallied L n t → Reduced t.sum t.count p q

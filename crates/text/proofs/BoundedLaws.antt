@@ -46,10 +46,10 @@ put_room m p room = omega (arith, p.few, wrote_length p.wrote)
 -- Number by number, each of the texts of at most k bytes
 
 module _ {before : List ℕ} {at : ℕ} where
-  pub put-join-start : (k : ℕ) (f : ℕ → List ℕ) → at ≤ length before → Put (k * 0) before at (join_below 0 f) before at
+  pub put_join_start : (k : ℕ) (f : ℕ → List ℕ) → at ≤ length before → Put (k * 0) before at (join_below 0 f) before at
   unfolding join_below
-  put-join-start k f h = put_as (put_start before at h) refl (omega arith)
+  put_join_start k f h = put_as (put_start before at h) refl (omega arith)
 
-  pub put-join-more : {mid : List ℕ} {e : ℕ} {after : List ℕ} {end : ℕ} (k n : ℕ) (f : ℕ → List ℕ)
+  pub put_join_more : {mid : List ℕ} {e : ℕ} {after : List ℕ} {end : ℕ} (k n : ℕ) (f : ℕ → List ℕ)
       → Put (k * n) before at (join_below n f) mid e → Put k mid e (f n) after end → Put (k * (n + 1)) before at (join_below (n + 1) f) after end
-  put-join-more k n f p q = put_as (put_more p q) (sym (join_more n f)) (omega (arith, mul-add k n 1))
+  put_join_more k n f p q = put_as (put_more p q) (sym (join_more n f)) (omega (arith, mul-add k n 1))

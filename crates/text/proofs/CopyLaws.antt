@@ -17,8 +17,8 @@ pub copied_start : (bytes : List ℕ) (at : ℕ) (text : List ℕ) → bytes ≡
 copied_start bytes at text = sym (placed_none bytes at)
 
 module _ (bytes : List ℕ) (at : ℕ) (text : List ℕ) (fits : at + length text ≤ length bytes) where
-  pub copied-length : (i : ℕ) → i ≤ length text → length (copied bytes at text i) ≡ length bytes
-  copied-length i h = let l : length (take i text) ≡ i = length-take-le i text h in placed_length bytes at (take i text) (omega arith)
+  pub copied_length : (i : ℕ) → i ≤ length text → length (copied bytes at text i) ≡ length bytes
+  copied_length i h = let l : length (take i text) ≡ i = length-take-le i text h in placed_length bytes at (take i text) (omega arith)
 
   pub copied_more : (i : ℕ) → i < length text → set (copied bytes at text i) (at + i) (get_or text i 0) ≡ copied bytes at text (i + 1)
   copied_more i h =

@@ -12,7 +12,7 @@ use Rattle.table_numbers.proofs.TableLaws.{table_made}
 use Rattle.table_totals.specs.declared.Totalled.{Totalled}
 use Rattle.table_totals.specs.declared.Totalled.TheVariants as Totalled
 use Rattle.table_totals.specs.Totals.{totals_answer}
-use Rattle.table_totals.proofs.MeasureLaws.{search-answer}
+use Rattle.table_totals.proofs.MeasureLaws.{search_answer_lem}
 use Rattle.total_claims.specs.Claims.{OneAnswer, AsSearch, Coprime}
 use Rattle.total_claims.proofs.UniqueLaws.{one_totals}
 
@@ -28,7 +28,7 @@ one_answer s c room room' x y same p q = go (totals_answer s c room) refl
     go (Refused why) e = p.refused why e ∙ sym (q.refused why (sym same ∙ e))
 
 pub as_search : AsSearch
-as_search s c n room e l = ap (λ (o : Outcome). search_answer o.unit 1 room) (table_made s c n e l) ∙ search-answer (sized s c e) n e room
+as_search s c n room e l = ap (λ (o : Outcome). search_answer o.unit 1 room) (table_made s c n e l) ∙ search_answer_lem (sized s c e) n e room
 
 -- in lowest terms there is no common divisor but 1
 pub coprime : Coprime

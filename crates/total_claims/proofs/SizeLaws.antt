@@ -12,9 +12,9 @@ use Rattle.collision.specs.Vector.{collides, row_word, vector_word, bound_of}
 use Rattle.clique_size.specs.Largest.{most_of, largest_clique}
 use Rattle.diagram.specs.States.{expand, list_from}
 use Rattle.planner.specs.Plans.{Best}
-use Rattle.papers.proofs.PotentialLaws.{isPotential}
-use Rattle.papers.proofs.CycleLaws.{is_first, isCycle}
-use Rattle.papers.proofs.DiagramLaws.{Computed, best-computed}
+use Rattle.papers.proofs.PotentialLaws.{is_potential}
+use Rattle.papers.proofs.CycleLaws.{is_first, is_cycle}
+use Rattle.papers.proofs.DiagramLaws.{Computed, best_computed}
 use Rattle.table_numbers.specs.Tables.{table_count, small_table, all_tables, nth_table}
 use Rattle.table_numbers.specs.Inner.{Sized}
 use Rattle.table_numbers.proofs.ListLaws.{tables_length, tables_at}
@@ -40,16 +40,16 @@ listed_count s c best =
 -- A table where no latency is forbidden
 
 pub best_one : {s c : ℕ} → Sized s c → (n : ℕ) → vector_word (small_table s c n) 1 ≡ 0 → Best 1 (small_table s c n) 1 (1 ∷ [])
-unfolding span_below expand list_from isCycle isPotential is_first
-best_one {s} {c} m n e = (best-computed computed (1 ∷ []) 1 (record { heights = []; closed = refl; potential = refl; rotation = refl; sums = refl })).best
+unfolding span_below expand list_from is_cycle is_potential is_first
+best_one {s} {c} m n e = (best_computed computed (1 ∷ []) 1 (record { heights = []; closed = refl; potential = refl; rotation = refl; sums = refl })).best
   where
     computed : Computed (small_table s c n) 1 0 0 (0 ∷ [])
     computed = record { bounded = bounded m n; vector = e; wide = refl; listed = refl; few = refl }
 
 -- and one where 1 is the only forbidden one
 best_two : {s c : ℕ} → Sized s c → (n : ℕ) → vector_word (small_table s c n) 1 ≡ 1 → Best 1 (small_table s c n) 1 (2 ∷ [])
-unfolding span_below expand list_from isCycle isPotential is_first
-best_two {s} {c} m n e = (best-computed computed (2 ∷ []) 2 (record { heights = []; closed = refl; potential = refl; rotation = refl; sums = refl })).best
+unfolding span_below expand list_from is_cycle is_potential is_first
+best_two {s} {c} m n e = (best_computed computed (2 ∷ []) 2 (record { heights = []; closed = refl; potential = refl; rotation = refl; sums = refl })).best
   where
     computed : Computed (small_table s c n) 1 1 1 (1 ∷ [])
     computed = record { bounded = bounded m n; vector = e; wide = refl; listed = refl; few = refl }

@@ -44,9 +44,9 @@ module _ (u : FunctionUnit) (q s c w : ℕ) (b : Bool) (r : Ranges u q s c) (n :
   below : place q c < length u.marks
   below = omega arith
 
-  edit-at : (x y z : ℕ) → marked (with_word u q c w) x y z ≡ changed (marked u) q s c b x y z
+  edit_at : (x y z : ℕ) → marked (with_word u q c w) x y z ≡ changed (marked u) q s c b x y z
   unfolding marked
-  edit-at x y z = go (eqb x q && (eqb y s && eqb z c)) refl
+  edit_at x y z = go (eqb x q && (eqb y s && eqb z c)) refl
     where
       go : (t : Bool) → eqb x q && (eqb y s && eqb z c) ≡ t
           → somewhere x y z && is_set (get_or (set u.marks (place q c) w) (place x z) 0) (y - 1) ≡ cond t b (marked u x y z)
@@ -65,12 +65,12 @@ module _ (u : FunctionUnit) (q s c w : ℕ) (b : Bool) (r : Ranges u q s c) (n :
           (apart q s c x y z r.tag1 r.segment1 r.column1 r.column32 h
           (λ p p2 p3. nowhere (sym e ∙ simp (eq-eqb x q p, eq-eqb y s p2, eq-eqb z c p3)))))
 
-  edit-table : marked (with_word u q c w) ≡ changed (marked u) q s c b
-  edit-table = λ i x y z. edit-at x y z i
+  edit_table : marked (with_word u q c w) ≡ changed (marked u) q s c b
+  edit_table = λ i x y z. edit_at x y z i
 
   -- a mark of the edited unit is an old one, or lies at the accepted place
-  edit-inside : Inside u → Inside (with_word u q c w)
-  edit-inside h x y z e =
+  edit_inside : Inside u → Inside (with_word u q c w)
+  edit_inside h x y z e =
       by_test (eqb x q && (eqb y s && eqb z c))
       (λ t.
       let p = eqb-true x q (and_left (eqb x q) _ t) in
@@ -78,22 +78,22 @@ module _ (u : FunctionUnit) (q s c w : ℕ) (b : Bool) (r : Ranges u q s c) (n :
       let p2 = eqb-true y s (and_left (eqb y s) _ g) in
       let p3 = eqb-true z c (and_right (eqb y s) _ g) in
       (omega (arith, r.functions), omega (arith, r.segments), omega (arith, r.columns)))
-      (λ t. h x y z (sym (ap (λ k. cond k b (marked u x y z)) t) ∙ sym (edit-at x y z) ∙ e))
+      (λ t. h x y z (sym (ap (λ k. cond k b (marked u x y z)) t) ∙ sym (edit_at x y z) ∙ e))
 
-  edit-sound : sound_of u ≡ true → sound_of (with_word u q c w) ≡ true
+  edit_sound : sound_of u ≡ true → sound_of (with_word u q c w) ≡ true
   unfolding no_plan
-  edit-sound h =
+  edit_sound h =
       let k = sound_has u h in
       sound_of_lem (with_word u q c w) (record {
         functions = k.functions;
         segments = k.segments;
         columns = k.columns;
         plan = refl;
-        marks = inside_test (with_word u q c w) (edit-inside (inside_means u k.marks));
+        marks = inside_test (with_word u q c w) (edit_inside (inside_means u k.marks));
       })
 
-  edit-words : Words u → w < 2 ^ 16 → Words (with_word u q c w)
-  edit-words m l = record { count = length-set u.marks (place q c) w ∙ n; small = λ k. small k (ℕ_discrete k (place q c)) }
+  edit_words : Words u → w < 2 ^ 16 → Words (with_word u q c w)
+  edit_words m l = record { count = length-set u.marks (place q c) w ∙ n; small = λ k. small k (ℕ_discrete k (place q c)) }
     where
       small : (k : ℕ) → Dec (k ≡ place q c) → get_or (set u.marks (place q c) w) k 0 < 2 ^ 16
       small k (yes e) = rw (e, get_or-set_same u.marks (place q c) w 0 below) l
@@ -116,13 +116,13 @@ edited : (u : FunctionUnit) (q s c w : ℕ) (b : Bool) → Words u → spot_answ
 edited u q s c w b n e d l =
     let r = edit_ranges u q s c e in
     record {
-      table = edit-table u q s c w b r n.count d;
+      table = edit_table u q s c w b r n.count d;
       functions = refl;
       segments = refl;
       columns = refl;
       plan = refl;
-      sound = edit-sound u q s c w b r n.count d (accepted u q s c e).sound;
-      words = edit-words u q s c w b r n.count d n l;
+      sound = edit_sound u q s c w b r n.count d (accepted u q s c e).sound;
+      words = edit_words u q s c w b r n.count d n l;
     }
 
 pub mark_accepted : (u : FunctionUnit) (q s c : ℕ) → Words u → spot_answer u q s c ≡ Done → Edited u (mark_of u q s c).unit q s c true

@@ -39,9 +39,9 @@ abbrev table_word : Table → ℕ → ℕ
 table_word T i = word_below 16 (λ r. T (i / 32 + 1) (r + 1) (i % 32 + 1))
 
 module _ (f s c : ℕ) (T : Table) where
-  pub unit-of-words : Words (unit_of f s c T)
+  pub unit_of_words : Words (unit_of f s c T)
   unfolding unit_of
-  unit-of-words = record { count = list_length 128 (table_word T); small = λ k. small k (dec_lt k 128) }
+  unit_of_words = record { count = list_length 128 (table_word T); small = λ k. small k (dec_lt k 128) }
     where
       small : (k : ℕ) → Dec (k < 128) → get_or (list_below 128 (table_word T)) k 0 < 2 ^ 16
       small k (yes l) = rw (list_at 128 (table_word T) k l) (word_lt 16 (λ r. T (k / 32 + 1) (r + 1) (k % 32 + 1)))
@@ -49,9 +49,9 @@ module _ (f s c : ℕ) (T : Table) where
           let l : length (list_below 128 (table_word T)) ≤ k = omega (arith, list_length 128 (table_word T)) in
           rw (get_or-eq_default (list_below 128 (table_word T)) 0 l) (omega arith)
 
-  pub unit-of-at : (q r k : ℕ) → somewhere q r k ≡ true → marked (unit_of f s c T) q r k ≡ T q r k
+  pub unit_of_at : (q r k : ℕ) → somewhere q r k ≡ true → marked (unit_of f s c T) q r k ≡ T q r k
   unfolding marked unit_of
-  unit-of-at q r k h =
+  unit_of_at q r k h =
       let a = placed q r k h in
       let e1 : place q k / 32 + 1 ≡ q = omega arith in
       let e2 : r - 1 + 1 ≡ r = omega arith in
@@ -62,46 +62,46 @@ module _ (f s c : ℕ) (T : Table) where
       ∙ ap (λ x. T x (r - 1 + 1) (place q k % 32 + 1)) e1 ∙ ap (λ y. T q y (place q k % 32 + 1)) e2 ∙ ap (T q r) e3
 
   -- where a table has marks only at such places, it is the unit's
-  pub unit-of-table : ((q r k : ℕ) → T q r k ≡ true → somewhere q r k ≡ true) → marked (unit_of f s c T) ≡ T
+  pub unit_of_table : ((q r k : ℕ) → T q r k ≡ true → somewhere q r k ≡ true) → marked (unit_of f s c T) ≡ T
   unfolding marked
-  unit-of-table h = λ i q r k. at q r k i
+  unit_of_table h = λ i q r k. at q r k i
     where
       at : (q r k : ℕ) → marked (unit_of f s c T) q r k ≡ T q r k
       at q r k =
-          by_test (somewhere q r k) (unit-of-at q r k)
+          by_test (somewhere q r k) (unit_of_at q r k)
           (λ n. ap (λ b. b && is_set (word_at (unit_of f s c T) q k) (r - 1)) n ∙ sym (not_passed (T q r k) (λ t. nowhere (sym n ∙ h q r k t))))
 
-  pub unit-of-sound : good_counts f s c ≡ true
+  pub unit_of_sound : good_counts f s c ≡ true
       → ((q r k : ℕ) → T q r k ≡ true → (somewhere q r k ≡ true) × (q ≤ f) × (r ≤ s) × (k ≤ c)) → sound_of (unit_of f s c T) ≡ true
   unfolding no_plan unit_of marked
-  unit-of-sound g h =
+  unit_of_sound g h =
       let g2 = and_right (inside f 4) _ g in
       sound_of_lem (unit_of f s c T) (record {
         functions = and_left (inside f 4) _ g;
         segments = and_left (inside s 16) _ g2;
         columns = and_right (inside s 16) _ g2;
         plan = refl;
-        marks = inside_test (unit_of f s c T) (λ q r k m. let d = h q r k (sym (unit-of-at q r k (and_left (somewhere q r k) _ m)) ∙ m) in (d.1, d.2, d.3));
+        marks = inside_test (unit_of f s c T) (λ q r k m. let d = h q r k (sym (unit_of_at q r k (and_left (somewhere q r k) _ m)) ∙ m) in (d.1, d.2, d.3));
       })
 
 -- a unit without plan is the unit of its table
 pub unit_of_same : (u : FunctionUnit) (T : Table) → Words u → u.plan ≡ no_plan → marked u ≡ T
     → u ≡ unit_of u.functions u.segments u.columns T
 unfolding unit_of
-unit_of_same u T w p e = ap₂ (λ (m : List ℕ) (n : Plan). with-both m n) words p
+unit_of_same u T w p e = ap₂ (λ (m : List ℕ) (n : Plan). with_both m n) words p
   where
-    with-both : List ℕ → Plan → FunctionUnit
-    with-both m n = record { functions = u.functions; segments = u.segments; columns = u.columns; marks = m; plan = n }
+    with_both : List ℕ → Plan → FunctionUnit
+    with_both m n = record { functions = u.functions; segments = u.segments; columns = u.columns; marks = m; plan = n }
 
-    inside-places : (q r k : ℕ) → T q r k ≡ true → somewhere q r k ≡ true
-    inside-places q r k t =
+    inside_places : (q r k : ℕ) → T q r k ≡ true → somewhere q r k ≡ true
+    inside_places q r k t =
         let a = marked_place u q r k (ap (λ g. g q r k) e ∙ t) in
         somewhere_of q r k a.tag1 a.tag4 a.segment1 a.segment16 a.column1 a.column32
 
     words : u.marks ≡ list_below 128 (table_word T)
     words =
-        same_words u (unit_of u.functions u.segments u.columns T) w (unit-of-words u.functions u.segments u.columns T)
-        (e ∙ sym (unit-of-table u.functions u.segments u.columns T inside-places))
+        same_words u (unit_of u.functions u.segments u.columns T) w (unit_of_words u.functions u.segments u.columns T)
+        (e ∙ sym (unit_of_table u.functions u.segments u.columns T inside_places))
 
 -- A column's word
 
@@ -158,8 +158,8 @@ module _ (u : FunctionUnit) (q c w : ℕ) (n : Words u) (r : Somewhere q c) wher
           (λ h. ap (λ v. is_set v (y - 1)) (get_or-set_other u.marks (place q c) (place x z) w 0
           (λ i. let a = placed x y z h in nowhere (sym e ∙ and_true (eq-eqb x q (omega arith)) (eq-eqb z c (omega arith))))))
 
-  column-inside : q ≤ u.functions → c ≤ u.columns → w < 2 ^ u.segments → Inside u → Inside (with_word u q c w)
-  column-inside f k l h x y z e =
+  column_inside : q ≤ u.functions → c ≤ u.columns → w < 2 ^ u.segments → Inside u → Inside (with_word u q c w)
+  column_inside f k l h x y z e =
       by_test (eqb x q && eqb z c)
       (λ t.
       let p = eqb-true x q (and_left (eqb x q) _ t) in
@@ -170,8 +170,8 @@ module _ (u : FunctionUnit) (q c w : ℕ) (n : Words u) (r : Somewhere q c) wher
       (omega arith, omega arith, omega arith))
       (λ t. h x y z (sym (ap (λ k. cond k (inside y 16 && is_set w (y - 1)) (marked u x y z)) t) ∙ sym (column_at x y z) ∙ e))
 
-  column-words : w < 2 ^ 16 → Words (with_word u q c w)
-  column-words l = record { count = length-set u.marks (place q c) w ∙ n.count; small = λ k. small k (ℕ_discrete k (place q c)) }
+  column_words : w < 2 ^ 16 → Words (with_word u q c w)
+  column_words l = record { count = length-set u.marks (place q c) w ∙ n.count; small = λ k. small k (ℕ_discrete k (place q c)) }
     where
       small : (k : ℕ) → Dec (k ≡ place q c) → get_or (set u.marks (place q c) w) k 0 < 2 ^ 16
       small k (yes e) = rw (e, get_or-set_same u.marks (place q c) w 0 below) l
@@ -200,9 +200,9 @@ column_given u q c w n e = subst (λ (a : Answer). ColumnGiven u (outcome a u (w
             segments = d.segments;
             columns = d.columns;
             plan = refl;
-            marks = inside_test (with_word u q c w) (column-inside u q c w n r t.most k.most a.word (inside_means u d.marks));
+            marks = inside_test (with_word u q c w) (column_inside u q c w n r t.most k.most a.word (inside_means u d.marks));
           });
-          words = column-words u q c w n r (lt_of_lt_of_le a.word (pow_mono s.most));
+          words = column_words u q c w n r (lt_of_lt_of_le a.word (pow_mono s.most));
         }
 
 -- A unit filled column by column
@@ -222,35 +222,35 @@ unfolding unit_of
 unit_of_column f s c T U q k w counts marks tag column small e =
     let u = unit_of f s c T in
     let v = (column_of u q k w).unit in
-    let g = column_given u q k w (unit-of-words f s c T) (column_done u q k w (unit-of-sound f s c T counts marks) tag column small) in
-    let same : marked u ≡ T = unit-of-table f s c T (λ x y z h. (marks x y z h).0) in
+    let g = column_given u q k w (unit_of_words f s c T) (column_done u q k w (unit_of_sound f s c T counts marks) tag column small) in
+    let same : marked u ≡ T = unit_of_table f s c T (λ x y z h. (marks x y z h).0) in
     let table : marked v ≡ U = (λ i x y z. g.table x y z i) ∙ ap (λ X. column_changed X q k w) same ∙ e in
     unit_of_same v U g.words g.plan table ∙ rw (g.functions, g.segments, g.columns)
 
 -- An edit by the word of its column
 
 module _ (u : FunctionUnit) (q s c : ℕ) (n : Words u) (e : spot_answer u q s c ≡ Done) where
-  old-word : get_or (columns_of u q) (c - 1) 0 ≡ word_at u q c
-  old-word = let r = edit_ranges u q s c e in columns_word_lem u q c r.tag1 r.tag4 r.column1 r.column32
+  old_word : get_or (columns_of u q) (c - 1) 0 ≡ word_at u q c
+  old_word = let r = edit_ranges u q s c e in columns_word_lem u q c r.tag1 r.tag4 r.column1 r.column32
 
-  old-fits : word_at u q c < 2 ^ u.segments
-  old-fits = let r = edit_ranges u q s c e in sound_word u (place q c) n (accepted u q s c e).sound (omega arith)
+  old_fits : word_at u q c < 2 ^ u.segments
+  old_fits = let r = edit_ranges u q s c e in sound_word u (place q c) n (accepted u q s c e).sound (omega arith)
 
-  word-done : (w : ℕ) → w < 2 ^ u.segments → column_answer u q c w ≡ Done
-  word-done w l = let a = accepted u q s c e in column_done u q c w a.sound a.tag a.column l
+  word_done : (w : ℕ) → w < 2 ^ u.segments → column_answer u q c w ≡ Done
+  word_done w l = let a = accepted u q s c e in column_done u q c w a.sound a.tag a.column l
 
   -- an accepted mark gives the column its old word with one mark more, an accepted unmark the old word with one less
-  pub mark-by-column : {columns : List ℕ} {w : ℕ} {r : Outcome} → columns ≡ columns_of u q → w ≡ set_bit (get_or columns (c - 1) 0) (s - 1)
+  pub mark_by_column : {columns : List ℕ} {w : ℕ} {r : Outcome} → columns ≡ columns_of u q → w ≡ set_bit (get_or columns (c - 1) 0) (s - 1)
       → r ≡ column_of u q c w → r ≡ mark_of u q s c
   unfolding column_of mark_of
-  mark-by-column f g h =
+  mark_by_column f g h =
       let k = edit_ranges u q s c e in
-      let d = word-done (set_bit (word_at u q c) (s - 1)) (set_lt u.segments (word_at u q c) (s - 1) (omega arith) old-fits) in
-      h ∙ rw (g, f, old-word, e, d) refl
+      let d = word_done (set_bit (word_at u q c) (s - 1)) (set_lt u.segments (word_at u q c) (s - 1) (omega arith) old_fits) in
+      h ∙ rw (g, f, old_word, e, d) refl
 
-  pub unmark-by-column : {columns : List ℕ} {w : ℕ} {r : Outcome} → columns ≡ columns_of u q → w ≡ clear_bit (get_or columns (c - 1) 0) (s - 1)
+  pub unmark_by_column : {columns : List ℕ} {w : ℕ} {r : Outcome} → columns ≡ columns_of u q → w ≡ clear_bit (get_or columns (c - 1) 0) (s - 1)
       → r ≡ column_of u q c w → r ≡ unmark_of u q s c
   unfolding column_of unmark_of
-  unmark-by-column f g h =
-      let d = word-done (clear_bit (word_at u q c) (s - 1)) (clear_lt u.segments (word_at u q c) (s - 1) old-fits) in
-      h ∙ rw (g, f, old-word, e, d) refl
+  unmark_by_column f g h =
+      let d = word_done (clear_bit (word_at u q c) (s - 1)) (clear_lt u.segments (word_at u q c) (s - 1) old_fits) in
+      h ∙ rw (g, f, old_word, e, d) refl

@@ -56,7 +56,7 @@ no_plan = record { tag = 0; count = 0; sum = 0; latencies = replicate 256 0 }
 abbrev pub blank : ℕ → ℕ → ℕ → FunctionUnit
 blank f s c = record { functions = f; segments = s; columns = c; marks = replicate 128 0; plan = no_plan }
 
--- the unit of the three counts with the marks of a table, without plan (`unit-of-table`, proofs/TableLaws.antt)
+-- the unit of the three counts with the marks of a table, without plan (`unit_of_table`, proofs/TableLaws.antt)
 unfoldable pub unit_of : ℕ → ℕ → ℕ → Table → FunctionUnit
 unit_of f s c T = record {
   functions = f;

@@ -12,7 +12,7 @@ use Rattle.unit.specs.Calls.{blank, unit_of}
 use Rattle.unit.proofs.Laws.{inside_of, somewhere_of}
 use Rattle.unit.proofs.SoundLaws.{Words}
 use Rattle.unit.proofs.EditLaws.{outcome_answer}
-use Rattle.unit.proofs.TableLaws.{unit-of-words, unit-of-table, unit-of-sound}
+use Rattle.unit.proofs.TableLaws.{unit_of_words, unit_of_table, unit_of_sound}
 use Rattle.unit_file.specs.File.{file_length}
 use Rattle.unit_file.specs.Read.{functions_in, segments_in, columns_in, file_table, read_answer, read_of}
 use Rattle.unit_file.specs.InnerRead.{Clean}
@@ -51,9 +51,9 @@ accepted file e =
     let c = columns_in file in
     record {
       unit = rw e;
-      table = unit-of-table f s c (file_table file) (λ q r k m. (mark_inside file d q r k m).0);
-      sound = unit-of-sound f s c (file_table file) (counts_good file d) (mark_inside file d);
-      words = unit-of-words f s c (file_table file);
+      table = unit_of_table f s c (file_table file) (λ q r k m. (mark_inside file d q r k m).0);
+      sound = unit_of_sound f s c (file_table file) (counts_good file d) (mark_inside file d);
+      words = unit_of_words f s c (file_table file);
       size = d.whole.size;
     }
 

@@ -43,22 +43,22 @@ pub record Head (b : List ℕ) (f s c : ℕ) : Type 0 where
 -- What stands in the file
 
 module _ (f s c : ℕ) (T : Table) where
-  pub file-length : length (file_of f s c T) ≡ file_length f s
+  pub file_length_lem : length (file_of f s c T) ≡ file_length f s
   unfolding file_of tables_bytes
-  file-length = omega (arith, length-append (offset_bytes f s) (tables_bytes T s f), offsets_size f s, tables_size T s f)
+  file_length_lem = omega (arith, length-append (offset_bytes f s) (tables_bytes T s f), offsets_size f s, tables_size T s f)
 
-  pub file-head : Head (file_of f s c T) f s c
+  pub file_head : Head (file_of f s c T) f s c
   unfolding file_of
-  file-head = record { functions = refl; segments = refl; columns = refl; last = refl }
+  file_head = record { functions = refl; segments = refl; columns = refl; last = refl }
 
   -- what stands behind the counts
   behind : (i : ℕ) → byte_in (file_of f s c T) (4 + i) ≡ byte_in (offset_bytes f s ++ tables_bytes T s f) i
   unfolding file_of tables_bytes
   behind i = get_or-append-add (f ∷ s ∷ c ∷ 0 ∷ []) (offset_bytes f s ++ tables_bytes T s f) i 0
 
-  offset-byte : (k j i : ℕ) → k < f → j < 2 → i ≡ 4 + (2 * k + j) → byte_in (file_of f s c T) i ≡ byte_in (bytes16 (offset_of f s (k + 1))) j
+  offset_byte : (k j i : ℕ) → k < f → j < 2 → i ≡ 4 + (2 * k + j) → byte_in (file_of f s c T) i ≡ byte_in (bytes16 (offset_of f s (k + 1))) j
   unfolding offset_bytes
-  offset-byte k j i h l e =
+  offset_byte k j i h l e =
       ap (byte_in (file_of f s c T)) e ∙ behind (2 * k + j)
       ∙ get_or-append (offset_bytes f s) (tables_bytes T s f) 0 (2 * k + j) (omega (arith, offsets_size f s))
       ∙ join_get_d f 2 (λ x. bytes16 (offset_of f s (x + 1))) (λ x m. refl) k j h l
@@ -74,26 +74,26 @@ module _ (f s c : ℕ) (T : Table) where
       ∙ join_get_d s 4 (λ x. bytes32 (segment_word T (k + 1) (x + 1))) (λ x g. refl) r j m l
 
   -- offset k, counted from 0, says where its table begins
-  pub file-offset : f ≤ 4 → s ≤ 16 → (k : ℕ) → k < f → word16 (file_of f s c T) (4 + 2 * k) ≡ offset_of f s (k + 1)
-  file-offset f4 s16 k h =
-      ap₂ (λ (x y : ℕ). x + 256 * y) (offset-byte k 0 (4 + 2 * k) h (omega arith) (omega arith)) (offset-byte k 1 (4 + 2 * k + 1) h (omega arith) (omega arith))
+  pub file_offset : f ≤ 4 → s ≤ 16 → (k : ℕ) → k < f → word16 (file_of f s c T) (4 + 2 * k) ≡ offset_of f s (k + 1)
+  file_offset f4 s16 k h =
+      ap₂ (λ (x y : ℕ). x + 256 * y) (offset_byte k 0 (4 + 2 * k) h (omega arith) (omega arith)) (offset_byte k 1 (4 + 2 * k + 1) h (omega arith) (omega arith))
       ∙ half_value (offset_of f s (k + 1)) (small (omega arith))
     where
       small : k + 1 - 1 ≤ 4 → offset_of f s (k + 1) < 65536
       small g = omega (arith, tables_small s (k + 1 - 1) s16 g)
 
   -- the word of segment r in table k, both counted from 0
-  pub file-word : (k r : ℕ) → k < f → r < s → word32 (file_of f s c T) (4 + 2 * f + 4 * s * k + 4 * r) ≡ segment_word T (k + 1) (r + 1)
-  file-word k r h m =
+  pub file_word : (k r : ℕ) → k < f → r < s → word32 (file_of f s c T) (4 + 2 * f + 4 * s * k + 4 * r) ≡ segment_word T (k + 1) (r + 1)
+  file_word k r h m =
       let at = 4 + 2 * f + 4 * s * k + 4 * r in
       ap₂ (λ (x y : ℕ). x + 65536 * y)
       (ap₂ (λ (x y : ℕ). x + 256 * y) (word_byte k r 0 at h m (omega arith) (omega arith)) (word_byte k r 1 (at + 1) h m (omega arith) (omega arith)))
       (ap₂ (λ (x y : ℕ). x + 256 * y) (word_byte k r 2 (at + 2) h m (omega arith) (omega arith)) (word_byte k r 3 (at + 2 + 1) h m (omega arith) (omega arith)))
       ∙ word_value (segment_word T (k + 1) (r + 1)) (word_lt 32 (λ i. T (k + 1) (r + 1) (i + 1)))
 
-  pub file-bytes : f < 256 → s < 256 → c < 256 → Bytes (file_of f s c T)
+  pub file_bytes : f < 256 → s < 256 → c < 256 → Bytes (file_of f s c T)
   unfolding file_of offset_bytes table_bytes
-  file-bytes hf hs hc =
+  file_bytes hf hs hc =
       bytes_append (f ∷ s ∷ c ∷ 0 ∷ []) (offset_bytes f s ++ join_below f (λ i. table_bytes T s (i + 1)))
       (bytes_more f (s ∷ c ∷ 0 ∷ []) hf (bytes_more s (c ∷ 0 ∷ []) hs (bytes_more c (0 ∷ []) hc (bytes_more 0 [] (omega arith) (λ i. omega arith)))))
       (bytes_append (offset_bytes f s) (join_below f (λ i. table_bytes T s (i + 1)))
@@ -111,9 +111,9 @@ first_four (x ∷ y ∷ z ∷ []) h = absurd (omega arith)
 first_four (x ∷ y ∷ z ∷ w ∷ b) h = refl
 
 module _ (b : List ℕ) (f s c : ℕ) (T : Table) (size : length b ≡ file_length f s) (small : Bytes b) where
-  offsets-of : ((k : ℕ) → k < f → word16 b (4 + 2 * k) ≡ offset_of f s (k + 1)) → take (2 * f) (drop 4 b) ≡ offset_bytes f s
+  offsets_of : ((k : ℕ) → k < f → word16 b (4 + 2 * k) ≡ offset_of f s (k + 1)) → take (2 * f) (drop 4 b) ≡ offset_bytes f s
   unfolding offset_bytes
-  offsets-of h =
+  offsets_of h =
       join_part f 2 4 b (λ i. bytes16 (offset_of f s (i + 1)))
       (λ k l. half_at b (4 + 2 * k) small (omega arith) ∙ ap bytes16 (h k l))
 
@@ -123,27 +123,27 @@ module _ (b : List ℕ) (f s c : ℕ) (T : Table) (size : length b ≡ file_leng
       let m : 4 * s * suc k ≤ 4 * s * f = mul-le-mul_left (4 * s) h in
       omega (arith, mul-suc (4 * s) k)
 
-  tables-of : ((k r : ℕ) → k < f → r < s → word32 b (4 + 2 * f + 4 * s * k + 4 * r) ≡ segment_word T (k + 1) (r + 1))
+  tables_of_lem : ((k r : ℕ) → k < f → r < s → word32 b (4 + 2 * f + 4 * s * k + 4 * r) ≡ segment_word T (k + 1) (r + 1))
       → take (4 * s * f) (drop (4 + 2 * f) b) ≡ tables_bytes T s f
   unfolding tables_bytes table_bytes
-  tables-of h =
+  tables_of_lem h =
       join_part f (4 * s) (4 + 2 * f) b (λ i. table_bytes T s (i + 1))
       (λ k l. join_part s 4 (4 + 2 * f + 4 * s * k) b (λ i. bytes32 (segment_word T (k + 1) (i + 1)))
       (λ r m. word_at b (4 + 2 * f + 4 * s * k + 4 * r) small (inside k r l m) ∙ ap bytes32 (h k r l m)))
 
-  pub file-of : Head b f s c → ((k : ℕ) → k < f → word16 b (4 + 2 * k) ≡ offset_of f s (k + 1))
+  pub file_of_lem : Head b f s c → ((k : ℕ) → k < f → word16 b (4 + 2 * k) ≡ offset_of f s (k + 1))
       → ((k r : ℕ) → k < f → r < s → word32 b (4 + 2 * f + 4 * s * k + 4 * r) ≡ segment_word T (k + 1) (r + 1)) → b ≡ file_of f s c T
   unfolding file_of tables_bytes
-  file-of h offsets words =
+  file_of_lem h offsets words =
       first_four b (omega arith)
       ∙ head h.functions h.segments h.columns h.last
-      (sym (take-append-drop (2 * f) (drop 4 b)) ∙ ap₂ (λ (x y : List ℕ). x ++ y) (offsets-of offsets) tables)
+      (sym (take-append-drop (2 * f) (drop 4 b)) ∙ ap₂ (λ (x y : List ℕ). x ++ y) (offsets_of offsets) tables)
     where
       tables : drop (2 * f) (drop 4 b) ≡ tables_bytes T s f
       tables =
           drop-drop (2 * f) 4 b
           ∙ sym (take_all (4 * s * f) (drop (4 + 2 * f) b) (omega (arith, length-drop (4 + 2 * f) b)))
-          ∙ tables-of words
+          ∙ tables_of_lem words
 
       head : {x y z w : ℕ} {l m : List ℕ} → x ≡ f → y ≡ s → z ≡ c → w ≡ 0 → l ≡ m → x ∷ y ∷ z ∷ w ∷ l ≡ f ∷ s ∷ c ∷ 0 ∷ m
       head p q r t e = cc

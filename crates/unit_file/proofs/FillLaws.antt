@@ -116,8 +116,8 @@ unit_start file =
     unit_of_none (functions_in file) (segments_in file) (columns_in file) (table_before file 1 1) (before_start file)
 
 module _ (file : List ℕ) (d : Clean file) where
-  before-inside : (k c : ℕ) → InCounts (functions_in file) (segments_in file) (columns_in file) (table_before file k c)
-  before-inside k c x y z e =
+  before_inside : (k c : ℕ) → InCounts (functions_in file) (segments_in file) (columns_in file) (table_before file k c)
+  before_inside k c x y z e =
       let m = before_mark file k c x y z e in
       let a = m.tag in
       let b = m.segment in
@@ -132,16 +132,16 @@ module _ (file : List ℕ) (d : Clean file) where
       (and_true (inside_of (segments_in file) 16 n.segments1 n.segments16) (inside_of (columns_in file) 32 n.columns1 n.columns32))
 
   -- one column more
-  pub unit-more : (k c : ℕ) → TagIn file k → ColumnIn file c
+  pub unit_more : (k c : ℕ) → TagIn file k → ColumnIn file c
       → (column_of (unit_before file k c) k c (column_word file k c)).unit ≡ unit_before file k (c + 1)
-  unit-more k c t l =
+  unit_more k c t l =
       unit_of_column (functions_in file) (segments_in file) (columns_in file) (table_before file k c) (table_before file k (c + 1)) k c (column_word file k c) counts_good
-      (before-inside k c) (inside_of k (functions_in file) t.least t.most) (inside_of c (columns_in file) l.least l.most) (column_word_lt file k c)
+      (before_inside k c) (inside_of k (functions_in file) t.least t.most) (inside_of c (columns_in file) l.least l.most) (column_word_lt file k c)
       (before_more file d.whole.counts k c t l)
 
   -- one function more
-  pub unit-next : (k : ℕ) → unit_before file k (columns_in file + 1) ≡ unit_before file (k + 1) 1
-  unit-next k = ap (unit_of (functions_in file) (segments_in file) (columns_in file)) (before_next file d k)
+  pub unit_next : (k : ℕ) → unit_before file k (columns_in file + 1) ≡ unit_before file (k + 1) 1
+  unit_next k = ap (unit_of (functions_in file) (segments_in file) (columns_in file)) (before_next file d k)
 
 pub unit_end : (file : List ℕ) → unit_before file (functions_in file + 1) 1 ≡ unit_of (functions_in file) (segments_in file) (columns_in file) (file_table file)
 unit_end file = ap (unit_of (functions_in file) (segments_in file) (columns_in file)) (before_end file)

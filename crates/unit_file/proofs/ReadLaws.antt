@@ -5,7 +5,7 @@ use mathlib.Core.Bool.{Bool, true, false, not, ◌&&◌}
 use mathlib.Core.List.{List}
 use native.Mathlib.Nat.{mod-lt}
 use native.Mathlib.Omega.{arith}
-use borrow.Author.Tests.{leb-true, leb-false, lt-leb, le-leb, eqb-true, eq-eqb, ne_eqb, not-true}
+use borrow.Author.Tests.{leb-true, leb-false, lt-leb, le-leb, eqb-true, eq-eqb, ne_eqb, not_true}
 use lib.Dec.{leb, eqb}
 use lib.ListN.{length}
 use Rattle.words.specs.Bits.{is_set}
@@ -56,35 +56,35 @@ mark_file file k r c m =
 -- Marks beyond the columns
 
 module _ (file : List ℕ) (n : Counted file) where
-  pub beyond-intro : (k r c : ℕ) → FileMark file k r c → columns_in file < c → marks_beyond file ≡ true
+  pub beyond_intro : (k r c : ℕ) → FileMark file k r c → columns_in file < c → marks_beyond file ≡ true
   unfolding marks_beyond
-  beyond-intro k r c m l =
+  beyond_intro k r c m l =
       some_intro 5 (λ k. some_below 17 (λ r. some_below 33 (λ c. file_table file k r c && not (leb c (columns_in file))))) k (omega (arith, m.tag.most, n.functions4))
       (some_intro 17 (λ r. some_below 33 (λ c. file_table file k r c && not (leb c (columns_in file)))) r (omega (arith, m.segment.most, n.segments16))
       (some_intro 33 (λ c. file_table file k r c && not (leb c (columns_in file))) c (omega (arith, m.column.most))
       (and_true (mark_file file k r c m) (ap not (lt-leb c (columns_in file) l)))))
 
-  pub beyond-false : ((k r c : ℕ) → FileMark file k r c → c ≤ columns_in file) → marks_beyond file ≡ false
+  pub beyond_false : ((k r c : ℕ) → FileMark file k r c → c ≤ columns_in file) → marks_beyond file ≡ false
   unfolding marks_beyond
-  beyond-false h =
+  beyond_false h =
       some_none 5 (λ k. some_below 17 (λ r. some_below 33 (λ c. file_table file k r c && not (leb c (columns_in file))))) (λ k _.
       some_none 17 (λ r. some_below 33 (λ c. file_table file k r c && not (leb c (columns_in file)))) (λ r _.
       some_none 33 (λ c. file_table file k r c && not (leb c (columns_in file))) (λ c _.
       not_passed (file_table file k r c && not (leb c (columns_in file))) (λ e.
       let m = file_mark file k r c (and_left (file_table file k r c) _ e) in
-      nowhere (sym (not-true (leb c (columns_in file)) (and_right (file_table file k r c) _ e)) ∙ le-leb c (columns_in file) (h k r c m))))))
+      nowhere (sym (not_true (leb c (columns_in file)) (and_right (file_table file k r c) _ e)) ∙ le-leb c (columns_in file) (h k r c m))))))
 
   -- a word of the tables that is not below 2 ^ columns has such a mark
-  pub beyond-found : (i : ℕ) → i < functions_in file * segments_in file → word32 file (4 + 2 * functions_in file + 4 * i) < 2 ^ 32
+  pub beyond_found : (i : ℕ) → i < functions_in file * segments_in file → word32 file (4 + 2 * functions_in file + 4 * i) < 2 ^ 32
       → 2 ^ columns_in file ≤ word32 file (4 + 2 * functions_in file + 4 * i) → marks_beyond file ≡ true
-  beyond-found i l small h =
+  beyond_found i l small h =
       let f = functions_in file in
       let s = segments_in file in
       let w = word32 file (4 + 2 * f + 4 * i) in
       let e : columns_in file + (32 - columns_in file) ≡ 32 = omega (arith, n.columns32) in
       let b = high_bit (32 - columns_in file) (columns_in file) w h (subst (λ (m : ℕ). w < 2 ^ m) (sym e) small) in
       let j : b.at + 1 - 1 ≡ b.at = omega arith in
-      beyond-intro (i / s + 1) (i % s + 1) (b.at + 1)
+      beyond_intro (i / s + 1) (i % s + 1) (b.at + 1)
       (record {
         tag = let t = flat_tag f s i n.segments1 l in omega arith;
         segment = let t = mod-lt i n.segments1 in omega arith;
@@ -94,10 +94,10 @@ module _ (file : List ℕ) (n : Counted file) where
       (omega (arith, b.least))
 
   -- where no word has one there is none
-  pub beyond-none : ((i : ℕ) → i < functions_in file * segments_in file → word32 file (4 + 2 * functions_in file + 4 * i) < 2 ^ columns_in file)
+  pub beyond_none : ((i : ℕ) → i < functions_in file * segments_in file → word32 file (4 + 2 * functions_in file + 4 * i) < 2 ^ columns_in file)
       → marks_beyond file ≡ false
-  beyond-none h =
-      beyond-false (λ k r c m.
+  beyond_none h =
+      beyond_false (λ k r c m.
       let f = functions_in file in
       let s = segments_in file in
       let i = s * (k - 1) + (r - 1) in
@@ -109,7 +109,7 @@ module _ (file : List ℕ) (n : Counted file) where
 pub clean_columns : (file : List ℕ) → Clean file → (k r c : ℕ) → FileMark file k r c → c ≤ columns_in file
 clean_columns file d k r c m =
     by_test (leb c (columns_in file)) (leb-true c (columns_in file))
-    (λ e. nowhere (sym d.within ∙ beyond-intro file d.whole.counts k r c m (leb-false c (columns_in file) e)))
+    (λ e. nowhere (sym d.within ∙ beyond_intro file d.whole.counts k r c m (leb-false c (columns_in file) e)))
 
 -- The header
 
@@ -125,7 +125,7 @@ pub header_offset : (file : List ℕ) (i : ℕ) → i < functions_in file → (O
 unfolding good_header
 header_offset file i l ne =
     not_passed (good_header file) (λ e.
-    nowhere (sym (not-true (some_below (functions_in file) (λ j. not (eqb (word16 file (4 + 2 * j)) (offset_of (functions_in file) (segments_in file) (j + 1))))) (and_right (eqb (byte_in file 3) 0) _ e))
+    nowhere (sym (not_true (some_below (functions_in file) (λ j. not (eqb (word16 file (4 + 2 * j)) (offset_of (functions_in file) (segments_in file) (j + 1))))) (and_right (eqb (byte_in file 3) 0) _ e))
     ∙ some_intro (functions_in file) (λ j. not (eqb (word16 file (4 + 2 * j)) (offset_of (functions_in file) (segments_in file) (j + 1)))) i l
     (ap not (ne_eqb (word16 file (4 + 2 * i)) (offset_of (functions_in file) (segments_in file) (i + 1)) ne))))
 
@@ -160,7 +160,7 @@ accepted_clean file e =
         counts = counted file (leb-true 4 (length file) (check_ok (leb 4 (length file)) BadLength _ e)) (check_ok g NotSound _ e1);
         size = eqb-true (length file) (file_length (functions_in file) (segments_in file)) (check_ok z BadLength _ e2);
       };
-      within = not-true (marks_beyond file) (check_ok (not (marks_beyond file)) MarkBeyondColumns _ e4);
+      within = not_true (marks_beyond file) (check_ok (not (marks_beyond file)) MarkBeyondColumns _ e4);
     }
 
 -- past the counts the rest is tried

@@ -6,7 +6,7 @@ use Prim.Native.Nat.{ℕ, ◌+◌, ◌-◌, ◌*◌, ◌^◌, ◌<◌}
 use native.Mathlib.Omega.{arith}
 use lib.Dec.{leb, eqb}
 use lib.ListN.{length}
-use borrow.Author.Tests.{le-leb, eq-eqb, eqb-true, not-true}
+use borrow.Author.Tests.{le-leb, eq-eqb, eqb-true, not_true}
 use Rattle.words.specs.Bits.{is_set}
 use Rattle.words.specs.Below.{some_below}
 use Rattle.words.proofs.Tests.{nowhere, and_left, and_right, and_true, same_test, by_test, not_passed}
@@ -20,14 +20,14 @@ use Rattle.unit.specs.Unit.{inside, good_counts, marked, sound_of}
 use Rattle.unit.specs.Calls.{unit_of}
 use Rattle.unit.proofs.Laws.{check_ok, check_next, within, inside_of, somewhere_of, sound_has}
 use Rattle.unit.proofs.SoundLaws.{marked_place, inside_means}
-use Rattle.unit.proofs.TableLaws.{unit-of-table}
+use Rattle.unit.proofs.TableLaws.{unit_of_table}
 use Rattle.unit_file.specs.File.{offset_of, file_length, segment_word, file_of}
 use Rattle.unit_file.specs.Read.{byte_in, word16, word32, functions_in, segments_in, columns_in, file_table, good_header, marks_beyond, read_answer, read_of}
 use Rattle.unit_file.specs.Write.{unit_file}
 use Rattle.unit_file.specs.RoundTrips.{WrittenRead, ReadWritten}
 use Rattle.unit_file.proofs.AcceptedLaws.{Accepted, accepted}
 use Rattle.unit_file.proofs.ByteLaws.{Bytes}
-use Rattle.unit_file.proofs.FileLaws.{file-length, file-head, file-offset, file-word, file-of}
+use Rattle.unit_file.proofs.FileLaws.{file_length_lem, file_head, file_offset, file_word, file_of_lem}
 
 -- a mark within the counts
 pub record Counted (f s c k r x : ℕ) : Type 0 where
@@ -48,7 +48,7 @@ module _ (f s c : ℕ) (T : Table) (good : good_counts f s c ≡ true) (counted 
       let ek : k - 1 + 1 ≡ k = omega arith in
       let er : r - 1 + 1 ≡ r = omega arith in
       let ex : x - 1 + 1 ≡ x = omega arith in
-      ap (λ w. is_set w (x - 1)) (file-word f s c T (k - 1) (r - 1) (omega arith) (omega arith))
+      ap (λ w. is_set w (x - 1)) (file_word f s c T (k - 1) (r - 1) (omega arith) (omega arith))
       ∙ word_set 32 (λ i. T (k - 1 + 1) (r - 1 + 1) (i + 1)) (x - 1) (omega arith)
       ∙ rw (ek, er, ex)
 
@@ -82,8 +82,8 @@ module _ (f s c : ℕ) (T : Table) (good : good_counts f s c ≡ true) (counted 
           let w = wide x p.column in
           and_true p.tag (and_true p.segment (and_true w (says k r x p.tag p.segment w ∙ h)))
 
-  pub file-table : file_table (file_of f s c T) ≡ T
-  file-table = λ i k r x. table_at k r x i
+  pub file_table_lem : file_table (file_of f s c T) ≡ T
+  file_table_lem = λ i k r x. table_at k r x i
 
   header : good_header (file_of f s c T) ≡ true
   unfolding good_header file_of
@@ -91,11 +91,11 @@ module _ (f s c : ℕ) (T : Table) (good : good_counts f s c ≡ true) (counted 
       let f4 = within f 4 (and_left (inside f 4) _ good) in
       let s16 = within s 16 (and_left (inside s 16) _ (and_right (inside f 4) _ good)) in
       ap not (some_none f (λ i. not (eqb (word16 (file_of f s c T) (4 + 2 * i)) (offset_of f s (i + 1))))
-      (λ k l. ap not (eq-eqb (word16 (file_of f s c T) (4 + 2 * k)) (offset_of f s (k + 1)) (file-offset f s c T f4.most s16.most k l))))
+      (λ k l. ap not (eq-eqb (word16 (file_of f s c T) (4 + 2 * k)) (offset_of f s (k + 1)) (file_offset f s c T f4.most s16.most k l))))
 
-  none-beyond : marks_beyond (file_of f s c T) ≡ false
+  none_beyond : marks_beyond (file_of f s c T) ≡ false
   unfolding marks_beyond
-  none-beyond =
+  none_beyond =
       some_none 5 (λ k. some_below 17 (λ r. some_below 33 (λ x. beyond k r x)))
       (λ k _. some_none 17 (λ r. some_below 33 (λ x. beyond k r x))
       (λ r _. some_none 33 (λ x. beyond k r x) (λ x _. not_passed (beyond k r x) (refuted k r x))))
@@ -108,30 +108,30 @@ module _ (f s c : ℕ) (T : Table) (good : good_counts f s c ≡ true) (counted 
           let mark = and_left (file_table (file_of f s c T) k r x) (not (leb x (columns_in (file_of f s c T)))) h in
           let out = and_right (file_table (file_of f s c T) k r x) (not (leb x (columns_in (file_of f s c T)))) h in
           let w = within x c (counted k r x (sym (table_at k r x) ∙ mark)).column in
-          let e : leb x (columns_in (file_of f s c T)) ≡ true = ap (leb x) (file-head f s c T).columns ∙ le-leb x c w.most in
-          nowhere (sym (not-true (leb x (columns_in (file_of f s c T))) out) ∙ e)
+          let e : leb x (columns_in (file_of f s c T)) ≡ true = ap (leb x) (file_head f s c T).columns ∙ le-leb x c w.most in
+          nowhere (sym (not_true (leb x (columns_in (file_of f s c T))) out) ∙ e)
 
-  pub file-answer : read_answer (file_of f s c T) ≡ Done
+  pub file_answer : read_answer (file_of f s c T) ≡ Done
   unfolding read_answer
-  file-answer =
-      let h = file-head f s c T in
-      let n = file-length f s c T in
+  file_answer =
+      let h = file_head f s c T in
+      let n = file_length_lem f s c T in
       let long : leb 4 (length (file_of f s c T)) ≡ true = le-leb 4 (length (file_of f s c T)) (omega arith) in
       let exact : eqb (length (file_of f s c T)) (file_length f s) ≡ true = eq-eqb (length (file_of f s c T)) (file_length f s) n in
-      rw (h.functions, h.segments, h.columns) (simp (long, good, exact, header, none-beyond))
+      rw (h.functions, h.segments, h.columns) (simp (long, good, exact, header, none_beyond))
 
-  pub file-read : read_of (file_of f s c T) ≡ record { answer = Done; unit = unit_of f s c T }
+  pub file_read : read_of (file_of f s c T) ≡ record { answer = Done; unit = unit_of f s c T }
   unfolding read_of
-  file-read =
-      let h = file-head f s c T in
-      rw (file-answer, h.functions, h.segments, h.columns, file-table)
+  file_read =
+      let h = file_head f s c T in
+      rw (file_answer, h.functions, h.segments, h.columns, file_table_lem)
 
 -- the file of a sound unit is read as the unit of its counts and marks
 pub unit_read : (u : FunctionUnit) → sound_of u ≡ true
     → read_of (unit_file u) ≡ record { answer = Done; unit = unit_of u.functions u.segments u.columns (marked u) }
 unit_read u sound =
     let d = sound_has u sound in
-    file-read u.functions u.segments u.columns (marked u)
+    file_read u.functions u.segments u.columns (marked u)
     (and_true d.functions (and_true d.segments d.columns))
     (λ k r x m.
     let p = marked_place u k r x m in
@@ -153,7 +153,7 @@ written_read u sound =
       columns = ap (λ o. o.unit.columns) e;
       marks =
           ap (λ o. marked o.unit) e
-          ∙ unit-of-table u.functions u.segments u.columns (marked u) (λ q r k m.
+          ∙ unit_of_table u.functions u.segments u.columns (marked u) (λ q r k m.
           let p = marked_place u q r k m in
           somewhere_of q r k p.tag1 p.tag4 p.segment1 p.segment16 p.column1 p.column32);
       plan = ap (λ o. o.unit.plan) e;
@@ -188,7 +188,7 @@ unfolding good_header
 header_offset b h k l =
     eqb-true (word16 b (4 + 2 * k)) (offset_of (functions_in b) (segments_in b) (k + 1))
     (by_test (eqb (word16 b (4 + 2 * k)) (offset_of (functions_in b) (segments_in b) (k + 1))) (λ e. e)
-    (λ e. nowhere (sym (not-true (some_below (functions_in b) wrong) (and_right (eqb (byte_in b 3) 0) _ h)) ∙ some_intro (functions_in b) wrong k l (ap not e))))
+    (λ e. nowhere (sym (not_true (some_below (functions_in b) wrong) (and_right (eqb (byte_in b 3) 0) _ h)) ∙ some_intro (functions_in b) wrong k l (ap not e))))
   where
     wrong : ℕ → Bool
     wrong i = not (eqb (word16 b (4 + 2 * i)) (offset_of (functions_in b) (segments_in b) (i + 1)))
@@ -228,7 +228,7 @@ word_said b small k r h l =
 said_written : (b : List ℕ) → Bytes b → read_answer b ≡ Done → file_of (functions_in b) (segments_in b) (columns_in b) (file_table b) ≡ b
 said_written b small e =
     let a = accepted_parts b e in
-    sym (file-of b (functions_in b) (segments_in b) (columns_in b) (file_table b) a.size small
+    sym (file_of_lem b (functions_in b) (segments_in b) (columns_in b) (file_table b) a.size small
     (record { functions = refl; segments = refl; columns = refl; last = header_last b a.header })
     (header_offset b a.header) (word_said b small))
 

@@ -88,18 +88,18 @@ sound_counts u e =
     record { functions = (within u.functions 4 d.functions).most; segments = (within u.segments 16 d.segments).most }
 
 module _ (u : FunctionUnit) (b : List ℕ) where
-  pub ends-unsound : sound_of u ≡ false → (Written.Refused NotSound ≡ write_answer u (length b)) × (b ≡ write_out u b)
+  pub ends_unsound : sound_of u ≡ false → (Written.Refused NotSound ≡ write_answer u (length b)) × (b ≡ write_out u b)
   unfolding write_answer write_out write_refusal
-  ends-unsound e = (simp e, simp e)
+  ends_unsound e = (simp e, simp e)
 
   pub ends_short : sound_of u ≡ true → length b < file_length u.functions u.segments
       → (Written.Refused ShortOutput ≡ write_answer u (length b)) × (b ≡ write_out u b)
   unfolding write_answer write_out write_refusal
   ends_short e h = let l = lt-leb (file_length u.functions u.segments) (length b) h in (simp (e, l), simp (e, l))
 
-  pub ends-written : (size : ℕ) (out : List ℕ) → sound_of u ≡ true → size ≡ file_length u.functions u.segments → size ≤ length b
+  pub ends_written : (size : ℕ) (out : List ℕ) → sound_of u ≡ true → size ≡ file_length u.functions u.segments → size ≤ length b
       → out ≡ in_front (unit_file u) b → (Written.Length size ≡ write_answer u (length b)) × (out ≡ write_out u b)
   unfolding write_answer write_out write_refusal
-  ends-written size out e n h w =
+  ends_written size out e n h w =
       let l = le-leb (file_length u.functions u.segments) (length b) (omega arith) in
       (rw (e, l) (ap Written.Length n), rw (e, l) w)

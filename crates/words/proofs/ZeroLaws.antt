@@ -69,11 +69,11 @@ zero_least w k = least_first (32 - k) k (λ i. not (is_set w i))
 -- all before it are 1
 pub zero_skips : (w k i : ℕ) → k ≤ i → i < zero_from w k → is_set w i ≡ true
 unfolding zero_from
-zero_skips w k i h l = not-false (is_set w i) (least_skips (32 - k) k (λ i. not (is_set w i)) i h l)
+zero_skips w k i h l = not_false (is_set w i) (least_skips (32 - k) k (λ i. not (is_set w i)) i h l)
   where
-    not-false : (b : Bool) → not b ≡ false → b ≡ true
-    not-false true e = refl
-    not-false false e = sym e
+    not_false : (b : Bool) → not b ≡ false → b ≡ true
+    not_false true e = refl
+    not_false false e = sym e
 
 -- a word of n bits has only zeros from n on
 pub zero_most : (w n k : ℕ) → w < 2 ^ n → zero_from w k ≤ max k n
@@ -98,12 +98,12 @@ pub zero_clear : (w k : ℕ) → w < 2 ^ 32 → is_set w (zero_from w k) ≡ fal
 unfolding zero_from
 zero_clear w k h = go (dec_lt (least_from (32 - k) k (λ i. not (is_set w i))) 32)
   where
-    not-true : (b : Bool) → not b ≡ true → b ≡ false
-    not-true true e = sym e
-    not-true false e = refl
+    not_true : (b : Bool) → not b ≡ true → b ≡ false
+    not_true true e = sym e
+    not_true false e = refl
 
     go : Dec (least_from (32 - k) k (λ i. not (is_set w i)) < 32) → is_set w (least_from (32 - k) k (λ i. not (is_set w i))) ≡ false
     go (yes l) =
-        not-true (is_set w (least_from (32 - k) k (λ i. not (is_set w i)))) (least_inside (32 - k) k (λ i. not (is_set w i))
+        not_true (is_set w (least_from (32 - k) k (λ i. not (is_set w i)))) (least_inside (32 - k) k (λ i. not (is_set w i))
         (omega (arith, least_first (32 - k) k (λ i. not (is_set w i)))))
     go (no l) = zero_unset w _ (bit_above w 32 _ h (omega arith))

@@ -4,7 +4,7 @@ use mathlib.Core.Path.{◌≡◌, sym, ap, subst, ◌∙◌}
 use mathlib.Core.Bool.{Bool}
 use mathlib.Core.List.{List}
 use native.Mathlib.Omega.{arith}
-use borrow.Author.Tests.{leb-true, not-true, not-false}
+use borrow.Author.Tests.{leb-true, not_true, not_false}
 use borrow.Author.Rules.{rules}
 use lib.Dec.{leb}
 use lib.ListN.{get_or, take, drop}
@@ -57,7 +57,7 @@ returns c =
     let p = c.before.before.before.loop.place in
     let a = c.before.before.before.before.args in
     sym (each_false a.callers (fitsAt a.functions a.list a.t2) p c.before.before.loop-test.true
-    (same_place a.functions a.list a.t2 p (sym c.before.fits-from.ensures ∙ not-true _ c.if1.true)))
+    (same_place a.functions a.list a.t2 p (sym c.before.fits-from.ensures ∙ not_true _ c.if1.true)))
 
 add-place : tie.Need-overflow-add-place invariant-loop decreases-loop
 add-place c = search rules
@@ -70,7 +70,7 @@ loop-again c =
     let p = c.before.before.before.loop.place in
     let a = c.before.before.before.before.args in (
       upto_more (fitsAt a.functions a.list a.t2) p c.before.before.before.loop.invariant.0
-          (same_place a.functions a.list a.t2 p (sym c.before.fits-from.ensures ∙ not-false _ c.if1.false)),
+          (same_place a.functions a.list a.t2 p (sym c.before.fits-from.ensures ∙ not_false _ c.if1.false)),
       search rules,
     )
 

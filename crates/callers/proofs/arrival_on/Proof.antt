@@ -8,7 +8,7 @@ use Rattle.unit.specs.declared.FunctionUnit.{FunctionUnit}
 use Rattle.unit.specs.declared.Answer.TheVariants.{Done, Refused}
 use Rattle.queue.specs.declared.Waiting.{Waiting}
 use Rattle.callers.specs.Parts.{arrival_in, arrival_on_by}
-use Rattle.callers.proofs.PartLaws.{parts, set-part}
+use Rattle.callers.proofs.PartLaws.{parts, set_part}
 use Rattle.callers.proofs.TestedLaws.{one_of_lem, placed, placed_is, arrival_accepted}
 use borrow.Author.Rules.{rules}
 use Rattle.callers.proofs.arrival_on.Statement.{statement}
@@ -77,7 +77,7 @@ returns-2 c =
       records = record {
         list = (w.0
             ∙ ap (λ (k : ℕ). set a.records.list (k + a.count) a.offered) p
-            ∙ set-part a.records.list a.caller (omega (arith, w.1, q.few, q.most)) a.count a.offered o.few) i;
+            ∙ set_part a.records.list a.caller (omega (arith, w.1, q.few, q.most)) a.count a.offered o.few) i;
       };
     })
     ∙ ap (arrival_on_by a.caller a.records.list a.count a.offered) (sym e)

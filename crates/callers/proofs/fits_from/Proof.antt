@@ -3,7 +3,7 @@ use Prim.Native.Nat.{ℕ, suc, ◌+◌, ◌-◌, ◌≤◌, ◌<◌}
 use mathlib.Core.Path.{◌≡◌, refl, sym, ap, ◌∙◌}
 use mathlib.Core.Bool.{true, false, ◌&&◌}
 use native.Mathlib.Omega.{arith}
-use borrow.Author.Tests.{not-true, not-false}
+use borrow.Author.Tests.{not_true, not_false}
 use borrow.Author.Rules.{rules}
 use mathlib.Core.List.{List}
 use lib.ListN.{length, get_or, take, drop, length-drop}
@@ -61,7 +61,7 @@ returns c =
     let a = c.before.before.before.before.before.args in
     let l = c.before.before.before.before.loop in
     let n : length a.t1 ≡ 32 = search rules in
-    sym (misfit a.functions a.t1 a.from l.i a.count c.before.before.before.loop-test.true (omega (arith, n, c.before.before.before.loop-test.true, c.before.before.before.before.before.requires)) (sym c.before.is-inside.ensures ∙ not-true _ c.if1.true))
+    sym (misfit a.functions a.t1 a.from l.i a.count c.before.before.before.loop-test.true (omega (arith, n, c.before.before.before.loop-test.true, c.before.before.before.before.before.requires)) (sym c.before.is-inside.ensures ∙ not_true _ c.if1.true))
 
 add-i : tie.Need-overflow-add-i invariant-loop decreases-loop
 add-i c = search rules
@@ -78,7 +78,7 @@ loop-again c =
     let h : a.from + l.i < length a.t1 = omega (arith, n, c.before.before.before.loop-test.true, c.before.before.before.before.before.requires) in (
       ap (λ (k : ℕ). tags_inside a.functions (take k (drop a.from a.t1))) s
           ∙ one_more a.functions a.t1 a.from l.i h
-          ∙ and_true l.invariant.0 (sym c.before.is-inside.ensures ∙ not-false _ c.if1.false),
+          ∙ and_true l.invariant.0 (sym c.before.is-inside.ensures ∙ not_false _ c.if1.false),
       search rules,
     )
 

@@ -8,7 +8,7 @@ use lib.ListN.{length, take, drop, set, get_or, length-drop, take-append-drop}
 use lib.Seq.{get_or-append-add, length-take-le}
 use Rattle.queue.specs.declared.Waiting.{Waiting}
 use Rattle.queue.specs.Line.{no_record, forward}
-use Rattle.queue.proofs.Shift.{shift, shift-step}
+use Rattle.queue.proofs.Shift.{shift, shift_step}
 use Rattle.callers.proofs.PartLaws.{set_append_add}
 use Rattle.callers.proofs.moved_up.Statement.{statement}
 use Rattle.callers.proofs.moved_up.Tie as tie
@@ -27,7 +27,7 @@ moved-step list from j h =
     ∙ ap (λ (w : Waiting). set (moved list from j) (length (take from list) + j) w)
     (ap (λ (k : ℕ). get_or (moved list from j) k no_record) next ∙ get_or-append-add (take from list) (shift (drop from list) j) (suc j) no_record)
     ∙ set_append_add (take from list) (shift (drop from list) j) j (get_or (shift (drop from list) j) (suc j) no_record)
-    ∙ ap (λ (l : List Waiting). take from list ++ l) (shift-step (drop from list) j no_record (omega (arith, length-drop from list)))
+    ∙ ap (λ (l : List Waiting). take from list ++ l) (shift_step (drop from list) j no_record (omega (arith, length-drop from list)))
 
 abbrev invariant-loop : tie.invariant-loop
 invariant-loop from count next₀ i₀ next i = (next ≡ moved next₀ from (i - 1)) × (1 ≤ i) × (i ≤ count)

@@ -9,7 +9,7 @@ use Rattle.callers.specs.declared.Served.TheVariants.{Started}
 use Rattle.unit.proofs.Laws.{inside_of}
 use Rattle.queue.specs.Line.{forward}
 use Rattle.callers.specs.Queues.{place_of, count_of, with_count}
-use Rattle.callers.proofs.PartLaws.{forward-part}
+use Rattle.callers.proofs.PartLaws.{forward_part}
 use borrow.Author.Rules.{rules}
 use Rattle.callers.proofs.started.Statement.{statement}
 use Rattle.callers.proofs.started.Tie as tie
@@ -63,7 +63,7 @@ returns c =
       records = record {
         list = (m.0
             ∙ ap (λ (k : ℕ). take k a.records.list ++ forward (drop k a.records.list) n) start
-            ∙ forward-part a.records.list a.caller (omega (arith, m.1, p.0.most, p.0.few)) n p.1 p.2) i;
+            ∙ forward_part a.records.list a.caller (omega (arith, m.1, p.0.most, p.0.few)) n p.1 p.2) i;
       };
     }
 

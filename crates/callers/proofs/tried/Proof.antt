@@ -4,7 +4,7 @@ use Rattle.controller.specs.declared.Stepped.{Stepped}
 use Rattle.controller.specs.Bank.{step_of}
 use Rattle.callers.specs.Parts.{on_by}
 use Rattle.callers.specs.Inner.{started_by}
-use Rattle.callers.proofs.TryLaws.{oldest-granted, oldest-refused}
+use Rattle.callers.proofs.TryLaws.{oldest_granted, oldest_refused}
 use borrow.Author.Rules.{rules}
 use Rattle.callers.proofs.tried.Statement.{statement}
 use Rattle.callers.proofs.tried.Tie as tie
@@ -35,7 +35,7 @@ returns c =
     let f = c.before.before.before.before.first_of in
     c.idled.ensures
     ∙ ap (on_by a.u a.bank a.callers 0 a.records.list a.counts.each a.caller)
-    (oldest-refused a.u a.bank a.callers a.caller a.records.list a.counts.each s.requires f.ensures.1 f.result f.ensures.0 _
+    (oldest_refused a.u a.bank a.callers a.caller a.records.list a.counts.each s.requires f.ensures.1 f.result f.ensures.0 _
     (sym (ap (λ (x : Stepped). x.answer) c.before.before.before.step.ensures) ∙ c.before.enum_told.given.1))
 
 returns-2 : tie.Need-returns-2
@@ -48,7 +48,7 @@ returns-2 c =
     c.started.ensures
     ∙ ap (λ (x : Stepped). started_by a.callers a.caller f.result x.bank a.records.list a.counts.each) step
     ∙ ap (on_by a.u a.bank a.callers 0 a.records.list a.counts.each a.caller)
-    (oldest-granted a.u a.bank a.callers a.caller a.records.list a.counts.each s.requires f.ensures.1 f.result f.ensures.0
+    (oldest_granted a.u a.bank a.callers a.caller a.records.list a.counts.each s.requires f.ensures.1 f.result f.ensures.0
     (sym (ap (λ (x : Stepped). x.answer) step) ∙ c.before.before.enum-told2.given.1))
 
 pub tried-spec : {M : Type 1} → statement M

@@ -10,7 +10,7 @@ use Rattle.callers.specs.Calls.{one_of, caller_of}
 use Rattle.callers.specs.Parts.{on_by}
 use Rattle.callers.specs.Inner.{Among}
 use Rattle.callers.proofs.TestedLaws.{one_of_lem}
-use Rattle.callers.proofs.TryLaws.{caller-there, nothing_starts, may_start, any_turn}
+use Rattle.callers.proofs.TryLaws.{caller_there, nothing_starts, may_start, any_turn}
 use Rattle.callers.proofs.turned_to.Statement.{statement}
 use Rattle.callers.proofs.turned_to.Tie as tie
 
@@ -18,7 +18,7 @@ of_four : (C i : ℕ) → Among C i → Among 4 i
 of_four C i o = record { few = omega arith; least = o.least; most = omega (arith, o.few, o.most) }
 
 there : (C turn : ℕ) (counts : List ℕ) → one_of C turn ≡ true → {i : ℕ} → i ≡ caller_of C turn counts → Among C i
-there C turn counts e s = subst (Among C) (sym s) (caller-there C turn counts (one_of_lem C turn e))
+there C turn counts e s = subst (Among C) (sym s) (caller_there C turn counts (one_of_lem C turn e))
 
 turn-now-requires : tie.Need-turn-now-requires
 turn-now-requires c κs = one_of_lem c.before.args.callers c.before.args.turn c.before.requires.turn_there

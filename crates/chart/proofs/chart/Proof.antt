@@ -1,7 +1,7 @@
 -- `chart::chart` meets its contract. Assumes nothing.
 use mathlib.Core.Path.{sym, ◌∙◌}
 use borrow.Author.Rules.{rules}
-use Rattle.chart.proofs.ChartLaws.{none-refused, chart-room, chart-refused, chart-drawn}
+use Rattle.chart.proofs.ChartLaws.{none_refused, chart_room, chart_refused, chart_drawn}
 use Rattle.chart.proofs.chart.Statement.{statement}
 use Rattle.chart.proofs.chart.Tie as tie
 
@@ -19,10 +19,10 @@ put-chart-requires c κs =
     let checked = c.before.before.before in
     let a = checked.before.before.args in
     let e = sym checked.check-chart.ensures ∙ c.before.enum_told.given.1 in
-    ((none-refused a.u a.plan a.units _ e).0, chart-room a.u a.plan a.units _ (search rules) e)
+    ((none_refused a.u a.plan a.units _ e).0, chart_room a.u a.plan a.units _ (search rules) e)
 
 returns : tie.Need-returns
-returns c = chart-refused _ _ _ _ _ (sym c.before.before.before.check-chart.ensures ∙ c.before.checked.given.1)
+returns c = chart_refused _ _ _ _ _ (sym c.before.before.before.check-chart.ensures ∙ c.before.checked.given.1)
 
 same_length : tie.Need-same-length
 same_length c = search rules
@@ -30,7 +30,7 @@ same_length c = search rules
 returns-2 : tie.Need-returns-2
 returns-2 c =
     let drawn = c.before.before in
-    chart-drawn _ _ _ _ (sym drawn.before.before.before.before.check-chart.ensures ∙ drawn.before.before.enum_told.given.1) drawn.put-chart.ensures
+    chart_drawn _ _ _ _ (sym drawn.before.before.before.before.check-chart.ensures ∙ drawn.before.before.enum_told.given.1) drawn.put-chart.ensures
 
 pub chart-spec : {M : Type 1} → statement M
 chart-spec =

@@ -1,7 +1,7 @@
 -- `chart::check_chart` meets its contract. Assumes nothing.
 use mathlib.Core.Path.{sym, ◌∙◌}
 use borrow.Author.Rules.{rules}
-use Rattle.chart.proofs.ChartLaws.{refused-plan, refused_short, refused-unit}
+use Rattle.chart.proofs.ChartLaws.{refused_plan, refused_short, refused_unit}
 use Rattle.chart.proofs.check_chart.Statement.{statement}
 use Rattle.chart.proofs.check_chart.Tie as tie
 
@@ -28,14 +28,14 @@ check-units-requires : tie.Need-check-units-requires
 check-units-requires c κs = search rules
 
 returns-2 : tie.Need-returns-2
-returns-2 c = refused-plan _ _ _ _ _ (sym c.before.before.before.check-plan.ensures ∙ c.before.known.given.1)
+returns-2 c = refused_plan _ _ _ _ _ (sym c.before.before.before.check-plan.ensures ∙ c.before.known.given.1)
 
 returns-3 : tie.Need-returns-3
 returns-3 c =
     let size = c.before.before in
     let a = size.before.before.before.before.args in
     c.check-units.ensures
-    ∙ refused-unit a.u a.plan a.units a.room (search rules) (sym size.before.before.before.check-plan.ensures ∙ size.before.enum_told.given.1)
+    ∙ refused_unit a.u a.plan a.units a.room (search rules) (sym size.before.before.before.check-plan.ensures ∙ size.before.enum_told.given.1)
     size.length-of.result size.length-of.ensures c.before.if1.false
 
 pub check-chart-spec : {M : Type 1} → statement M

@@ -6,7 +6,7 @@ use native.Mathlib.Omega.{arith}
 use borrow.Author.Rules.{rules}
 use Rattle.unit.specs.declared.Answer.TheVariants.{Done}
 use Rattle.chart.specs.Answers.{units_answer}
-use Rattle.chart.proofs.CellLaws.{At, at_start, at_next, units_none, units-accepted, units-refused}
+use Rattle.chart.proofs.CellLaws.{At, at_start, at_next, units_none, units_accepted, units_refused}
 use Rattle.chart.proofs.check_units.Statement.{statement}
 use Rattle.chart.proofs.check_units.Tie as tie
 
@@ -33,7 +33,7 @@ returns c =
     let l = c.before.before.before.before.before.loop in
     let a = c.before.before.before.before.before.before.before.args in
     let s = c.before.before.before.step in
-    units-refused _ _ a.units l.position l.bank l.i l.invariant.1 l.invariant.2 s.result s.ensures c.before.before.before.before.loop-test.true _ c.before.answer.given.1
+    units_refused _ _ a.units l.position l.bank l.i l.invariant.1 l.invariant.2 s.result s.ensures c.before.before.before.before.loop-test.true _ c.before.answer.given.1
 
 enum_told : tie.Need-enum-told invariant-loop decreases-loop
 enum_told c = search rules
@@ -50,7 +50,7 @@ loop-again c =
     let s = c.before.before.before.step in (
       omega (arith, c.before.before.before.before.loop-test.true),
       at_next _ _ _ _ l.i l.invariant.1 s.result s.ensures,
-      units-accepted _ _ 0 _ _ l.i l.invariant.1 l.invariant.2 s.result s.ensures c.before.enum_told.given.1,
+      units_accepted _ _ 0 _ _ l.i l.invariant.1 l.invariant.2 s.result s.ensures c.before.enum_told.given.1,
     )
 
 returns-2 : tie.Need-returns-2 invariant-loop decreases-loop

@@ -1,5 +1,5 @@
 -- `command::is_fit` meets its contract. Assumes nothing.
-use Rattle.command.proofs.LineLaws.{fit-numbers, fit-numbers-not, fit-cycle, fit-cycle-not}
+use Rattle.command.proofs.LineLaws.{fit_numbers, fit_numbers_not, fit_cycle, fit_cycle_not}
 use borrow.Author.Rules.{rules}
 use Rattle.command.proofs.is_fit.Statement.{statement}
 use Rattle.command.proofs.is_fit.Tie as tie
@@ -32,10 +32,10 @@ enum-told-2 : tie.Need-enum-told-2
 enum-told-2 c = search rules
 
 returns : tie.Need-returns
-returns c = let f = c.before.before.before in rw f.form.given.1 (fit-numbers f.before.before.args.words _ c.if1.true)
+returns c = let f = c.before.before.before in rw f.form.given.1 (fit_numbers f.before.before.args.words _ c.if1.true)
 
 returns-2 : tie.Need-returns-2
-returns-2 c = let f = c.before.before.before in rw f.form.given.1 (fit-numbers-not f.before.before.args.words _ c.if1.false)
+returns-2 c = let f = c.before.before.before in rw f.form.given.1 (fit_numbers_not f.before.before.args.words _ c.if1.false)
 
 returns-3 : tie.Need-returns-3
 returns-3 c = rw c.before.before.form2.given.1 c.is-optional.ensures
@@ -47,10 +47,10 @@ returns-5 : tie.Need-returns-5
 returns-5 c = rw c.before.before.form4.given.1 c.is-optional-file.ensures
 
 returns-6 : tie.Need-returns-6
-returns-6 c = let e = c.before.before in rw e.enum_told.given.1 (fit-cycle e.before.before.args.words c.if2.true)
+returns-6 c = let e = c.before.before in rw e.enum_told.given.1 (fit_cycle e.before.before.args.words c.if2.true)
 
 returns-7 : tie.Need-returns-7
-returns-7 c = let e = c.before.before in rw e.enum_told.given.1 (fit-cycle-not e.before.before.args.words c.if2.false)
+returns-7 c = let e = c.before.before in rw e.enum_told.given.1 (fit_cycle_not e.before.before.args.words c.if2.false)
 
 returns-8 : tie.Need-returns-8
 returns-8 c = rw c.enum-told2.given.1

@@ -4,7 +4,7 @@ use lib.ListN.{replicate}
 use Rattle.command.specs.Lines.{latencies_in}
 use Rattle.console.specs.Turns.{question_of}
 use Rattle.command.proofs.FrontLaws.{front_length}
-use Rattle.console.proofs.JudgeLaws.{gives-told}
+use Rattle.console.proofs.JudgeLaws.{gives_told}
 use borrow.Author.Rules.{rules}
 use Rattle.console.proofs.tell.Statement.{statement}
 use Rattle.console.proofs.tell.Tie as tie
@@ -37,7 +37,7 @@ returns c =
     let read = c.before.before.before.before.before.before.before in
     let asked = read.before.before in
     let a = asked.before.before.before.args in
-    gives-told (latencies_in a.line.now) (replicate 257 0) read.latencies.ensures.0 read.latencies.ensures.1 asked.question-of.result
+    gives_told (latencies_in a.line.now) (replicate 257 0) read.latencies.ensures.0 read.latencies.ensures.1 asked.question-of.result
     (question_of a.ask a.request) a.line.now a.out.now asked.question-of.ensures refl refl c.before.before.ask.ensures
 
 pub tell-spec : {M : Type 1} → statement M

@@ -4,7 +4,7 @@ use mathlib.Core.Path.{refl}
 use native.Mathlib.Nat.{mod-lt}
 use native.Mathlib.Omega.{arith}
 use lib.ListN.{length}
-use Rattle.cycles.proofs.OrderLaws.{Comparing, compare-end, compare-less, compare-more, compare-on}
+use Rattle.cycles.proofs.OrderLaws.{Comparing, compare_end, compare_less, compare_more, compare_on}
 use Rattle.cycles.proofs.comes_first.Statement.{statement}
 use Rattle.cycles.proofs.comes_first.Tie as tie
 
@@ -39,13 +39,13 @@ returns : tie.Need-returns invariant-loop decreases-loop
 returns c =
     let turn = c.before.before.before in
     let p = turn.before.before.requires in
-    compare-less _ _ _ _ turn.before.loop.invariant.1 turn.loop-test.true p.0 p.1 c.if1.true
+    compare_less _ _ _ _ turn.before.loop.invariant.1 turn.loop-test.true p.0 p.1 c.if1.true
 
 returns-2 : tie.Need-returns-2 invariant-loop decreases-loop
 returns-2 c =
     let turn = c.before.before.before.before in
     let p = turn.before.before.requires in
-    compare-more _ _ _ _ turn.before.loop.invariant.1 turn.loop-test.true p.0 p.1 c.if2.true
+    compare_more _ _ _ _ turn.before.loop.invariant.1 turn.loop-test.true p.0 p.1 c.if2.true
 
 add-i : tie.Need-overflow-add-i invariant-loop decreases-loop
 add-i c = omega arith
@@ -57,12 +57,12 @@ loop-again : tie.Need-loop-preserved invariant-loop decreases-loop
 loop-again c =
     let turn = c.before.before.before.before in
     let p = turn.before.before.requires in
-    (omega arith, compare-on _ _ _ _ turn.before.loop.invariant.1 turn.loop-test.true p.0 p.1 c.if2.false c.before.if1.false)
+    (omega arith, compare_on _ _ _ _ turn.before.loop.invariant.1 turn.loop-test.true p.0 p.1 c.if2.false c.before.if1.false)
 
 returns-3 : tie.Need-returns-3 invariant-loop decreases-loop
 returns-3 c =
     let a = c.before.before.args in
-    compare-end a.cycle.now a.one a.other _ c.before.loop.invariant.1 c.loop-test.false
+    compare_end a.cycle.now a.one a.other _ c.before.loop.invariant.1 c.loop-test.false
 
 pub comes-first-spec : {M : Type 1} → statement M
 comes-first-spec =

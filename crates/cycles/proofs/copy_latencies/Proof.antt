@@ -1,7 +1,7 @@
 -- `cycles::copy_latencies` meets its contract: the latencies passed are copied and added up. Assumes nothing.
 use Prim.Native.Nat.{◌-◌}
 use native.Mathlib.Omega.{arith}
-use Rattle.cycles.proofs.NotedLaws.{Copying, copy_start, copy-room, copy_more, copy_end}
+use Rattle.cycles.proofs.NotedLaws.{Copying, copy_start, copy_room, copy_more, copy_end}
 use Rattle.cycles.proofs.copy_latencies.Statement.{statement}
 use Rattle.cycles.proofs.copy_latencies.Tie as tie
 
@@ -30,7 +30,7 @@ slice-write-out : tie.Need-slice-write-out invariant-loop decreases-loop
 slice-write-out c =
     let l = c.before.before.loop in
     let p = c.before.before.before.requires in
-    omega (arith, copy-room _ _ _ _ p _ _ _ l.invariant, p.fits, c.before.loop-test.true)
+    omega (arith, copy_room _ _ _ _ p _ _ _ l.invariant, p.fits, c.before.loop-test.true)
 
 add-sum : tie.Need-overflow-add-sum invariant-loop decreases-loop
 add-sum c =
@@ -48,7 +48,7 @@ loop-again : tie.Need-loop-preserved invariant-loop decreases-loop
 loop-again c = copy_more _ _ _ _ c.before.before.before.requires _ _ _ c.before.before.loop.invariant c.before.loop-test.true
 
 same_length : tie.Need-same-length invariant-loop decreases-loop
-same_length c = copy-room _ _ _ _ c.before.before.requires _ _ _ c.before.loop.invariant
+same_length c = copy_room _ _ _ _ c.before.before.requires _ _ _ c.before.loop.invariant
 
 returns : tie.Need-returns invariant-loop decreases-loop
 returns c = copy_end _ _ _ _ c.before.before.requires _ _ _ c.before.loop.invariant c.loop-test.false

@@ -5,7 +5,7 @@ use mathlib.Core.Logic.{⊎_elim}
 use native.Mathlib.Omega.{arith}
 use lib.ListN.{length}
 use Rattle.words.proofs.Tests.{off, on}
-use Rattle.cycles.proofs.OrderLaws.{Leading, lead_start, lead-keep, lead-change, lead-end}
+use Rattle.cycles.proofs.OrderLaws.{Leading, lead_start, lead_keep, lead_change, lead_end}
 use Rattle.cycles.proofs.first_rotation.Statement.{statement}
 use Rattle.cycles.proofs.first_rotation.Tie as tie
 
@@ -37,12 +37,12 @@ loop-again c =
     let l = turn.before.loop in
     let s = turn.before.before.before.args.cycle.now in
     ⊎_elim
-    (λ w. subst (λ x. Leading s x (l.rotation + 1)) (sym w.1) (lead-change l.invariant turn.loop-test.true (off w.0.taken called.comes-first.ensures)))
-    (λ w. subst (λ x. Leading s x (l.rotation + 1)) (sym w.1) (lead-keep l.invariant (on w.0.left called.comes-first.ensures)))
+    (λ w. subst (λ x. Leading s x (l.rotation + 1)) (sym w.1) (lead_change l.invariant turn.loop-test.true (off w.0.taken called.comes-first.ensures)))
+    (λ w. subst (λ x. Leading s x (l.rotation + 1)) (sym w.1) (lead_keep l.invariant (on w.0.left called.comes-first.ensures)))
     c.if1.branch
 
 returns : tie.Need-returns invariant-loop decreases-loop
-returns c = lead-end c.before.loop.invariant c.loop-test.false
+returns c = lead_end c.before.loop.invariant c.loop-test.false
 
 pub first-rotation-spec : {M : Type 1} → statement M
 first-rotation-spec =

@@ -3,7 +3,7 @@ use mathlib.Core.Path.{sym, ◌∙◌}
 use native.Mathlib.Omega.{arith}
 use borrow.Author.Rules.{rules}
 use Rattle.diagram.proofs.StatesLaws.{Vector, vector_value, vector_refused, enlist_few, enlist_many}
-use Rattle.cycles.proofs.EndLaws.{listed_walkable, walked_copyable, ends_refused, ends-short-work, ends-short-out, ends_many, ends-cycle}
+use Rattle.cycles.proofs.EndLaws.{listed_walkable, walked_copyable, ends_refused, ends_short_work, ends_short_out, ends_many, ends_cycle}
 use Rattle.cycles.proofs.greedy.Statement.{statement}
 use Rattle.cycles.proofs.greedy.Tie as tie
 
@@ -28,13 +28,13 @@ known c =
 returns : tie.Need-returns
 returns c =
     let a = (start c.before).args in
-    ends-short-work a.u a.tag.0 a.work.now a.out.now _ (known c.before) (omega (arith, c.if1.true))
+    ends_short_work a.u a.tag.0 a.work.now a.out.now _ (known c.before) (omega (arith, c.if1.true))
 
 returns-2 : tie.Need-returns-2
 returns-2 c =
     let enough = c.before in
     let a = (start enough.before).args in
-    ends-short-out a.u a.tag.0 a.work.now a.out.now _ (known enough.before) (omega (arith, enough.if1.false)) (omega (arith, c.if2.true))
+    ends_short_out a.u a.tag.0 a.work.now a.out.now _ (known enough.before) (omega (arith, enough.if1.false)) (omega (arith, c.if2.true))
 
 enlist-requires : tie.Need-enlist-requires
 enlist-requires c κs = search rules
@@ -89,7 +89,7 @@ returns-5 c =
     let fits = listed.before.before in
     let enough = fits.before in
     let a = (start enough.before).args in
-    ends-cycle a.u a.tag.0 a.work.now a.out.now _ (known enough.before) (omega (arith, enough.if1.false)) (omega (arith, fits.if2.false)) _ _ listed.enlist.ensures
+    ends_cycle a.u a.tag.0 a.work.now a.out.now _ (known enough.before) (omega (arith, enough.if1.false)) (omega (arith, fits.if2.false)) _ _ listed.enlist.ensures
     (enlist_few _ 1 _ listed.enlist.result listed.enlist.ensures.answer walked.before.before.if3.false)
     _ walked.walk.result _ _ walked.walk.ensures copied.copy-latencies.ensures
 

@@ -3,7 +3,7 @@ use Prim.Native.Nat.{◌+◌, ◌-◌}
 use native.Mathlib.Omega.{arith}
 use borrow.Author.Rules.{rules}
 use Rattle.words.proofs.Tests.{off, on}
-use Rattle.cycles.proofs.LatencyLaws.{Trying, try_start, try-more, try-found, try-last}
+use Rattle.cycles.proofs.LatencyLaws.{Trying, try_start, try_more, try_found, try_last}
 use Rattle.cycles.proofs.least_latency.Statement.{statement}
 use Rattle.cycles.proofs.least_latency.Tie as tie
 
@@ -25,7 +25,7 @@ test-requires c κs = search rules
 returns : tie.Need-returns invariant-loop decreases-loop
 returns c =
     let turn = c.before.before in
-    try-found turn.before.loop.invariant turn.loop-test.true (off c.if1.true c.before.test.ensures)
+    try_found turn.before.loop.invariant turn.loop-test.true (off c.if1.true c.before.test.ensures)
 
 add-latency : tie.Need-overflow-add-latency invariant-loop decreases-loop
 add-latency c = omega arith
@@ -36,10 +36,10 @@ loop-less c = omega arith
 loop-again : tie.Need-loop-preserved invariant-loop decreases-loop
 loop-again c =
     let turn = c.before.before in
-    try-more turn.before.loop.invariant turn.loop-test.true (on c.if1.false c.before.test.ensures)
+    try_more turn.before.loop.invariant turn.loop-test.true (on c.if1.false c.before.test.ensures)
 
 returns-2 : tie.Need-returns-2 invariant-loop decreases-loop
-returns-2 c = try-last c.before.loop.invariant c.loop-test.false
+returns-2 c = try_last c.before.loop.invariant c.loop-test.false
 
 pub least-latency-spec : {M : Type 1} → statement M
 least-latency-spec =

@@ -4,7 +4,7 @@ use mathlib.Core.Path.{sym, subst}
 use native.Mathlib.Omega.{arith}
 use borrow.Author.Rules.{rules}
 use Rattle.cycles.specs.Inner.{Ready}
-use Rattle.cycles.proofs.WalkLaws.{Walking, walk_start, walk_few, walk-room, walk-place, walk_fewer, walk-ready, walk_more, walk-back, walk_end}
+use Rattle.cycles.proofs.WalkLaws.{Walking, walk_start, walk_few, walk_room, walk_place, walk_fewer, walk_ready, walk_more, walk_back, walk_end}
 use Rattle.cycles.proofs.walk.Statement.{statement}
 use Rattle.cycles.proofs.walk.Tie as tie
 
@@ -26,23 +26,23 @@ loop-holds c =
     walk_start cleared.before.before.before.requires cleared.clear-marks.ensures
 
 add-if1 : tie.Need-overflow-add-if1 invariant-loop decreases-loop
-add-if1 c = omega (arith, walk-place c.loop.invariant)
+add-if1 c = omega (arith, walk_place c.loop.invariant)
 
 mul-if1 : tie.Need-overflow-mul-if1 invariant-loop decreases-loop
-mul-if1 c = omega (arith, walk-place c.loop.invariant)
+mul-if1 c = omega (arith, walk_place c.loop.invariant)
 
 slice-read-if1 : tie.Need-slice-read-if1 invariant-loop decreases-loop
-slice-read-if1 c = omega (arith, walk-place c.before.loop.invariant, walk-room c.before.loop.invariant)
+slice-read-if1 c = omega (arith, walk_place c.before.loop.invariant, walk_room c.before.loop.invariant)
 
 take-step-requires : tie.Need-take-step-requires invariant-loop decreases-loop
 take-step-requires c κs =
     let l = c.before.before.before in
-    subst (λ n. Ready l.loop.work n l.loop.at l.loop.step) (sym l.before.width_of_lem.ensures) (walk-ready l.loop.invariant c.before.if1.true)
+    subst (λ n. Ready l.loop.work n l.loop.at l.loop.step) (sym l.before.width_of_lem.ensures) (walk_ready l.loop.invariant c.before.if1.true)
 
 add_step : tie.Need-overflow-add-step invariant-loop decreases-loop
 add_step c =
     let l = c.before.before.before.before.before.before in
-    omega (arith, (walk-ready l.loop.invariant c.before.before.before.before.if1.true).few)
+    omega (arith, (walk_ready l.loop.invariant c.before.before.before.before.if1.true).few)
 
 loop-less : tie.Need-loop-smaller invariant-loop decreases-loop
 loop-less c =
@@ -55,29 +55,29 @@ loop-again c =
     walk_more l.loop.invariant c.before.before.before.before.if1.true l.before.width_of_lem.ensures c.before.before.take_step.ensures
 
 add-first : tie.Need-overflow-add-first invariant-loop decreases-loop
-add-first c = omega (arith, walk-place c.before.before.loop.invariant)
+add-first c = omega (arith, walk_place c.before.before.loop.invariant)
 
 mul-first : tie.Need-overflow-mul-first invariant-loop decreases-loop
-mul-first c = omega (arith, walk-place c.before.before.loop.invariant)
+mul-first c = omega (arith, walk_place c.before.before.loop.invariant)
 
 slice-read-first : tie.Need-slice-read-first invariant-loop decreases-loop
 slice-read-first c =
     let l = c.before.before.before.loop in
-    omega (arith, walk-place l.invariant, walk-room l.invariant)
+    omega (arith, walk_place l.invariant, walk_room l.invariant)
 
 cast-first : tie.Need-overflow-cast-first invariant-loop decreases-loop
 cast-first c = omega (arith, c.slice-known5.given (768 + c.before.before.before.loop.at))
 
 sub-first : tie.Need-overflow-sub-first invariant-loop decreases-loop
-sub-first c = (walk-back c.before.before.before.loop.invariant c.before.if1.false).0
+sub-first c = (walk_back c.before.before.before.loop.invariant c.before.if1.false).0
 
 add-from : tie.Need-overflow-add-from invariant-loop decreases-loop
 add-from c =
     let l = c.before.before.before.loop in
-    omega (arith, (walk-back l.invariant c.before.if1.false).1, walk_few l.invariant, l.invariant.listing.index.few)
+    omega (arith, (walk_back l.invariant c.before.if1.false).1, walk_few l.invariant, l.invariant.listing.index.few)
 
 sub-count : tie.Need-overflow-sub-count invariant-loop decreases-loop
-sub-count c = omega (arith, (walk-back c.before.before.before.loop.invariant c.before.if1.false).1)
+sub-count c = omega (arith, (walk_back c.before.before.before.loop.invariant c.before.if1.false).1)
 
 same_length : tie.Need-same-length invariant-loop decreases-loop
 same_length c =

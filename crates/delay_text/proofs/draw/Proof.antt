@@ -1,6 +1,6 @@
 -- `delay_text::draw` meets its contract. Assumes nothing.
 use borrow.Author.Rules.{rules}
-use Rattle.delay_text.proofs.ShownLaws.{table_refused, table-drawn}
+use Rattle.delay_text.proofs.ShownLaws.{table_refused, table_drawn}
 use Rattle.delay_text.proofs.draw.Statement.{statement}
 use Rattle.delay_text.proofs.draw.Tie as tie
 
@@ -23,7 +23,7 @@ same_length : tie.Need-same-length
 same_length c = search rules
 
 returns-2 : tie.Need-returns-2
-returns-2 c = let b = c.before.before in let o = b.before.before.before.before.delays in table-drawn _ _ _ o.result o.ensures _ _ _ b.before.before.enum_told.given.1 b.table.ensures
+returns-2 c = let b = c.before.before in let o = b.before.before.before.before.delays in table_drawn _ _ _ o.result o.ensures _ _ _ b.before.before.enum_told.given.1 b.table.ensures
 
 pub draw-spec : {M : Type 1} → statement M
 draw-spec =

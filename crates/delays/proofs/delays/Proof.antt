@@ -6,7 +6,7 @@ use mir.Syntax.{w16}
 use mir.Val.{Fits}
 use Rattle.words.proofs.Tests.{on, off}
 use Rattle.unit.proofs.SoundLaws.{Words}
-use Rattle.delays.proofs.EndLaws.{crowded_is, suited, tag-left, crowded-left, latency-left, all_placed}
+use Rattle.delays.proofs.EndLaws.{crowded_is, suited, tag_left, crowded_left, latency_left, all_placed}
 use Rattle.delays.proofs.delays.Statement.{statement}
 use Rattle.delays.proofs.delays.Tie as tie
 
@@ -41,7 +41,7 @@ returns c =
     let s = d.before.before.before.before in
     let t = sym d.before.before.before.check-tag.ensures ∙ d.before.enum_told.given.1 in
     c.refused2.ensures
-    ∙ crowded-left s.args.u s.args.tag.0 s.args.latency t (sym (crowded_is s.args.u s.args.tag.0 _ (words s) t d.columns_of.ensures) ∙ sym c.before.before.is-crowded.ensures ∙ c.before.if1.true)
+    ∙ crowded_left s.args.u s.args.tag.0 s.args.latency t (sym (crowded_is s.args.u s.args.tag.0 _ (words s) t d.columns_of.ensures) ∙ sym c.before.before.is-crowded.ensures ∙ c.before.if1.true)
 
 is-latency-requires : tie.Need-is-latency-requires
 is-latency-requires c κs =
@@ -57,7 +57,7 @@ returns-2 c =
     let s = d.before.before.before.before in
     let t = sym d.before.before.before.check-tag.ensures ∙ d.before.enum_told.given.1 in
     let single = sym (crowded_is s.args.u s.args.tag.0 _ (words s) t d.columns_of.ensures) ∙ sym c.before.before.before.before.is-crowded.ensures ∙ c.before.before.before.if1.false in
-    c.refused3.ensures ∙ latency-left s.args.u s.args.tag.0 s.args.latency t single (off c.before.if2.true c.before.before.is-latency.ensures)
+    c.refused3.ensures ∙ latency_left s.args.u s.args.tag.0 s.args.latency t single (off c.before.if2.true c.before.before.is-latency.ensures)
 
 place-all-requires : tie.Need-place-all-requires
 place-all-requires c κs =
@@ -69,7 +69,7 @@ place-all-requires c κs =
 returns-3 : tie.Need-returns-3
 returns-3 c =
     let s = c.before.before.before.before.before in
-    c.refused.ensures ∙ tag-left s.args.u s.args.tag.0 s.args.latency _ (sym c.before.before.before.before.check-tag.ensures ∙ c.before.before.checked.given.1)
+    c.refused.ensures ∙ tag_left s.args.u s.args.tag.0 s.args.latency _ (sym c.before.before.before.before.check-tag.ensures ∙ c.before.before.checked.given.1)
 
 returns-4 : tie.Need-returns-4
 returns-4 c =

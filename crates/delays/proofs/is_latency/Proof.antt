@@ -6,7 +6,7 @@ use lib.Dec.{leb}
 use Rattle.words.proofs.Tests.{on, off}
 use Rattle.unit.specs.Unit.{marked}
 use Rattle.collision.specs.Vector.{marks_of}
-use Rattle.delays.proofs.EndLaws.{marks-given, marks-never}
+use Rattle.delays.proofs.EndLaws.{marks_given, marks_never}
 use Rattle.delays.proofs.is_latency.Statement.{statement}
 use Rattle.delays.proofs.is_latency.Tie as tie
 
@@ -28,13 +28,13 @@ enum-known-most c = search rules
 returns-2 : tie.Need-returns-2
 returns-2 c =
     let s = c.before.before.before.before.before in
-    absurd (marks-never s.args.u s.args.tag.0 s.requires _ c.before.before.marks.ensures _ c.enum_told.given.1)
+    absurd (marks_never s.args.u s.args.tag.0 s.requires _ c.before.before.marks.ensures _ c.enum_told.given.1)
 
 returns-3 : tie.Need-returns-3
 returns-3 c =
     let s = c.before.before.before.before.before.before in
     let m = s.args.latency in
-    let most = marks-given s.args.u s.args.tag.0 s.requires _ c.before.before.before.marks.ensures _ c.before.most.given.1 in
+    let most = marks_given s.args.u s.args.tag.0 s.requires _ c.before.before.before.marks.ensures _ c.before.most.given.1 in
     ap (λ n. leb n m) most ∙ sym (ap (λ t. t && leb (marks_of (marked s.args.u) s.args.tag.0) m) (on c.before.before.before.before.if1.false c.before.before.before.before.before.is-inside.ensures))
 
 pub is-latency-spec : {M : Type 1} → statement M

@@ -9,7 +9,7 @@ use Rattle.unit.specs.declared.Outcome.{Outcome}
 use Rattle.unit.specs.Calls.{unit_of, column_of}
 use Rattle.delays.specs.Delays.{places, moved_table}
 use Rattle.delays.specs.Inner.{column_marks, Movable}
-use Rattle.delays.proofs.MoveLaws.{fresh_is, unit-none, unit-more}
+use Rattle.delays.proofs.MoveLaws.{fresh_is, unit_none, unit_more}
 use Rattle.delays.proofs.moved_unit.Statement.{statement}
 use Rattle.delays.proofs.moved_unit.Tie as tie
 
@@ -28,7 +28,7 @@ loop-holds c =
       omega arith,
       s.requires,
       ap (λ (o : Outcome). o.unit) c.before.fresh.ensures ∙ fresh_is s.args.segments s.args.width
-          ∙ unit-none s.args.t1 s.args.t2 s.args.latency s.args.count s.args.segments s.args.width s.requires,
+          ∙ unit_none s.args.t1 s.args.t2 s.args.latency s.args.count s.args.segments s.args.width s.requires,
     )
 
 mul-with-column : tie.Need-overflow-mul-with-column invariant-loop decreases-loop
@@ -63,7 +63,7 @@ loop-again c =
       l.invariant.1,
       ap (λ (o : Outcome). o.unit) c.before.with-column.ensures
           ∙ ap (λ (u : FunctionUnit). (column_of u 1 (get_or a.t2 l.i 0) (get_or a.t1 l.i 0)).unit) l.invariant.2
-          ∙ unit-more a.t1 a.t2 a.latency a.count a.segments a.width l.invariant.1 l.i c.before.before.loop-test.true,
+          ∙ unit_more a.t1 a.t2 a.latency a.count a.segments a.width l.invariant.1 l.i c.before.before.loop-test.true,
     )
 
 returns : tie.Need-returns invariant-loop decreases-loop

@@ -2,7 +2,7 @@
 use mathlib.Core.Path.{◌∙◌}
 use native.Mathlib.Omega.{arith}
 use borrow.Author.Rules.{rules}
-use Rattle.delays.proofs.EndLaws.{counts, can-move, ends-beyond, ends-placed}
+use Rattle.delays.proofs.EndLaws.{counts, can_move, ends_beyond, ends_placed}
 use Rattle.delays.proofs.place_all.Statement.{statement}
 use Rattle.delays.proofs.place_all.Tie as tie
 
@@ -25,16 +25,16 @@ refused-requires : tie.Need-refused-requires
 refused-requires c κs = search rules
 
 returns : tie.Need-returns
-returns c = let s = c.before.before.before.before in c.refused.ensures ∙ ends-beyond s.args.u s.args.columns s.args.latency s.requires _ c.before.before.places_of.ensures c.before.if1.true
+returns c = let s = c.before.before.before.before in c.refused.ensures ∙ ends_beyond s.args.u s.args.columns s.args.latency s.requires _ c.before.before.places_of.ensures c.before.if1.true
 
 cast-moved-unit : tie.Need-overflow-cast-moved-unit
 cast-moved-unit c = search rules
 
 moved-unit-requires : tie.Need-moved-unit-requires
-moved-unit-requires c κs = let s = c.before.before.before in can-move s.args.u s.args.columns s.args.latency s.requires _ c.before.places_of.ensures c.if1.false
+moved-unit-requires c κs = let s = c.before.before.before in can_move s.args.u s.args.columns s.args.latency s.requires _ c.before.places_of.ensures c.if1.false
 
 returns-2 : tie.Need-returns-2
-returns-2 c = let s = c.before.before.before.before in ends-placed s.args.u s.args.columns s.args.latency s.requires _ c.before.before.places_of.ensures _ c.before.if1.false c.moved-unit.ensures
+returns-2 c = let s = c.before.before.before.before in ends_placed s.args.u s.args.columns s.args.latency s.requires _ c.before.before.places_of.ensures _ c.before.if1.false c.moved-unit.ensures
 
 pub place-all-spec : {M : Type 1} → statement M
 place-all-spec =

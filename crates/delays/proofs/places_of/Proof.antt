@@ -4,7 +4,7 @@ use mathlib.Core.Path.{◌≡◌, refl, subst}
 use native.Mathlib.Omega.{arith}
 use lib.ListN.{replicate}
 use Rattle.delays.specs.Inner.{column_marks, first_for, Placed}
-use Rattle.delays.proofs.WordLaws.{first_none, placed_more, placed-low}
+use Rattle.delays.proofs.WordLaws.{first_none, placed_more, placed_low}
 use Rattle.delays.proofs.places_of.Statement.{statement}
 use Rattle.delays.proofs.places_of.Tie as tie
 
@@ -42,7 +42,7 @@ loop-again c =
       l.invariant.1,
       l.invariant.2,
       l.invariant.3,
-      placed-low a.columns a.latency l.spots l.i _ h l.invariant.5.size e.1,
+      placed_low a.columns a.latency l.spots l.i _ h l.invariant.5.size e.1,
       placed_more a.columns a.latency l.spots l.i _ h l.invariant.5 e.0,
     )
 

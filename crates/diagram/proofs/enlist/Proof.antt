@@ -2,7 +2,7 @@
 use native.Mathlib.Omega.{arith}
 use Rattle.diagram.proofs.ClearLaws.{clear_indexed}
 use Rattle.diagram.proofs.FollowLaws.{confined_trans}
-use Rattle.diagram.proofs.EnlistLaws.{grown_after, enlist_short, enlist_many, enlist-all}
+use Rattle.diagram.proofs.EnlistLaws.{grown_after, enlist_short, enlist_many, enlist_all}
 use borrow.Author.Rules.{rules}
 use Rattle.diagram.proofs.enlist.Statement.{statement}
 use Rattle.diagram.proofs.enlist.Tie as tie
@@ -41,7 +41,7 @@ returns-3 c =
     let inserted = explored.before.before.before.before in
     let cleared = inserted.before.before.before.before in
     let before = confined_trans cleared.clear.ensures.confined inserted.insert.ensures.confined in
-    enlist-all _ cleared.before.before.if1.false (grown_after before explored.explore.ensures) c.if2.false
+    enlist_all _ cleared.before.before.if1.false (grown_after before explored.explore.ensures) c.if2.false
 
 pub enlist-spec : {M : Type 1} → statement M
 enlist-spec =

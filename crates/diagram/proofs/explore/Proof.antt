@@ -3,7 +3,7 @@ use mathlib.Core.Path.{◌∙◌}
 use Prim.Native.Nat.{◌-◌}
 use native.Mathlib.Omega.{arith}
 use borrow.Author.Rules.{rules}
-use Rattle.diagram.proofs.EnlistLaws.{Exploring, explore_start, explore-ready, explore_more, explore-over, explore-end}
+use Rattle.diagram.proofs.EnlistLaws.{Exploring, explore_start, explore_ready, explore_more, explore_over, explore_end}
 use Rattle.diagram.proofs.explore.Statement.{statement}
 use Rattle.diagram.proofs.explore.Tie as tie
 
@@ -22,7 +22,7 @@ loop-holds c =
     explore_start _ _ _ c.width_of_lem.ensures start.ranges.vector.fits start.requires
 
 follow-requires : tie.Need-follow-requires invariant-loop decreases-loop
-follow-requires c κs = explore-ready c.before.before.loop.invariant c.before.loop-test.true
+follow-requires c κs = explore_ready c.before.before.loop.invariant c.before.loop-test.true
 
 same_length : tie.Need-same-length invariant-loop decreases-loop
 same_length c =
@@ -33,7 +33,7 @@ returns : tie.Need-returns invariant-loop decreases-loop
 returns c =
     let called = c.before.before.before in
     let turn = called.before.before in
-    explore-over turn.before.loop.invariant turn.loop-test.true called.follow.ensures c.if1.true
+    explore_over turn.before.loop.invariant turn.loop-test.true called.follow.ensures c.if1.true
 
 add_at : tie.Need-overflow-add-at invariant-loop decreases-loop
 add_at c =
@@ -55,7 +55,7 @@ same-length-2 : tie.Need-same-length-2 invariant-loop decreases-loop
 same-length-2 c = c.before.loop.invariant.confined.size
 
 returns-2 : tie.Need-returns-2 invariant-loop decreases-loop
-returns-2 c = explore-end c.before.loop.invariant c.loop-test.false
+returns-2 c = explore_end c.before.loop.invariant c.loop-test.false
 
 pub explore-spec : {M : Type 1} → statement M
 explore-spec =

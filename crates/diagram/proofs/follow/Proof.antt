@@ -5,7 +5,7 @@ use Rattle.words.specs.Bits.{is_set}
 use Prim.Native.Nat.{◌+◌, ◌-◌}
 use native.Mathlib.Omega.{arith}
 use Rattle.words.proofs.ZeroLaws.{zero_most}
-use Rattle.diagram.proofs.FollowLaws.{Following, follow_start, follow_more, follow_over, follow-end, follow_next, follow_past, follow_free}
+use Rattle.diagram.proofs.FollowLaws.{Following, follow_start, follow_more, follow_over, follow_end, follow_next, follow_past, follow_free}
 use borrow.Author.Rules.{rules}
 use Rattle.diagram.proofs.follow.Statement.{statement}
 use Rattle.diagram.proofs.follow.Tie as tie
@@ -88,7 +88,7 @@ same-length-2 : tie.Need-same-length-2 invariant-loop decreases-loop
 same-length-2 c = c.before.loop.invariant.0.confined.size
 
 returns-2 : tie.Need-returns-2 invariant-loop decreases-loop
-returns-2 c = follow-end c.before.loop.invariant.0 (omega (arith, c.loop-test.false))
+returns-2 c = follow_end c.before.loop.invariant.0 (omega (arith, c.loop-test.false))
 
 pub follow-spec : {M : Type 1} → statement M
 follow-spec =

@@ -1,6 +1,6 @@
 -- `diagram::include` meets its contract: the index tells whether the state is listed. Assumes nothing.
 use native.Mathlib.Omega.{arith}
-use Rattle.diagram.proofs.FollowLaws.{include-found, include_full, include-more}
+use Rattle.diagram.proofs.FollowLaws.{include_found, include_full, include_more}
 use borrow.Author.Rules.{rules}
 use Rattle.diagram.proofs.include.Statement.{statement}
 use Rattle.diagram.proofs.include.Tie as tie
@@ -14,7 +14,7 @@ same_length c = search rules
 returns : tie.Need-returns
 returns c =
     let placed = c.before in
-    include-found _ _ _ _ placed.before.before.before.requires placed.place.ensures c.if1.true
+    include_found _ _ _ _ placed.before.before.before.requires placed.place.ensures c.if1.true
 
 same-length-2 : tie.Need-same-length-2
 same-length-2 c = search rules
@@ -38,7 +38,7 @@ returns-3 c =
     let inserted = c.before.before in
     let missed = inserted.before.before.before in
     let placed = missed.before in
-    include-more _ _ _ _ placed.before.before.before.requires placed.place.ensures missed.if1.false inserted.insert.ensures
+    include_more _ _ _ _ placed.before.before.before.requires placed.place.ensures missed.if1.false inserted.insert.ensures
 
 pub include-spec : {M : Type 1} → statement M
 include-spec =

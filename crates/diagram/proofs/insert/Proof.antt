@@ -1,7 +1,7 @@
 -- `diagram::insert` meets its contract: the index of one state more is right. Assumes nothing.
 use native.Mathlib.Omega.{arith}
 use lib.ListN.{length-set}
-use Rattle.diagram.proofs.InsertLaws.{insert-grown}
+use Rattle.diagram.proofs.InsertLaws.{insert_grown}
 use borrow.Author.Rules.{rules}
 use Rattle.diagram.proofs.insert.Statement.{statement}
 use Rattle.diagram.proofs.insert.Tie as tie
@@ -49,7 +49,7 @@ same_length : tie.Need-same-length
 same_length c = search rules
 
 returns : tie.Need-returns
-returns c = let a = c.before.before.before in insert-grown _ _ _ _ c.before.bucket-of.ensures a.requires.0 a.requires.1
+returns c = let a = c.before.before.before in insert_grown _ _ _ _ c.before.bucket-of.ensures a.requires.0 a.requires.1
 
 pub insert-spec : {M : Type 1} → statement M
 insert-spec =

@@ -2,7 +2,7 @@
 use Prim.Native.Nat.{ℕ, ◌+◌, ◌-◌}
 use native.Mathlib.Omega.{arith}
 use borrow.Author.Rules.{rules}
-use Rattle.diagram.proofs.PlaceLaws.{Walking, place_short, place-far, walk_start, walk_end, walk_here, walk-stop, walk_more}
+use Rattle.diagram.proofs.PlaceLaws.{Walking, place_short, place_far, walk_start, walk_end, walk_here, walk_stop, walk_more}
 use Rattle.diagram.proofs.place.Statement.{statement}
 use Rattle.diagram.proofs.place.Tie as tie
 
@@ -31,7 +31,7 @@ cast-at : tie.Need-overflow-cast-at invariant-loop decreases-loop
 cast-at c = let i : ℕ = 256 + c.before.bucket-of.result in omega (arith, c.shared-slice-known2.given i)
 
 returns-2 : tie.Need-returns-2 invariant-loop decreases-loop
-returns-2 c = place-far _ _ _ (omega arith) _ c.before.before.bucket-of.ensures c.if2.true
+returns-2 c = place_far _ _ _ (omega arith) _ c.before.before.bucket-of.ensures c.if2.true
 
 loop-holds : tie.Need-loop-init invariant-loop decreases-loop
 loop-holds c = walk_start _ _ _ (omega arith) _ c.before.before.bucket-of.ensures c.if2.false
@@ -66,7 +66,7 @@ returns-4 : tie.Need-returns-4 invariant-loop decreases-loop
 returns-4 c =
     let other = c.before.before in
     let turn = other.before.before in
-    walk-stop _ _ _ _ turn.before.loop.invariant turn.loop-test.true other.if3.false (omega (arith, c.if4.true))
+    walk_stop _ _ _ _ turn.before.loop.invariant turn.loop-test.true other.if3.false (omega (arith, c.if4.true))
 
 loop-less : tie.Need-loop-smaller invariant-loop decreases-loop
 loop-less c = omega arith

@@ -5,7 +5,7 @@ use borrow.Author.Rules.{rules}
 use Rattle.unit.specs.declared.Answer.TheVariants.{Done}
 use Rattle.unit.specs.Calls.{tag_answer}
 use Rattle.drawing.proofs.TableLaws.{lines_few}
-use Rattle.drawing.proofs.AnswerLaws.{sound_unit, table_refused, table-short, table-drawn}
+use Rattle.drawing.proofs.AnswerLaws.{sound_unit, table_refused, table_short, table_drawn}
 use Rattle.drawing.proofs.table.Statement.{statement}
 use Rattle.drawing.proofs.table.Tie as tie
 
@@ -32,7 +32,7 @@ returns : tie.Need-returns
 returns c =
     let n = c.before in
     let a = (start n.before).args in
-    table-short a.u a.tag.0 (passed n.before) a.out.now n.length-of.result n.length-of.ensures c.if1.true
+    table_short a.u a.tag.0 (passed n.before) a.out.now n.length-of.result n.length-of.ensures c.if1.true
 
 columns-of-requires : tie.Need-columns-of-requires
 columns-of-requires c κs = search rules
@@ -71,7 +71,7 @@ returns-3 c =
     let b = columns.before in
     let n = b.before in
     let a = (start n.before).args in
-    table-drawn a.u a.tag.0 (passed n.before) a.out.now n.length-of.result n.length-of.ensures (omega (arith, b.if1.false))
+    table_drawn a.u a.tag.0 (passed n.before) a.out.now n.length-of.result n.length-of.ensures (omega (arith, b.if1.false))
     columns.columns_of.ensures lines.put-lines.ensures
 
 pub table-spec : {M : Type 1} → statement M

@@ -8,7 +8,7 @@ use Rattle.unit.specs.declared.Answer.TheVariants.{Done}
 use Rattle.unit.specs.Calls.{spot_answer, mark_of}
 use Rattle.unit.proofs.Laws.{Ranges, edit_ranges}
 use Rattle.unit.proofs.SoundLaws.{Words}
-use Rattle.unit.proofs.TableLaws.{mark-by-column}
+use Rattle.unit.proofs.TableLaws.{mark_by_column}
 use borrow.Author.Rules.{rules}
 use Rattle.edits.proofs.mark.Statement.{statement}
 use Rattle.edits.proofs.mark.Tie as tie
@@ -61,7 +61,7 @@ with-column-requires c κs = search rules
 returns-2 : tie.Need-returns-2
 returns-2 c =
     let b = c.before.before.before in
-    mark-by-column _ _ _ _ (words (start b)) (accepting b) c.before.before.columns_of.ensures c.before.with-mark.ensures c.with-column.ensures
+    mark_by_column _ _ _ _ (words (start b)) (accepting b) c.before.before.columns_of.ensures c.before.with-mark.ensures c.with-column.ensures
 
 pub mark_spec : {M : Type 1} → statement M
 mark_spec =

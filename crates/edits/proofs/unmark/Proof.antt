@@ -8,7 +8,7 @@ use Rattle.unit.specs.declared.Answer.TheVariants.{Done}
 use Rattle.unit.specs.Calls.{spot_answer, unmark_of}
 use Rattle.unit.proofs.Laws.{Ranges, edit_ranges}
 use Rattle.unit.proofs.SoundLaws.{Words}
-use Rattle.unit.proofs.TableLaws.{unmark-by-column}
+use Rattle.unit.proofs.TableLaws.{unmark_by_column}
 use borrow.Author.Rules.{rules}
 use Rattle.edits.proofs.unmark.Statement.{statement}
 use Rattle.edits.proofs.unmark.Tie as tie
@@ -61,7 +61,7 @@ with-column-requires c κs = search rules
 returns-2 : tie.Need-returns-2
 returns-2 c =
     let b = c.before.before.before in
-    unmark-by-column _ _ _ _ (words (start b)) (accepting b) c.before.before.columns_of.ensures c.before.without-mark.ensures c.with-column.ensures
+    unmark_by_column _ _ _ _ (words (start b)) (accepting b) c.before.before.columns_of.ensures c.before.without-mark.ensures c.with-column.ensures
 
 pub unmark-spec : {M : Type 1} → statement M
 unmark-spec =

@@ -1,5 +1,5 @@
 -- `file_cycles::greedy` meets its contract: the answer, the cycle, its count and sum, and the working words. Assumes nothing.
-use Rattle.file_cycles.proofs.GreedyLaws.{greedy-handed}
+use Rattle.file_cycles.proofs.GreedyLaws.{greedy_handed}
 use borrow.Author.Rules.{rules}
 use Rattle.file_cycles.proofs.greedy.Statement.{statement}
 use Rattle.file_cycles.proofs.greedy.Tie as tie
@@ -28,7 +28,7 @@ returns c =
     let byte = made.before.before.before in
     let back = byte.before in
     let a = back.before.before.before.before.args in
-    greedy-handed a.file.now a.tag a.work.now _ a.out.now _ back.read.result byte.byte.result made.greedy.result back.read.ensures
+    greedy_handed a.file.now a.tag a.work.now _ a.out.now _ back.read.result byte.byte.result made.greedy.result back.read.ensures
     byte.byte.ensures made.greedy.ensures _ _ _ _ _ c.hand-cycle.ensures
 
 pub greedy-spec : {M : Type 1} → statement M

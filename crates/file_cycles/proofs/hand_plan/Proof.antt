@@ -4,7 +4,7 @@ use Prim.Native.Nat.{◌≤◌}
 use lib.ListN.{length}
 use lib.Seq.{length-take-le}
 use Rattle.unit.specs.declared.Plan.{Plan}
-use Rattle.file_cycles.proofs.SearchLaws.{plan_refused, plan-handed}
+use Rattle.file_cycles.proofs.SearchLaws.{plan_refused, plan_handed}
 use borrow.Author.Rules.{rules}
 use Rattle.file_cycles.proofs.hand_plan.Statement.{statement}
 use Rattle.file_cycles.proofs.hand_plan.Tie as tie
@@ -56,7 +56,7 @@ returns-2 : tie.Need-returns-2
 returns-2 c =
     let put = c.before.before.before.before in
     let told = put.before.before.before.before.before in
-    plan-handed _ told.before.before.before.args.plan _ _ _ told.enum_told.given.1 put.put.ensures.1
+    plan_handed _ told.before.before.before.args.plan _ _ _ told.enum_told.given.1 put.put.ensures.1
 
 pub hand-plan-spec : {M : Type 1} → statement M
 hand-plan-spec =

@@ -1,5 +1,5 @@
 -- `file_cycles::search` meets its contract: a refusal hands out nothing, and a plan that was found its cycle. Assumes nothing.
-use Rattle.file_cycles.proofs.SearchLaws.{found_inside, search-checked, search-ends}
+use Rattle.file_cycles.proofs.SearchLaws.{found_inside, search_checked, search_ends}
 use borrow.Author.Rules.{rules}
 use Rattle.file_cycles.proofs.search.Statement.{statement}
 use Rattle.file_cycles.proofs.search.Tie as tie
@@ -36,7 +36,7 @@ returns c =
     let byte = looked.before in
     let back = byte.before in
     let a = back.before.before.before.before.args in
-    search-checked a.file.now a.tag a.work.now a.out.now a.count.now a.sum.now back.read.result byte.byte.result looked.check-tag.result _
+    search_checked a.file.now a.tag a.work.now a.out.now a.count.now a.sum.now back.read.result byte.byte.result looked.check-tag.result _
     back.read.ensures byte.byte.ensures looked.check-tag.ensures checked.check-search.ensures c.number_in.result told.enum-told2.given.1 c.number_in.ensures
 
 search-requires : tie.Need-search-requires
@@ -63,7 +63,7 @@ returns-2 c =
     let byte = looked.before in
     let back = byte.before in
     let a = back.before.before.before.before.args in
-    search-ends a.file.now a.tag a.work.now a.out.now a.count.now a.sum.now back.read.result byte.byte.result looked.check-tag.result _
+    search_ends a.file.now a.tag a.work.now a.out.now a.count.now a.sum.now back.read.result byte.byte.result looked.check-tag.result _
     back.read.ensures byte.byte.ensures looked.check-tag.ensures checked.check-search.ensures _ made.search.result told.enum_told.given.1 made.search.ensures
     _ _ _ _ handed.hand-plan.ensures
 

@@ -1,5 +1,5 @@
 -- `file_edits::fresh` meets its contract: the unit of the narrowed counts is written, or its refusal passed on. Assumes nothing.
-use Rattle.file_edits.proofs.WriteLaws.{fresh-written, fresh-refused}
+use Rattle.file_edits.proofs.WriteLaws.{fresh_written, fresh_refused}
 use borrow.Author.Rules.{rules}
 use Rattle.file_edits.proofs.fresh.Statement.{statement}
 use Rattle.file_edits.proofs.fresh.Tie as tie
@@ -41,7 +41,7 @@ returns c =
     let z = m.before in
     let y = z.before in
     let x = y.before in
-    fresh-written _ _ _ _ _ x.byte.ensures y.byte2.ensures z.byte3.ensures
+    fresh_written _ _ _ _ _ x.byte.ensures y.byte2.ensures z.byte3.ensures
     m.fresh.ensures w.write.ensures.0 w.write.ensures.1 c.before.written.given.1
 
 same-length-2 : tie.Need-same-length-2
@@ -54,7 +54,7 @@ returns-2 c =
     let z = m.before in
     let y = z.before in
     let x = y.before in
-    fresh-refused _ _ _ _ _ x.byte.ensures y.byte2.ensures z.byte3.ensures
+    fresh_refused _ _ _ _ _ x.byte.ensures y.byte2.ensures z.byte3.ensures
     m.fresh.ensures w.write.ensures.0 w.write.ensures.1 c.before.before.written2.given.1 c.number_in.ensures
 
 pub fresh-spec : {M : Type 1} → statement M

@@ -1,5 +1,5 @@
 -- `file_edits::mark` meets its contract: a refused file is passed on, and the edit of an accepted one is written over it. Assumes nothing.
-use Rattle.file_edits.proofs.WriteLaws.{marks, edit-ends}
+use Rattle.file_edits.proofs.WriteLaws.{marks, edit_ends}
 use borrow.Author.Rules.{rules}
 use Rattle.file_edits.proofs.mark.Statement.{statement}
 use Rattle.file_edits.proofs.mark.Tie as tie
@@ -33,7 +33,7 @@ returns c =
     let y = z.before in
     let x = y.before in
     let r = x.before in
-    edit-ends marks _ _ _ _ r.read.ensures x.byte.ensures y.byte2.ensures z.byte3.ensures m.mark.ensures w.write-back.ensures
+    edit_ends marks _ _ _ _ r.read.ensures x.byte.ensures y.byte2.ensures z.byte3.ensures m.mark.ensures w.write-back.ensures
 
 pub mark_spec : {M : Type 1} → statement M
 mark_spec =

@@ -1,5 +1,5 @@
 -- `file_issue::start` meets its contract: the file's refusal, the tag's, or one event on the registers. Assumes nothing.
-use Rattle.file_issue.proofs.IssueLaws.{start-ends}
+use Rattle.file_issue.proofs.IssueLaws.{start_ends}
 use borrow.Author.Rules.{rules}
 use Rattle.file_issue.proofs.start.Statement.{statement}
 use Rattle.file_issue.proofs.start.Tie as tie
@@ -30,7 +30,7 @@ returns c =
     let byte = looked.before in
     let back = byte.before in
     let a = back.before.before.before.args in
-    start-ends a.file.now a.tag a.bank.now back.read.result _ looked.check-tag.result tried.first.result back.read.ensures byte.byte.ensures
+    start_ends a.file.now a.tag a.bank.now back.read.result _ looked.check-tag.result tried.first.result back.read.ensures byte.byte.ensures
     looked.check-tag.ensures tried.first.ensures _ _ stepped.step.ensures
 
 pub start_spec : {M : Type 1} → statement M

@@ -1,6 +1,6 @@
 -- `file_issue::step` meets its contract: what was tried before refused, the words are too few, or the event's answer and bank. Assumes nothing.
 use native.Mathlib.Omega.{arith}
-use Rattle.file_issue.proofs.WordLaws.{step-untried, step-short, step-made}
+use Rattle.file_issue.proofs.WordLaws.{step_untried, step_short, step_made}
 use borrow.Author.Rules.{rules}
 use Rattle.file_issue.proofs.step.Statement.{statement}
 use Rattle.file_issue.proofs.step.Tie as tie
@@ -18,10 +18,10 @@ cast-result : tie.Need-overflow-cast-result
 cast-result c = search rules
 
 returns : tie.Need-returns
-returns c = step-untried _ _ _ _ c.before.enum-told2.given.1 c.number_in.ensures
+returns c = step_untried _ _ _ _ c.before.enum-told2.given.1 c.number_in.ensures
 
 returns-2 : tie.Need-returns-2
-returns-2 c = step-short _ _ _ _ c.before.enum_told.given.1 (omega (arith, c.if1.true))
+returns-2 c = step_short _ _ _ _ c.before.enum_told.given.1 (omega (arith, c.if1.true))
 
 load-requires : tie.Need-load-requires
 load-requires c κs = search rules
@@ -47,7 +47,7 @@ returns-3 c =
     let stepped = stored.before.before in
     let loaded = stepped.before in
     let enough = loaded.before.before in
-    step-made _ _ _ _ loaded.load.result stepped.step.result _ _ enough.before.enum_told.given.1 (omega (arith, enough.if1.false)) loaded.load.ensures
+    step_made _ _ _ _ loaded.load.result stepped.step.result _ _ enough.before.enum_told.given.1 (omega (arith, enough.if1.false)) loaded.load.ensures
     stepped.step.ensures stored.store.ensures c.number-in2.ensures
 
 pub step_spec : {M : Type 1} → statement M

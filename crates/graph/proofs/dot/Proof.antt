@@ -4,7 +4,7 @@ use native.Mathlib.Omega.{arith}
 use borrow.Author.Rules.{rules}
 use Rattle.unit.specs.declared.Answer.TheVariants.{Done}
 use Rattle.unit.specs.Calls.{tag_answer}
-use Rattle.graph.proofs.AnswerLaws.{dot_refused, dot-short}
+use Rattle.graph.proofs.AnswerLaws.{dot_refused, dot_short}
 use Rattle.graph.proofs.dot.Statement.{statement}
 use Rattle.graph.proofs.dot.Tie as tie
 
@@ -22,7 +22,7 @@ enum_told : tie.Need-enum-told
 enum_told c = search rules
 
 returns : tie.Need-returns
-returns c = let a = c.before.before.before.before.before.args in dot-short a.u a.tag.0 (passed c.before) a.out.now c.if1.true
+returns c = let a = c.before.before.before.before.before.args in dot_short a.u a.tag.0 (passed c.before) a.out.now c.if1.true
 
 dot-states-requires : tie.Need-dot-states-requires
 dot-states-requires c κs = (passed c.before.before, omega (arith, c.before.if1.false))

@@ -4,7 +4,7 @@ use native.Mathlib.Omega.{arith}
 use lib.ListN.{length, take}
 use lib.Seq.{length-take-le}
 use borrow.Author.Rules.{rules}
-use Rattle.graph.proofs.AnswerLaws.{Handed, handed_part, handed_listing, plan_few, dot-many, dot-handed, dot_drawn}
+use Rattle.graph.proofs.AnswerLaws.{Handed, handed_part, handed_listing, plan_few, dot_many, dot_handed, dot_drawn}
 use Rattle.graph.proofs.dot_states.Statement.{statement}
 use Rattle.graph.proofs.dot_states.Tie as tie
 
@@ -16,7 +16,7 @@ handed : (c : tie.After-known-told) → Handed (start c).args.u (start c).args.t
 handed c =
     let s = start c in
     let t = c.before.before.before.before.states in
-    dot-handed s.args.u s.args.tag.0 s.pre.0 t.ensures.0 t.ensures.1 c.before.counted.given.1
+    dot_handed s.args.u s.args.tag.0 s.pre.0 t.ensures.0 t.ensures.1 c.before.counted.given.1
 
 -- the plan's 256 bytes
 latencies-long : (s : tie.Start) → length s.args.u.plan.latencies ≡ 256
@@ -45,7 +45,7 @@ returns : tie.Need-returns
 returns c =
     let s = c.before.before.before.before.before.before in
     let a = s.args in
-    dot-many a.u a.tag.0 s.requires.0 a.out.now s.requires.1 c.before.before.before.states.ensures.0 c.enum_told.given.1
+    dot_many a.u a.tag.0 s.requires.0 a.out.now s.requires.1 c.before.before.before.states.ensures.0 c.enum_told.given.1
 
 cast-count : tie.Need-overflow-cast-count
 cast-count c = search rules

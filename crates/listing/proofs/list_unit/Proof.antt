@@ -4,7 +4,7 @@ use mathlib.Core.Bool.{true}
 use native.Mathlib.Omega.{arith}
 use Rattle.words.proofs.Tests.{on, off}
 use Rattle.unit.specs.Unit.{sound_of}
-use Rattle.listing.proofs.AreaLaws.{put_front_length, unit_unsound, unit-most, unit_listed}
+use Rattle.listing.proofs.AreaLaws.{put_front_length, unit_unsound, unit_most, unit_listed}
 use borrow.Author.Rules.{rules}
 use Rattle.listing.proofs.list_unit.Statement.{statement}
 use Rattle.listing.proofs.list_unit.Tie as tie
@@ -33,7 +33,7 @@ slice-aggregate-hand-out c = put_front_length c.before.before.put-functions.ensu
 hand-out-requires : tie.Need-hand-out-requires
 hand-out-requires c κs =
     let p = c.before.before.before in
-    omega (arith, put_front_length p.put-functions.ensures.put, unit-most (sound-is p.before.before) p.put-functions.ensures)
+    omega (arith, put_front_length p.put-functions.ensures.put, unit_most (sound-is p.before.before) p.put-functions.ensures)
 
 same_length : tie.Need-same-length
 same_length c = search rules

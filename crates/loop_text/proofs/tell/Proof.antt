@@ -1,6 +1,6 @@
 -- `loop_text::tell` meets its contract: by the answer of the search. Assumes nothing.
 use mathlib.Core.Path.{refl}
-use Rattle.loop_text.proofs.ToldLaws.{count-few, told-found, told-refused}
+use Rattle.loop_text.proofs.ToldLaws.{count_few, told_found, told_refused}
 use borrow.Author.Rules.{rules}
 use Rattle.loop_text.proofs.tell.Statement.{statement}
 use Rattle.loop_text.proofs.tell.Tie as tie
@@ -21,7 +21,7 @@ enum_told : tie.Need-enum-told
 enum_told c = search rules
 
 put-loop-requires : tie.Need-put-loop-requires
-put-loop-requires c κs = count-few _ _ _ (c.before.before.before.before.search.ensures.found c.before.enum_told.given.1)
+put-loop-requires c κs = count_few _ _ _ (c.before.before.before.before.search.ensures.found c.before.enum_told.given.1)
 
 same_length : tie.Need-same-length
 same_length c = search rules
@@ -29,7 +29,7 @@ same_length c = search rules
 returns : tie.Need-returns
 returns c =
     let found = c.before.before.before.before.before.before.before.before in
-    told-refused _ _ _ _ _ found.search.ensures refl _ _ _ _ c.before.before.before.before.before.answer.given.1 c.before.before.put-answer.ensures
+    told_refused _ _ _ _ _ found.search.ensures refl _ _ _ _ c.before.before.before.before.before.answer.given.1 c.before.before.put-answer.ensures
 
 same-length-2 : tie.Need-same-length-2
 same-length-2 c = search rules
@@ -37,7 +37,7 @@ same-length-2 c = search rules
 returns-2 : tie.Need-returns-2
 returns-2 c =
     let found = c.before.before.before.before.before.before.before in
-    told-found _ _ _ _ _ found.search.ensures refl _ _ _ c.before.before.before.before.enum_told.given.1 c.before.before.put-loop.ensures
+    told_found _ _ _ _ _ found.search.ensures refl _ _ _ c.before.before.before.before.enum_told.given.1 c.before.before.put-loop.ensures
 
 pub tell-spec : {M : Type 1} → statement M
 tell-spec =

@@ -1,6 +1,6 @@
 -- `loops::search` meets its contract: each answer is a law of SeekLaws. Assumes nothing.
 use Rattle.words.proofs.Tests.{on, off}
-use Rattle.loops.proofs.SeekLaws.{promised-unsound, promised-list, promised-tag, promised-short, checked, promised-sought}
+use Rattle.loops.proofs.SeekLaws.{promised_unsound, promised_list, promised_tag, promised_short, checked, promised_sought}
 use Rattle.loops.proofs.search.Statement.{statement}
 use Rattle.loops.proofs.search.Tie as tie
 
@@ -11,7 +11,7 @@ refused-requires : tie.Need-refused-requires
 refused-requires c κs = tt {0}
 
 returns : tie.Need-returns
-returns c = promised-unsound _ _ _ _ (off c.before.if1.true c.before.before.sound.ensures) c.refused.ensures
+returns c = promised_unsound _ _ _ _ (off c.before.if1.true c.before.before.sound.ensures) c.refused.ensures
 
 is-loop-requires : tie.Need-is-loop-requires
 is-loop-requires c κs = tt {0}
@@ -22,7 +22,7 @@ refused-requires-2 c κs = tt {0}
 returns-2 : tie.Need-returns-2
 returns-2 c =
     let l = c.before.before in
-    promised-list _ _ _ _ (on l.before.if1.false l.before.before.sound.ensures) (off c.before.if2.true l.is_Loop.ensures) c.refused2.ensures
+    promised_list _ _ _ _ (on l.before.if1.false l.before.before.sound.ensures) (off c.before.if2.true l.is_Loop.ensures) c.refused2.ensures
 
 known-tags-requires : tie.Need-known-tags-requires
 known-tags-requires c κs = tt {0}
@@ -34,7 +34,7 @@ returns-3 : tie.Need-returns-3
 returns-3 c =
     let t = c.before.before in
     let l = t.before.before in
-    promised-tag _ _ _ _ (on l.before.if1.false l.before.before.sound.ensures) (on t.before.if2.false l.is_Loop.ensures)
+    promised_tag _ _ _ _ (on l.before.if1.false l.before.before.sound.ensures) (on t.before.if2.false l.is_Loop.ensures)
     (off c.before.if3.true t.known-tags.ensures) c.refused3.ensures
 
 refused-requires-4 : tie.Need-refused-requires-4
@@ -45,7 +45,7 @@ returns-4 c =
     let k = c.before.before in
     let t = k.before in
     let l = t.before.before in
-    promised-short _ _ _ (on l.before.if1.false l.before.before.sound.ensures) (on t.before.if2.false l.is_Loop.ensures)
+    promised_short _ _ _ (on l.before.if1.false l.before.before.sound.ensures) (on t.before.if2.false l.is_Loop.ensures)
     (on k.if3.false t.known-tags.ensures) _ c.before.if4.true c.refused4.ensures
 
 seek-requires : tie.Need-seek-requires
@@ -65,7 +65,7 @@ returns-5 c =
     let k = s.before.before.before in
     let t = k.before in
     let l = t.before.before in
-    promised-sought _ _ _ (on l.before.if1.false l.before.before.sound.ensures) (on t.before.if2.false l.is_Loop.ensures)
+    promised_sought _ _ _ (on l.before.if1.false l.before.before.sound.ensures) (on t.before.if2.false l.is_Loop.ensures)
     (on k.if3.false t.known-tags.ensures) _ _ s.before.before.if4.false s.seek.ensures
 
 pub search-spec : {M : Type 1} → statement M

@@ -3,7 +3,7 @@ use mathlib.Core.Path.{refl, subst}
 use borrow.Author.Rules.{rules}
 use Rattle.mean_cycle.specs.declared.Answer.{Answer}
 use Rattle.mean_cycle.specs.Table.{TableSearched}
-use Rattle.loops.proofs.SeekLaws.{sought_many, never_no, turnable, sought-found}
+use Rattle.loops.proofs.SeekLaws.{sought_many, never_no, turnable, sought_found}
 use native.Mathlib.Omega.{arith}
 use Rattle.loops.proofs.seek.Statement.{statement}
 use Rattle.loops.proofs.seek.Tie as tie
@@ -74,14 +74,14 @@ same-length-3 : tie.Need-same-length-3
 same-length-3 c =
     let l = c.before.before.before.before.before.before.before in
     let e = l.before.before.before.before.before in
-    (sought-found _ _ _ _ _ _ _ e.before.before.before.before.before.requires e.before.before.rules-of.ensures e.explore.ensures l.before.before.if1.false _ (subst (λ (r : Answer). TableSearched e.explore.result e.before.before.rules-of.result.width e.explore.new.0 l.least-table-cycle.new.1.1.0 r) c.before.before.before.least.given.1 l.least-table-cycle.ensures) _ refl c.plan-of.ensures).size
+    (sought_found _ _ _ _ _ _ _ e.before.before.before.before.before.requires e.before.before.rules-of.ensures e.explore.ensures l.before.before.if1.false _ (subst (λ (r : Answer). TableSearched e.explore.result e.before.before.rules-of.result.width e.explore.new.0 l.least-table-cycle.new.1.1.0 r) c.before.before.before.least.given.1 l.least-table-cycle.ensures) _ refl c.plan-of.ensures).size
 
 -- src/lib.rt:109:1
 returns-3 : tie.Need-returns-3
 returns-3 c =
     let l = c.before.before.before.before.before.before.before in
     let e = l.before.before.before.before.before in
-    sought-found _ _ _ _ _ _ _ e.before.before.before.before.before.requires e.before.before.rules-of.ensures e.explore.ensures l.before.before.if1.false _ (subst (λ (r : Answer). TableSearched e.explore.result e.before.before.rules-of.result.width e.explore.new.0 l.least-table-cycle.new.1.1.0 r) c.before.before.before.least.given.1 l.least-table-cycle.ensures) _ refl c.plan-of.ensures
+    sought_found _ _ _ _ _ _ _ e.before.before.before.before.before.requires e.before.before.rules-of.ensures e.explore.ensures l.before.before.if1.false _ (subst (λ (r : Answer). TableSearched e.explore.result e.before.before.rules-of.result.width e.explore.new.0 l.least-table-cycle.new.1.1.0 r) c.before.before.before.least.given.1 l.least-table-cycle.ensures) _ refl c.plan-of.ensures
 
 pub seek-spec : {M : Type 1} → statement M
 seek-spec =

@@ -1,15 +1,15 @@
 -- `mean_cycle::least_mean_cycle` meets its contract: each answer is a law of Answers. Assumes nothing.
 use mathlib.Core.Path.{◌∙◌}
 use borrow.Author.Rules.{rules}
-use Rattle.mean_cycle.proofs.Answers.{searched_short, searched_wide, searched-many, listing-counted, searched-found}
+use Rattle.mean_cycle.proofs.Answers.{searched-short, searched-wide, searched-many, listing-counted, searched-found}
 use Rattle.mean_cycle.proofs.least_mean_cycle.Statement.{statement}
 use Rattle.mean_cycle.proofs.least_mean_cycle.Tie as tie
 
 returns : tie.Need-returns
-returns c = searched_short _ _ c.if1.true
+returns c = searched-short _ _ c.if1.true
 
 returns-2 : tie.Need-returns-2
-returns-2 c = searched_wide _ _ c.if2.true
+returns-2 c = searched-wide _ _ c.if2.true
 
 enlist-requires : tie.Need-enlist-requires
 enlist-requires c κs = search rules

@@ -1,7 +1,7 @@
 -- `mean_cycle::least_table_cycle` meets its contract: each answer is a law of Tables. Assumes nothing.
 use native.Mathlib.Omega.{arith}
 use borrow.Author.Rules.{rules}
-use borrow.Author.Tests.{not-true, not-false}
+use borrow.Author.Tests.{not_true, not_false}
 use Rattle.mean_cycle.proofs.Tables.{table_listing, table_no, table_found}
 use Rattle.mean_cycle.proofs.least_table_cycle.Statement.{statement}
 use Rattle.mean_cycle.proofs.least_table_cycle.Tie as tie
@@ -25,7 +25,7 @@ same_length : tie.Need-same-length
 same_length c = search rules
 
 returns-5 : tie.Need-returns-5
-returns-5 c = table_no _ _ _ (λ g. c.before.narrow-words.ensures.wrong (not-true _ c.if5.true) g.narrow)
+returns-5 c = table_no _ _ _ (λ g. c.before.narrow-words.ensures.wrong (not_true _ c.if5.true) g.narrow)
 
 targets-inside-requires : tie.Need-targets-inside-requires
 targets-inside-requires c κs = search rules
@@ -34,7 +34,7 @@ same-length-2 : tie.Need-same-length-2
 same-length-2 c = search rules
 
 returns-6 : tie.Need-returns-6
-returns-6 c = table_no _ _ _ (λ g. c.before.targets-inside.ensures.wrong (not-true _ c.if6.true) g.targets)
+returns-6 c = table_no _ _ _ (λ g. c.before.targets-inside.ensures.wrong (not_true _ c.if6.true) g.targets)
 
 search-listed-requires : tie.Need-search-listed-requires
 search-listed-requires c κs =
@@ -47,8 +47,8 @@ search-listed-requires c κs =
       few = omega (arith, slim.before.if3.false);
       room = omega (arith, slim.before.before.before.if1.false);
       slim = omega (arith, slim.if4.false);
-      narrow = narrowed.before.narrow-words.ensures.right (not-false _ narrowed.if5.false);
-      targets = tested.before.targets-inside.ensures.right (not-false _ tested.if6.false);
+      narrow = narrowed.before.narrow-words.ensures.right (not_false _ narrowed.if5.false);
+      targets = tested.before.targets-inside.ensures.right (not_false _ tested.if6.false);
     }
 
 same-length-3 : tie.Need-same-length-3
@@ -65,8 +65,8 @@ returns-7 c =
       few = omega (arith, slim.before.if3.false);
       room = omega (arith, slim.before.before.before.if1.false);
       slim = omega (arith, slim.if4.false);
-      narrow = narrowed.before.narrow-words.ensures.right (not-false _ narrowed.if5.false);
-      targets = tested.before.targets-inside.ensures.right (not-false _ tested.if6.false);
+      narrow = narrowed.before.narrow-words.ensures.right (not_false _ narrowed.if5.false);
+      targets = tested.before.targets-inside.ensures.right (not_false _ tested.if6.false);
     }
     c.before.before.search-listed.ensures
 

@@ -9,7 +9,7 @@ use Rattle.words.specs.Bits.{is_set}
 use lib.ListN.{get_or}
 use Rattle.words.proofs.BelowLaws.{count_most}
 use Rattle.measures.specs.Inner.{marks_at}
-use Rattle.measures.proofs.NumberLaws.{marks_before, marks-one, marks-zero}
+use Rattle.measures.proofs.NumberLaws.{marks_before, marks_one, marks_zero}
 use Rattle.measures.proofs.marks_at.Statement.{statement}
 use Rattle.measures.proofs.marks_at.Tie as tie
 
@@ -51,8 +51,8 @@ more c =
     let l = c.before.before.before.loop in
     ⊎_elim
     (λ w.
-    w.1 ∙ ap (λ n. n + 1) l.invariant.1 ∙ marks-one a.t1 a.bit l.column (sym c.before.has-mark.ensures ∙ w.0.taken))
-    (λ w. w.1 ∙ l.invariant.1 ∙ marks-zero a.t1 a.bit l.column (sym c.before.has-mark.ensures ∙ w.0.left))
+    w.1 ∙ ap (λ n. n + 1) l.invariant.1 ∙ marks_one a.t1 a.bit l.column (sym c.before.has-mark.ensures ∙ w.0.taken))
+    (λ w. w.1 ∙ l.invariant.1 ∙ marks_zero a.t1 a.bit l.column (sym c.before.has-mark.ensures ∙ w.0.left))
     c.if1.branch
 
 loop-again : tie.Need-loop-preserved invariant-loop decreases-loop

@@ -4,7 +4,7 @@ use mathlib.Core.Path.{◌∙◌, sym, ap, ap₂}
 use native.Mathlib.Omega.{arith}
 use borrow.Author.Rules.{rules}
 use Rattle.plan_record.proofs.RecordLaws.{no_record_lem}
-use Rattle.plan_record.proofs.TestLaws.{no_cycle, no_sum, part-cycle, part-short, ring-decides}
+use Rattle.plan_record.proofs.TestLaws.{no_cycle, no_sum, part_cycle, part_short, ring_decides}
 use Rattle.plan_record.proofs.is_record.Statement.{statement}
 use Rattle.plan_record.proofs.is_record.Tie as tie
 
@@ -145,7 +145,7 @@ ring-matches-requires c κs =
     let count = d.before.before.before.field_at.ensures in
     let b = d.before.before.before.before.before.before.args.bytes.now in
     let t = c.before.before in
-    (part-short b _ _ _ count.value sum.value e.if3.false _ s.cycle-sum.ensures t.before.before.if5.false t.before.if6.false t.if7.false, part-cycle b _ _ _ count.value sum.value e.if3.false _ s.cycle-sum.ensures t.before.before.if5.false)
+    (part_short b _ _ _ count.value sum.value e.if3.false _ s.cycle-sum.ensures t.before.before.if5.false t.before.if6.false t.if7.false, part_cycle b _ _ _ count.value sum.value e.if3.false _ s.cycle-sum.ensures t.before.before.if5.false)
 
 returns-8 : tie.Need-returns-8
 returns-8 c =
@@ -157,7 +157,7 @@ returns-8 c =
     let sum = d.before.before.field-at2.ensures in
     let count = d.before.before.before.field_at.ensures in
     let b = c.before.before.before in
-    ring-decides _ _ _ _ count.value sum.value e.if3.false _ s.cycle-sum.ensures b.before.before.if5.false _
+    ring_decides _ _ _ _ count.value sum.value e.if3.false _ s.cycle-sum.ensures b.before.before.if5.false _
     (record { count = (count.low, count.high); sum = (sum.low, sum.high); list_at = (list.low, list.high); ring_at = (ring.low, ring.high) })
     d.before.before.before.before.if1.false (sym list.value ∙ e.before.if2.false) (sym ring.value) s.before.before.if4.false
     b.before.if6.false b.if7.false c.ring-matches.ensures

@@ -3,7 +3,7 @@ use native.Mathlib.Omega.{arith}
 use borrow.Author.Rules.{rules}
 use Rattle.words.proofs.Tests.{on, off}
 use Rattle.plan_record.proofs.RecordLaws.{fits}
-use Rattle.plan_record.proofs.ReadLaws.{ring-refused, ring-shown}
+use Rattle.plan_record.proofs.ReadLaws.{ring_refused, ring_shown}
 use Rattle.plan_record.proofs.load_ring.Statement.{statement}
 use Rattle.plan_record.proofs.load_ring.Tie as tie
 
@@ -14,7 +14,7 @@ slice-aggregate-result : tie.Need-slice-aggregate-result
 slice-aggregate-result c = search rules
 
 returns : tie.Need-returns
-returns c = ring-refused _ (off c.before.if1.true c.before.before.is-record.ensures)
+returns c = ring_refused _ (off c.before.if1.true c.before.before.is-record.ensures)
 
 field-at-requires : tie.Need-field-at-requires
 field-at-requires c κs = omega (arith, (fits _ (on c.if1.false c.before.is-record.ensures)).long)
@@ -35,7 +35,7 @@ part-result-end : tie.Need-slice-bounds-result-end
 part-result-end c = search rules
 
 returns-2 : tie.Need-returns-2
-returns-2 c = let d = c.before in let b = d.before in ring-shown _ d.field_at.result (on b.if1.false b.before.is-record.ensures) d.field_at.ensures.value
+returns-2 c = let d = c.before in let b = d.before in ring_shown _ d.field_at.result (on b.if1.false b.before.is-record.ensures) d.field_at.ensures.value
 
 pub load-ring-spec : {M : Type 1} → statement M
 load-ring-spec =

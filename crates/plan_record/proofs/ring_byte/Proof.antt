@@ -4,7 +4,7 @@ use mathlib.Core.Path.{◌∙◌, sym}
 use mathlib.Core.Logic.{⊎_elim}
 use native.Mathlib.Omega.{arith}
 use borrow.Author.Rules.{rules}
-use Rattle.plan_record.proofs.TurnLaws.{Turn, turn_first, turn_start, turn-tick, turn_inside, turn_small, turn_byte, turn-reached}
+use Rattle.plan_record.proofs.TurnLaws.{Turn, turn_first, turn_start, turn_tick, turn_inside, turn_small, turn_byte, turn_reached}
 use Rattle.plan_record.proofs.ring_byte.Statement.{statement}
 use Rattle.plan_record.proofs.ring_byte.Tie as tie
 
@@ -73,7 +73,7 @@ loop-again c =
       l.invariant.0,
       ⊎_elim
           (λ w. turn_start _ _ l.bit _ l.passed l.start l.invariant.1 (omega arith) _ _ _ (sym e ∙ w.0.taken) w.2 w.3 w.4)
-          (λ w. turn-tick _ _ l.bit _ l.passed l.start l.invariant.1 (omega arith) _ _ _ (sym e ∙ w.0.left) (w.2 ∙ w.1.ensures) w.3 w.4)
+          (λ w. turn_tick _ _ l.bit _ l.passed l.start l.invariant.1 (omega arith) _ _ _ (sym e ∙ w.0.left) (w.2 ∙ w.1.ensures) w.3 w.4)
           c.if1.branch,
     )
 
@@ -85,7 +85,7 @@ returns c =
     let l = c.before.loop in
     record {
       byte = turn_byte _ _ l.bit _ _ _ l.invariant.1 c.loop-test.false;
-      reached = turn-reached _ _ l.bit _ _ _ l.invariant.1 c.loop-test.false;
+      reached = turn_reached _ _ l.bit _ _ _ l.invariant.1 c.loop-test.false;
     }
 
 pub ring-byte-spec : {M : Type 1} → statement M

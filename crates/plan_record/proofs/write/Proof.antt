@@ -2,7 +2,7 @@
 use mathlib.Core.Path.{refl}
 use borrow.Author.Rules.{rules}
 use Rattle.words.proofs.Tests.{on, off}
-use Rattle.plan_record.proofs.PlanLaws.{writable-holds, ends-bad, ends_short, ends-written, write-room}
+use Rattle.plan_record.proofs.PlanLaws.{writable_holds, ends_bad, ends_short, ends_written, write_room}
 use Rattle.plan_record.proofs.write.Statement.{statement}
 use Rattle.plan_record.proofs.write.Tie as tie
 
@@ -25,7 +25,7 @@ is-writable-requires : tie.Need-is-writable-requires
 is-writable-requires c κs = search rules
 
 returns : tie.Need-returns
-returns c = ends-bad _ _ (off c.if1.true c.before.is-writable.ensures)
+returns c = ends_bad _ _ (off c.if1.true c.before.is-writable.ensures)
 
 returns-2 : tie.Need-returns-2
 returns-2 c = let b = c.before in ends_short _ _ (on b.if1.false b.before.is-writable.ensures) _ refl c.if2.true
@@ -34,7 +34,7 @@ write-record-requires : tie.Need-write-record-requires
 write-record-requires c κs =
     let b = c.before.before in
     let w = on b.if1.false b.before.is-writable.ensures in
-    record { plan = writable-holds _ w; fits = write-room _ b.before.before.before.before.before.args.out.now w _ refl c.before.if2.false }
+    record { plan = writable_holds _ w; fits = write_room _ b.before.before.before.before.before.args.out.now w _ refl c.before.if2.false }
 
 cast-t16 : tie.Need-overflow-cast-t16
 cast-t16 c = search rules
@@ -46,7 +46,7 @@ returns-3 : tie.Need-returns-3
 returns-3 c =
     let r = c.before.before in
     let b = r.before.before.before in
-    ends-written _ _ (on b.if1.false b.before.is-writable.ensures) _ refl _ r.before.before.if2.false r.write-record.ensures
+    ends_written _ _ (on b.if1.false b.before.is-writable.ensures) _ refl _ r.before.before.if2.false r.write-record.ensures
 
 pub write_spec : {M : Type 1} → statement M
 write_spec =

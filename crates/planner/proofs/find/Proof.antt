@@ -4,7 +4,7 @@ use Rattle.diagram.proofs.StatesLaws.{Vector, vector_value, vector_refused}
 use Rattle.mean_cycle.specs.declared.Answer.{Answer}
 use Rattle.mean_cycle.specs.declared.Answer.TheVariants.{No, Found}
 use Rattle.mean_cycle.specs.Mean.{Searched}
-use Rattle.planner.proofs.SearchLaws.{sought_refused, sought_short, sought_many, standing, sought-found}
+use Rattle.planner.proofs.SearchLaws.{sought_refused, sought_short, sought_many, standing, sought_found}
 use borrow.Author.Rules.{rules}
 use Rattle.planner.proofs.find.Statement.{statement}
 use Rattle.planner.proofs.find.Tie as tie
@@ -98,7 +98,7 @@ returns-4 c =
     let e = t.before.before.before.before.before.before in
     let b = e.before in
     let a = b.before.before.before.before.before.args in
-    sought-found a.u a.tag.0 b.before.vector3.given.0.0 a.work.now (known b) e.if1.false t.before.before.before.before.least-mean-cycle.new.1.0 t.best.given.0.0 (answered t)
+    sought_found a.u a.tag.0 b.before.vector3.given.0.0 a.work.now (known b) e.if1.false t.before.before.before.before.least-mean-cycle.new.1.0 t.best.given.0.0 (answered t)
     c.plan-of.result c.plan-of.ensures
 
 pub find_spec : {M : Type 1} → statement M

@@ -4,7 +4,7 @@ use mathlib.Core.Path.{◌≡◌}
 use native.Mathlib.Omega.{arith}
 use borrow.Author.Rules.{rules}
 use lib.ListN.{length}
-use Rattle.player.proofs.PlayLaws.{Playing, playing_start, playing-more, playing_end}
+use Rattle.player.proofs.PlayLaws.{Playing, playing_start, playing_more, playing_end}
 use Rattle.player.proofs.play.Statement.{statement}
 use Rattle.player.proofs.play.Tie as tie
 
@@ -97,7 +97,7 @@ loop-again c =
     let fits : l.n * 262 + 262 ≤ length a.out.now = omega (arith, begun.smaller.ensures) in
     let size : length written.new.0 ≡ 262 = search rules in (
       t,
-      playing-more begun.before.fresh.result.unit a.calls.now a.out.now a.work.now l.n l.out l.work l.u
+      playing_more begun.before.fresh.result.unit a.calls.now a.out.now a.work.now l.n l.out l.work l.u
           played.new.1.1.1.1.1.0 played.result.number played.result.plan played.result.unit written.new.0
           l.invariant.1 played.ensures written.ensures size fits,
     )

@@ -6,7 +6,7 @@ use native.Mathlib.Omega.{arith}
 use borrow.Author.Rules.{rules}
 use lib.ListN.{length, get_or, set, length-set}
 use lib.Seq.{paste, paste-zero}
-use Rattle.player.proofs.ReplyLaws.{headed, written-length, written-more, written-end}
+use Rattle.player.proofs.ReplyLaws.{headed, written_length, written_more, written_end}
 use Rattle.player.proofs.put_reply.Statement.{statement}
 use Rattle.player.proofs.put_reply.Tie as tie
 
@@ -24,7 +24,7 @@ room c =
     let l = c.loop in
     let b = c.before.before.before.before.before.before in
     let a = b.args in
-    ap length l.invariant.1 ∙ written-length a.out.now a.number a.plan b.requires (size b) l.i l.invariant.0
+    ap length l.invariant.1 ∙ written_length a.out.now a.number a.plan b.requires (size b) l.i l.invariant.0
 
 slice-write-out : tie.Need-slice-write-out invariant-loop decreases-loop
 slice-write-out c = omega arith
@@ -83,7 +83,7 @@ loop-again c =
     let a = b.args in (
       search rules,
       ap (λ (x : List ℕ). set x (6 + l.i) (get_or a.plan.latencies l.i 0)) l.invariant.1
-          ∙ written-more a.out.now a.number a.plan b.requires (size b) l.i c.loop-test.true,
+          ∙ written_more a.out.now a.number a.plan b.requires (size b) l.i c.loop-test.true,
     )
 
 same_length : tie.Need-same-length invariant-loop decreases-loop
@@ -96,7 +96,7 @@ returns c =
     let a = b.args in
     let e : l.i ≡ 256 = omega arith in
     l.invariant.1 ∙ ap (paste (headed a.out.now a.number a.plan) 6 a.plan.latencies) e
-    ∙ written-end a.out.now a.number a.plan b.requires (size b)
+    ∙ written_end a.out.now a.number a.plan b.requires (size b)
 
 pub put-reply-spec : {M : Type 1} → statement M
 put-reply-spec =

@@ -7,7 +7,7 @@ use mathlib.Core.List.{List}
 use lib.ListN.{length, set, get_or}
 use Rattle.queue.specs.declared.Waiting.{Waiting}
 use Rattle.queue.specs.Line.{no_record, forward}
-use Rattle.queue.proofs.Shift.{shift, shift-step}
+use Rattle.queue.proofs.Shift.{shift, shift_step}
 use Rattle.queue.proofs.moved_up.Statement.{statement}
 use Rattle.queue.proofs.moved_up.Tie as tie
 use Rattle.queue.proofs.moved_up.Reads as reads
@@ -53,7 +53,7 @@ loop-again c =
     let h : suc (l.from - 1) < length a.list = omega (arith, n, c.before.loop-test.true) in (
       ap (λ (x : List Waiting). set x (l.from - 1) (get_or x l.from no_record)) l.invariant.0
           ∙ ap (λ k. set (shift a.list (l.from - 1)) (l.from - 1) (get_or (shift a.list (l.from - 1)) k no_record)) (sym s)
-          ∙ shift-step a.list (l.from - 1) no_record h
+          ∙ shift_step a.list (l.from - 1) no_record h
           ∙ ap (shift a.list) (sym e),
       search rules,
       search rules,

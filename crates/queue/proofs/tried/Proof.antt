@@ -8,7 +8,7 @@ use Rattle.unit.specs.declared.Answer.{Answer}
 use Rattle.queue.specs.declared.Passed.{Passed}
 use Rattle.queue.specs.declared.Passed.TheVariants as Passed
 use Rattle.queue.specs.Inner.{pass_by, oldest_by}
-use Rattle.queue.proofs.CoreLaws.{tried-granted, tried-refused}
+use Rattle.queue.proofs.CoreLaws.{tried_granted, tried_refused}
 use borrow.Author.Rules.{rules}
 use Rattle.queue.proofs.tried.Statement.{statement}
 use Rattle.queue.proofs.tried.Tie as tie
@@ -35,7 +35,7 @@ returns c =
     let a = s.args in
     c.idled.ensures
     ∙ ap (pass_by a.u a.bank a.count)
-    (tried-refused a.u a.bank a.count a.first s.requires _
+    (tried_refused a.u a.bank a.count a.first s.requires _
     (sym (ap (λ (x : Stepped). x.answer) c.before.before.before.step.ensures) ∙ c.before.enum_told.given.1))
 
 returns-2 : tie.Need-returns-2
@@ -45,7 +45,7 @@ returns-2 c =
     let a = s.args in
     ap (λ (x : Stepped). record { answer = Passed.Started a.first; bank = x.bank; count = a.count - 1 }) c.before.before.before.step.ensures
     ∙ ap (pass_by a.u a.bank a.count)
-    (tried-granted a.u a.bank a.count a.first s.requires
+    (tried_granted a.u a.bank a.count a.first s.requires
     (sym (ap (λ (x : Stepped). x.answer) c.before.before.before.step.ensures) ∙ c.before.enum-told2.given.1))
 
 pub tried-spec : {M : Type 1} → statement M

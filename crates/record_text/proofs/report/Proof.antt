@@ -5,7 +5,7 @@ use lib.ListN.{length}
 use Rattle.session.proofs.LineLaws.{line_as}
 use Rattle.record_text.specs.Lines.{list_line}
 use borrow.Author.Rules.{rules}
-use Rattle.record_text.proofs.LineLaws.{list_few, report-refused, report-shown}
+use Rattle.record_text.proofs.LineLaws.{list_few, report_refused, report_shown}
 use Rattle.record_text.proofs.report.Statement.{statement}
 use Rattle.record_text.proofs.report.Tie as tie
 
@@ -36,13 +36,13 @@ same_length : tie.Need-same-length
 same_length c = search rules
 
 returns : tie.Need-returns
-returns c = let b = c.before.before in report-refused _ _ _ _ _ (sym b.before.before.before.before.before.report.ensures ∙ b.before.before.before.shown.given.1) b.put-answer.ensures
+returns c = let b = c.before.before in report_refused _ _ _ _ _ (sym b.before.before.before.before.before.report.ensures ∙ b.before.before.before.shown.given.1) b.put-answer.ensures
 
 same-length-2 : tie.Need-same-length-2
 same-length-2 c = search rules
 
 returns-2 : tie.Need-returns-2
-returns-2 c = let b = c.before.before in report-shown _ _ _ _ _ (sym b.before.before.before.before.before.before.report.ensures ∙ b.before.before.before.before.shown2.given.1) (line_as (ap (list_line _) b.before.before.report-list.ensures) b.put-list.ensures)
+returns-2 c = let b = c.before.before in report_shown _ _ _ _ _ (sym b.before.before.before.before.before.before.report.ensures ∙ b.before.before.before.before.shown2.given.1) (line_as (ap (list_line _) b.before.before.report-list.ensures) b.put-list.ensures)
 
 pub report-spec : {M : Type 1} → statement M
 report-spec =

@@ -5,7 +5,7 @@ use borrow.Author.Rules.{rules}
 use lib.ListN.{length}
 use Rattle.session.proofs.LineLaws.{line_as}
 use Rattle.record_text.specs.Lines.{ring_line}
-use Rattle.record_text.proofs.LineLaws.{ring_fits, load-refused, load-shown}
+use Rattle.record_text.proofs.LineLaws.{ring_fits, load_refused, load_shown}
 use Rattle.record_text.proofs.ring.Statement.{statement}
 use Rattle.record_text.proofs.ring.Tie as tie
 
@@ -34,13 +34,13 @@ same_length : tie.Need-same-length
 same_length c = search rules
 
 returns : tie.Need-returns
-returns c = let b = c.before.before in load-refused _ _ _ _ _ (sym b.before.before.before.before.before.load.ensures ∙ b.before.before.before.shown.given.1) b.put-answer.ensures
+returns c = let b = c.before.before in load_refused _ _ _ _ _ (sym b.before.before.before.before.before.load.ensures ∙ b.before.before.before.shown.given.1) b.put-answer.ensures
 
 same-length-2 : tie.Need-same-length-2
 same-length-2 c = search rules
 
 returns-2 : tie.Need-returns-2
-returns-2 c = let b = c.before.before in load-shown _ _ _ _ _ (sym b.before.before.before.before.before.before.load.ensures ∙ b.before.before.before.before.shown2.given.1) (line_as (ap (ring_line _) b.before.before.load-ring.ensures) b.put-ring.ensures)
+returns-2 c = let b = c.before.before in load_shown _ _ _ _ _ (sym b.before.before.before.before.before.before.load.ensures ∙ b.before.before.before.before.shown2.given.1) (line_as (ap (ring_line _) b.before.before.load-ring.ensures) b.put-ring.ensures)
 
 pub ring-spec : {M : Type 1} → statement M
 ring-spec =

@@ -1,6 +1,6 @@
 -- `record_text::write_plan` meets its contract. Assumes nothing.
 use borrow.Author.Rules.{rules}
-use Rattle.record_text.proofs.RecordLaws.{plan_refused, plan-written}
+use Rattle.record_text.proofs.RecordLaws.{plan_refused, plan_written}
 use Rattle.record_text.proofs.write_plan.Statement.{statement}
 use Rattle.record_text.proofs.write_plan.Tie as tie
 
@@ -23,7 +23,7 @@ same_length : tie.Need-same-length
 same_length c = search rules
 
 returns-2 : tie.Need-returns-2
-returns-2 c = let b = c.before.before in let o = b.before.before.before.before.read-for in plan-written _ _ o.result o.ensures _ _ _ b.before.before.enum_told.given.1 b.write.ensures
+returns-2 c = let b = c.before.before in let o = b.before.before.before.before.read-for in plan_written _ _ o.result o.ensures _ _ _ b.before.before.enum_told.given.1 b.write.ensures
 
 pub write-plan-spec : {M : Type 1} → statement M
 write-plan-spec =

@@ -1,7 +1,7 @@
 -- `simulator::play` meets its contract. Assumes nothing.
 use mathlib.Core.Path.{◌∙◌}
 use borrow.Author.Rules.{rules}
-use Rattle.simulator.proofs.StepLaws.{ring-refused, ring-played}
+use Rattle.simulator.proofs.StepLaws.{ring_refused, ring_played}
 use Rattle.simulator.proofs.play.Statement.{statement}
 use Rattle.simulator.proofs.play.Tie as tie
 
@@ -27,10 +27,10 @@ position-after-requires : tie.Need-position-after-requires
 position-after-requires c κs = search rules
 
 returns : tie.Need-returns
-returns c = c.refused.ensures ∙ ring-refused _ _ _ _ c.before.before.before.before.before.before.requires _ c.before.before.before.before.before.event-at.ensures _ c.before.before.before.before.step.ensures _ c.before.before.answer.given.1
+returns c = c.refused.ensures ∙ ring_refused _ _ _ _ c.before.before.before.before.before.before.requires _ c.before.before.before.before.before.event-at.ensures _ c.before.before.before.before.step.ensures _ c.before.before.answer.given.1
 
 returns-2 : tie.Need-returns-2
-returns-2 c = ring-played _ _ _ _ c.before.before.before.before.before.before.before.requires _ c.before.before.before.before.before.before.event-at.ensures _ c.before.before.before.before.before.step.ensures _ _ c.before.before.before.enum_told.given.1 c.before.before.is-start.ensures c.before.position-after.ensures
+returns-2 c = ring_played _ _ _ _ c.before.before.before.before.before.before.before.requires _ c.before.before.before.before.before.before.event-at.ensures _ c.before.before.before.before.before.step.ensures _ _ c.before.before.before.enum_told.given.1 c.before.before.is-start.ensures c.before.position-after.ensures
 
 pub play-spec : {M : Type 1} → statement M
 play-spec =

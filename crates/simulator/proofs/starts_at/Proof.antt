@@ -3,7 +3,7 @@ use Prim.Native.Nat.{◌-◌}
 use mathlib.Core.Path.{refl, sym}
 use native.Mathlib.Omega.{arith}
 use Rattle.plan_record.proofs.CycleLaws.{total_most}
-use Rattle.simulator.proofs.PositionLaws.{Passed, passed-inside, passed_more, passed_end}
+use Rattle.simulator.proofs.PositionLaws.{Passed, passed_inside, passed_more, passed_end}
 use Rattle.simulator.proofs.starts_at.Statement.{statement}
 use Rattle.simulator.proofs.starts_at.Tie as tie
 
@@ -20,42 +20,42 @@ shared-slice-read-next : tie.Need-shared-slice-read-next invariant-loop decrease
 shared-slice-read-next c =
     let l = c.before.before.loop in
     let a = c.before.before.before.args in
-    let i = passed-inside a.list.now a.position l.index l.next l.invariant (omega arith) in
+    let i = passed_inside a.list.now a.position l.index l.next l.invariant (omega arith) in
     i
 
 cast-next : tie.Need-overflow-cast-next invariant-loop decreases-loop
 cast-next c =
     let l = c.before.before.loop in
     let a = c.before.before.before.args in
-    let i = passed-inside a.list.now a.position l.index l.next l.invariant (omega arith) in
+    let i = passed_inside a.list.now a.position l.index l.next l.invariant (omega arith) in
     omega (arith, l.invariant.cycle.most l.index i)
 
 add-next : tie.Need-overflow-add-next invariant-loop decreases-loop
 add-next c =
     let l = c.before.before.loop in
     let a = c.before.before.before.args in
-    let i = passed-inside a.list.now a.position l.index l.next l.invariant (omega arith) in
+    let i = passed_inside a.list.now a.position l.index l.next l.invariant (omega arith) in
     omega (arith, l.invariant.cycle.most l.index i, l.invariant.before, total_most _ l.invariant.cycle)
 
 add-index : tie.Need-overflow-add-index invariant-loop decreases-loop
 add-index c =
     let l = c.before.before.loop in
     let a = c.before.before.before.args in
-    let i = passed-inside a.list.now a.position l.index l.next l.invariant (omega arith) in
+    let i = passed_inside a.list.now a.position l.index l.next l.invariant (omega arith) in
     omega (arith, l.invariant.cycle.few)
 
 loop-less : tie.Need-loop-smaller invariant-loop decreases-loop
 loop-less c =
     let l = c.before.before.loop in
     let a = c.before.before.before.args in
-    let i = passed-inside a.list.now a.position l.index l.next l.invariant (omega arith) in
+    let i = passed_inside a.list.now a.position l.index l.next l.invariant (omega arith) in
     omega (arith, l.invariant.cycle.least l.index i)
 
 loop-again : tie.Need-loop-preserved invariant-loop decreases-loop
 loop-again c =
     let l = c.before.before.loop in
     let a = c.before.before.before.args in
-    let i = passed-inside a.list.now a.position l.index l.next l.invariant (omega arith) in
+    let i = passed_inside a.list.now a.position l.index l.next l.invariant (omega arith) in
     passed_more _ _ l.index l.next l.invariant (omega arith)
 
 returns : tie.Need-returns invariant-loop decreases-loop

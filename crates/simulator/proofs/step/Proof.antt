@@ -2,7 +2,7 @@
 use mathlib.Core.Path.{sym, ap₂, ◌∙◌}
 use borrow.Author.Rules.{rules}
 use Rattle.unit.specs.Calls.{and_then}
-use Rattle.simulator.proofs.StepLaws.{step_refused, step-ready}
+use Rattle.simulator.proofs.StepLaws.{step_refused, step_ready}
 use Rattle.simulator.proofs.step.Statement.{statement}
 use Rattle.simulator.proofs.step.Tie as tie
 
@@ -25,7 +25,7 @@ enum_told : tie.Need-enum-told
 enum_told c = search rules
 
 play-requires : tie.Need-play-requires
-play-requires c κs = step-ready _ _ _ c.before.before.before.before.before.args.bank (ap₂ and_then (sym c.before.before.before.before.check-tag.ensures) (sym c.before.before.before.check-ring.ensures) ∙ sym c.before.before.and_then.ensures ∙ c.enum_told.given.1)
+play-requires c κs = step_ready _ _ _ c.before.before.before.before.before.args.bank (ap₂ and_then (sym c.before.before.before.before.check-tag.ensures) (sym c.before.before.before.check-ring.ensures) ∙ sym c.before.before.and_then.ensures ∙ c.enum_told.given.1)
 
 returns : tie.Need-returns
 returns c = c.refused.ensures ∙ step_refused _ _ _ _ _ (ap₂ and_then (sym c.before.before.before.before.before.before.check-tag.ensures) (sym c.before.before.before.before.before.check-ring.ensures) ∙ sym c.before.before.before.before.and_then.ensures ∙ c.before.before.ready.given.1)

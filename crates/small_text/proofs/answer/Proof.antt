@@ -1,5 +1,5 @@
 -- `small_text::answer` meets its contract: by the number of words. Assumes nothing.
-use Rattle.small_text.proofs.ToldLaws.{on-totals, on-table}
+use Rattle.small_text.proofs.ToldLaws.{on_totals, on_table}
 use borrow.Author.Rules.{rules}
 use Rattle.small_text.proofs.answer.Statement.{statement}
 use Rattle.small_text.proofs.answer.Tie as tie
@@ -11,7 +11,7 @@ same_length : tie.Need-same-length
 same_length c = search rules
 
 returns : tie.Need-returns
-returns c = on-totals c.before.before.before.before.if1.true c.before.before.tell.ensures
+returns c = on_totals c.before.before.before.before.if1.true c.before.before.tell.ensures
 
 byte-requires : tie.Need-byte-requires
 byte-requires c κs = search rules
@@ -33,7 +33,7 @@ returns-2 c =
     let made = c.before.before.before.before in
     let second = made.before in
     let first = second.before in
-    on-table first.before.if1.false first.byte.ensures second.byte2.ensures made.table.ensures c.before.before.take-unit.ensures
+    on_table first.before.if1.false first.byte.ensures second.byte2.ensures made.table.ensures c.before.before.take-unit.ensures
 
 pub answer-spec : {M : Type 1} → statement M
 answer-spec =

@@ -7,7 +7,7 @@ use Rattle.unit.specs.declared.FunctionUnit.{FunctionUnit}
 use Rattle.unit.specs.declared.Outcome.{Outcome}
 use Rattle.unit.specs.Calls.{fresh_of, column_of}
 use Rattle.table_numbers.specs.Inner.{unit_before}
-use Rattle.table_numbers.proofs.FillLaws.{unit_start, unit-more, unit_end}
+use Rattle.table_numbers.proofs.FillLaws.{unit_start, unit_more, unit_end}
 use Rattle.table_numbers.proofs.fill.Statement.{statement}
 use Rattle.table_numbers.proofs.fill.Tie as tie
 
@@ -47,7 +47,7 @@ loop-again c =
       search rules,
       ap (λ (o : Outcome). o.unit) c.before.with-column.ensures
           ∙ ap₂ (λ (u : FunctionUnit) (w : ℕ). (column_of u 1 k w).unit) h.loop.invariant.2 c.before.before.column-word.ensures
-          ∙ unit-more b.requires b.args.number k h.loop.invariant.0 (omega arith),
+          ∙ unit_more b.requires b.args.number k h.loop.invariant.0 (omega arith),
     )
 
 returns : tie.Need-returns invariant-loop decreases-loop

@@ -3,7 +3,7 @@ use Prim.Native.Nat.{◌^◌, ◌<◌}
 use native.Mathlib.Omega.{arith}
 use borrow.Author.Rules.{rules}
 use Rattle.table_numbers.proofs.FillLaws.{sized}
-use Rattle.table_totals.proofs.MeasureLaws.{function-one, measured}
+use Rattle.table_totals.proofs.MeasureLaws.{function_one, measured}
 use Rattle.table_totals.proofs.measure.Statement.{statement}
 use Rattle.table_totals.proofs.measure.Tie as tie
 
@@ -17,7 +17,7 @@ bound-of-requires : tie.Need-bound-of-requires
 bound-of-requires c κs =
     let b = c.before.before.before.before.before.before.before.before.before in
     let r = b.requires.0 in
-    function-one (sized _ _ r.size) _ r.size (omega (arith, b.requires.1, r.count)) c.before.before.before.before.before.before.before.table.ensures
+    function_one (sized _ _ r.size) _ r.size (omega (arith, b.requires.1, r.count)) c.before.before.before.before.before.before.before.table.ensures
 
 reaches-requires : tie.Need-reaches-requires
 reaches-requires c κs = search rules

@@ -5,7 +5,7 @@ use native.Mathlib.Omega.{arith}
 use borrow.Author.Rules.{rules}
 use Rattle.table_numbers.specs.Tables.{all_tables}
 use Rattle.table_totals.specs.Inner.{Used, Tallied}
-use Rattle.table_totals.proofs.TallyLaws.{tally_start, tally-more, used_then, some_tables, ready_after, few_reach, one_reaches}
+use Rattle.table_totals.proofs.TallyLaws.{tally_start, tally_more, used_then, some_tables, ready_after, few_reach, one_reaches}
 use Rattle.table_totals.proofs.tally_all.Statement.{statement}
 use Rattle.table_totals.proofs.tally_all.Tie as tie
 
@@ -48,7 +48,7 @@ loop-again : tie.Need-loop-preserved invariant-loop decreases-loop
 loop-again c =
     let l = c.before.before.before.before.before.before.loop in
     let m = c.before.before.before.measure2.ensures in
-    (omega (arith, c.before.before.before.before.before.loop-test.true), tally-more l.invariant.1 m c.add-table.result c.add-table.ensures, used_then l.invariant.2 m.used)
+    (omega (arith, c.before.before.before.before.before.loop-test.true), tally_more l.invariant.1 m c.add-table.result c.add-table.ensures, used_then l.invariant.2 m.used)
 
 same_length : tie.Need-same-length invariant-loop decreases-loop
 same_length c = search rules

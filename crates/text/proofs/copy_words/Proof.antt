@@ -4,7 +4,7 @@ use mathlib.Core.Path.{◌≡◌, ap, ◌∙◌}
 use native.Mathlib.Omega.{arith}
 use borrow.Author.Rules.{rules}
 use lib.ListN.{length, set, get_or}
-use Rattle.text.proofs.CopyLaws.{copied, copied_start, copied-length, copied_more, copied_end}
+use Rattle.text.proofs.CopyLaws.{copied, copied_start, copied_length, copied_more, copied_end}
 use Rattle.text.proofs.copy_words.Statement.{statement}
 use Rattle.text.proofs.copy_words.Tie as tie
 
@@ -17,7 +17,7 @@ decreases-loop out₀ at words i₀ out i = length words - i
 kept : (c : tie.At-loop invariant-loop decreases-loop) → length c.loop.out ≡ length c.before.args.out.now
 kept c =
     let a = c.before.args in
-    ap length c.loop.invariant.1 ∙ copied-length a.out.now a.at a.words.now c.before.requires c.loop.i c.loop.invariant.0
+    ap length c.loop.invariant.1 ∙ copied_length a.out.now a.at a.words.now c.before.requires c.loop.i c.loop.invariant.0
 
 loop-holds : tie.Need-loop-init invariant-loop decreases-loop
 loop-holds c = let a = c.args in (omega arith, copied_start a.out.now a.at a.words.now)

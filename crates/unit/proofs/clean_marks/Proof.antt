@@ -2,7 +2,7 @@
 use Prim.Native.Nat.{◌*◌, ◌%◌, ◌^◌, ◌≤◌, ◌<◌}
 use native.Mathlib.Omega.{arith}
 use Rattle.words.proofs.BitLaws.{shifted_one}
-use Rattle.unit.proofs.JoinLaws.{segments-clean, functions-clean, refused, tested}
+use Rattle.unit.proofs.JoinLaws.{segments_clean, functions_clean, refused, tested}
 use borrow.Author.Rules.{rules}
 use Rattle.unit.proofs.clean_marks.Statement.{statement}
 use Rattle.unit.proofs.clean_marks.Tie as tie
@@ -23,7 +23,7 @@ returns c =
     let p : (1 * 2 ^ a.segments) % 2 ^ 32 ≤ j.result = c.if1.true in
     let t = shifted_one a.segments 32 (omega arith) in
     refused a.functions a.segments a.columns a.t4 j.result j.ensures (search rules)
-    (λ d. omega (arith, segments-clean a.functions a.segments a.columns a.t4 j.result j.ensures d))
+    (λ d. omega (arith, segments_clean a.functions a.segments a.columns a.t4 j.result j.ensures d))
 
 mul-joined-from : tie.Need-overflow-mul-joined-from
 mul-joined-from c = search rules
@@ -37,7 +37,7 @@ returns-2 c =
     let j = c.before.before.before.before.joined-from in
     let b = c.before.joined-from2 in
     refused a.functions a.segments a.columns a.t4 j.result j.ensures (search rules)
-    (λ d. c.if2.true (omega (arith, functions-clean a.functions a.segments a.columns a.t4 b.result b.ensures d)))
+    (λ d. c.if2.true (omega (arith, functions_clean a.functions a.segments a.columns a.t4 b.result b.ensures d)))
 
 joined-beyond-requires : tie.Need-joined-beyond-requires
 joined-beyond-requires c κs = search rules

@@ -4,7 +4,7 @@ use mathlib.Core.Path.{◌≡◌, subst}
 use native.Mathlib.Omega.{arith}
 use borrow.Author.Rules.{rules}
 use Rattle.unit.specs.Inner.{Beyond, Joins}
-use Rattle.unit.proofs.JoinLaws.{beyond-start, beyond-more}
+use Rattle.unit.proofs.JoinLaws.{beyond_start, beyond_more}
 use Rattle.unit.proofs.joined_beyond.Statement.{statement}
 use Rattle.unit.proofs.joined_beyond.Tie as tie
 
@@ -15,7 +15,7 @@ abbrev decreases-loop : tie.decreases-loop
 decreases-loop words columns all₀ column₀ all column = 32 - column
 
 loop-holds : tie.Need-loop-init invariant-loop decreases-loop
-loop-holds c = (search rules, search rules, beyond-start c.args.words.now c.args.columns)
+loop-holds c = (search rules, search rules, beyond_start c.args.words.now c.args.columns)
 
 mul-all : tie.Need-overflow-mul-all invariant-loop decreases-loop
 mul-all c = search rules
@@ -62,7 +62,7 @@ loop-again c =
     let a = c.before.before.before.before.before.before.args in (
       search rules,
       search rules,
-      beyond-more a.words.now a.columns l.column l.all l.invariant.0 (omega (arith, c.before.before.before.before.loop-test.true)) l.invariant.2,
+      beyond_more a.words.now a.columns l.column l.all l.invariant.0 (omega (arith, c.before.before.before.before.loop-test.true)) l.invariant.2,
     )
 
 returns : tie.Need-returns invariant-loop decreases-loop

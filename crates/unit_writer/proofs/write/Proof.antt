@@ -9,7 +9,7 @@ use Rattle.words.proofs.Tests.{on, off}
 use Rattle.unit.specs.Unit.{sound_of}
 use Rattle.unit_file.specs.InnerWrite.{Counts}
 use Rattle.unit_file.proofs.FileLaws.{tables_small}
-use Rattle.unit_file.proofs.WriteLaws.{written, sound_counts, ends-unsound, ends_short, ends-written}
+use Rattle.unit_file.proofs.WriteLaws.{written, sound_counts, ends_unsound, ends_short, ends_written}
 use borrow.Author.Rules.{rules}
 use Rattle.unit_writer.proofs.write.Statement.{statement}
 use Rattle.unit_writer.proofs.write.Tie as tie
@@ -20,7 +20,7 @@ sound-requires c κs = search rules
 returns : tie.Need-returns
 returns c =
     let a = c.before.before.before.args in
-    ends-unsound a.u a.out.now (off c.if1.true c.before.sound.ensures)
+    ends_unsound a.u a.out.now (off c.if1.true c.before.sound.ensures)
 
 -- the unit is sound
 passed : (c : tie.Else1) → sound_of c.before.before.before.args.u ≡ true
@@ -86,7 +86,7 @@ returns-3 c =
     let a = e.before.before.before.args in
     let w = written a.u a.out.now h.write-header.new.0 offsets.new.0 tables.new.0
     (omega (arith, h.write-header.auto.0, b.if2.false, b.before.table-start.ensures)) h.write-header.ensures offsets.ensures tables.ensures in
-    ends-written a.u a.out.now b.before.table-start.result tables.new.0 (passed e) b.before.table-start.ensures b.if2.false w
+    ends_written a.u a.out.now b.before.table-start.result tables.new.0 (passed e) b.before.table-start.ensures b.if2.false w
 
 pub write_spec : {M : Type 1} → statement M
 write_spec =

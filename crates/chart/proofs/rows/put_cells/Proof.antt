@@ -9,7 +9,7 @@ use lib.Dec.{eqb}
 use Rattle.chart.specs.Inner.{cells_in}
 use Rattle.chart.specs.Text.{busy}
 use Rattle.chart.proofs.CellLaws.{byte_most, busy_none, busy_most, busy_more, cells_kept}
-use Rattle.chart.proofs.FillLaws.{Filled, filled_none, filled_more, filled-all}
+use Rattle.chart.proofs.FillLaws.{Filled, filled_none, filled_more, filled_all}
 use Rattle.chart.proofs.rows.put_cells.Statement.{statement}
 use Rattle.chart.proofs.rows.put_cells.Tie as tie
 
@@ -66,7 +66,7 @@ returns c =
     let a = c.before.before.before.args in
     let e : l.i ≡ a.units = le_antisymm l.invariant.3.inside c.loop-test.false in (
       l.invariant.2 ∙ ap (λ k. busy k (cells_in a.out.now a.from a.marks a.columns a.segment)) e,
-      filled-all _ _ _ _ l.i l.out l.invariant.3 c.loop-test.false,
+      filled_all _ _ _ _ l.i l.out l.invariant.3 c.loop-test.false,
     )
 
 pub put-cells-spec : {M : Type 1} → statement M

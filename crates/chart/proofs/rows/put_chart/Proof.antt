@@ -5,7 +5,7 @@ use native.Mathlib.Omega.{arith}
 use borrow.Author.Rules.{rules}
 use Rattle.text.proofs.BoundedLaws.{put_more, put_as, put_room}
 use Rattle.chart.specs.Inner.{top_length, line_length}
-use Rattle.chart.proofs.ChartLaws.{ready-sound, row-stands, top-end, chart-parts}
+use Rattle.chart.proofs.ChartLaws.{ready_sound, row_stands, top_end, chart_parts}
 use Rattle.chart.proofs.rows.put_chart.Statement.{statement}
 use Rattle.chart.proofs.rows.put_chart.Tie as tie
 
@@ -25,8 +25,8 @@ put-segments-requires : tie.Need-put-segments-requires
 put-segments-requires c κs =
     let top = c.before.before.before.before.before in
     let s = top.before.before.before.before in
-    let d = ready-sound s.args.u s.args.plan s.requires.0 in
-    let e = top-end s.args.u s.args.plan s.requires.0 s.args.units top.put-top.ensures in (
+    let d = ready_sound s.args.u s.args.plan s.requires.0 in
+    let e = top_end s.args.u s.args.plan s.requires.0 s.args.units top.put-top.ensures in (
       d.columns.1,
       d.segments.1,
       omega (arith, e),
@@ -44,8 +44,8 @@ returns c =
     let s = columns.before.before in
     let a = s.args in
     put_as (put_more top.put-top.ensures lines.put-segments.ensures)
-    (chart-parts a.u a.plan s.requires.0 a.units top.put-top.new.0 columns.columns_of.result columns.columns_of.ensures
-    (row-stands a.u a.plan s.requires.0 a.units top.put-top.ensures))
+    (chart_parts a.u a.plan s.requires.0 a.units top.put-top.new.0 columns.columns_of.result columns.columns_of.ensures
+    (row_stands a.u a.plan s.requires.0 a.units top.put-top.ensures))
     (le_refl (top_length a.units + line_length a.units * a.u.segments))
 
 pub put-chart-spec : {M : Type 1} → statement M

@@ -8,7 +8,7 @@ use Rattle.text.proofs.BoundedLaws.{put_more, put_as, put_room}
 use Rattle.chart.specs.Inner.{cells_in}
 use Rattle.chart.proofs.CellLaws.{busy_most}
 use Rattle.chart.proofs.LineLaws.{line_is}
-use Rattle.chart.proofs.SegmentLaws.{row_kept, segment-all, cells-put}
+use Rattle.chart.proofs.SegmentLaws.{row_kept, segment_all, cells_put}
 use Rattle.chart.proofs.rows.put_segment.Statement.{statement}
 use Rattle.chart.proofs.rows.put_segment.Tie as tie
 
@@ -43,7 +43,7 @@ put-count-requires c κs =
     let cells = c.before.before.before in
     let name = cells.before.before.before.before in
     let s = name.before.before.before in
-    let q = cells-put (s.args.units + 17) s.args.units s.args.marks s.args.columns name.put-name.ensures s.requires.2 s.args.segment cells.put-cells.new.0 cells.put-cells.ensures.1 (put_room s.args.units name.put-name.ensures (omega (arith, s.requires.3, line_is s.args.units))) in (
+    let q = cells_put (s.args.units + 17) s.args.units s.args.marks s.args.columns name.put-name.ensures s.requires.2 s.args.segment cells.put-cells.new.0 cells.put-cells.ensures.1 (put_room s.args.units name.put-name.ensures (omega (arith, s.requires.3, line_is s.args.units))) in (
       omega (arith, cells.put-cells.ensures.0, busy_most s.args.units (cells_in name.put-name.new.0 (s.args.units + 17) s.args.marks s.args.columns s.args.segment)),
       put_room (2 * length (decimal s.args.units) + 8) q (omega (arith, s.requires.3, line_is s.args.units)),
     )
@@ -58,10 +58,10 @@ returns c =
     let name = cells.before.before.before.before in
     let s = name.before.before.before in
     let p = name.put-name.ensures in
-    let q = cells-put (s.args.units + 17) s.args.units s.args.marks s.args.columns name.put-name.ensures s.requires.2 s.args.segment cells.put-cells.new.0 cells.put-cells.ensures.1 (put_room s.args.units name.put-name.ensures (omega (arith, s.requires.3, line_is s.args.units))) in
+    let q = cells_put (s.args.units + 17) s.args.units s.args.marks s.args.columns name.put-name.ensures s.requires.2 s.args.segment cells.put-cells.new.0 cells.put-cells.ensures.1 (put_room s.args.units name.put-name.ensures (omega (arith, s.requires.3, line_is s.args.units))) in
     let from = s.args.units + 17 in
     put_as (put_more q count.put_count.ensures)
-    (segment-all from s.args.units s.args.marks s.args.columns name.put-name.new.0 s.args.out.now s.args.segment (s.args.segment + 1)
+    (segment_all from s.args.units s.args.marks s.args.columns name.put-name.new.0 s.args.out.now s.args.segment (s.args.segment + 1)
     cells.put-cells.result cells.put-cells.ensures.0 (row_kept from s.args.units s.args.marks s.args.columns p s.requires.2))
     (omega (arith, line_is s.args.units))
 

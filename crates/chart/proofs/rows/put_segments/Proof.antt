@@ -5,7 +5,7 @@ use native.Mathlib.Nat.{le_refl, le_of_eq, le_antisymm}
 use native.Mathlib.Omega.{arith}
 use lib.ListN.{length}
 use Rattle.text.specs.Wrote.{Put}
-use Rattle.text.proofs.BoundedLaws.{put_as, put_room, put-join-start, put-join-more}
+use Rattle.text.proofs.BoundedLaws.{put_as, put_room, put_join_start, put_join_more}
 use Rattle.text.proofs.WroteLaws.{wrote_length}
 use Rattle.chart.specs.Inner.{cells_in, lines_text, line_length, row_from}
 use Rattle.chart.specs.Text.{segment_line}
@@ -29,7 +29,7 @@ loop-holds c =
       s.requires.1,
       s.requires.2,
       s.requires.3,
-      put-join-start (line_length a.units) (λ k. segment_line a.units (cells_in a.out.now (row_from a.units) a.marks a.columns k) (k + 1)) (omega (arith, s.requires.3)),
+      put_join_start (line_length a.units) (λ k. segment_line a.units (cells_in a.out.now (row_from a.units) a.marks a.columns k) (k + 1)) (omega (arith, s.requires.3)),
     )
 
 put-segment-requires : tie.Need-put-segment-requires invariant-loop decreases-loop
@@ -57,7 +57,7 @@ loop-again c =
       l.invariant.2,
       l.invariant.3,
       l.invariant.4,
-      put-join-more (line_length a.units) l.segment (λ k. segment_line a.units (cells_in a.out.now from a.marks a.columns k) (k + 1)) p
+      put_join_more (line_length a.units) l.segment (λ k. segment_line a.units (cells_in a.out.now from a.marks a.columns k) (k + 1)) p
           (put_as c.before.before.put-segment.ensures
           (line_same from a.units a.marks a.columns l.out a.out.now l.segment (l.segment + 1) (row_kept from a.units a.marks a.columns p l.invariant.3))
           (le_refl (line_length a.units))),

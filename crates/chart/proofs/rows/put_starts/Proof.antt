@@ -4,8 +4,8 @@ use mathlib.Core.Path.{◌≡◌}
 use native.Mathlib.Omega.{arith}
 use borrow.Author.Rules.{rules}
 use Rattle.chart.specs.Cells.{tasks_before, start_cell}
-use Rattle.chart.proofs.CellLaws.{At, at_start, at_next, byte_most, tasks_most, tasks_none, tasks-next, start-next}
-use Rattle.chart.proofs.FillLaws.{Filled, filled_none, filled_more, filled-wrote}
+use Rattle.chart.proofs.CellLaws.{At, at_start, at_next, byte_most, tasks_most, tasks_none, tasks_next, start_next}
+use Rattle.chart.proofs.FillLaws.{Filled, filled_none, filled_more, filled_wrote}
 use Rattle.chart.proofs.rows.put_starts.Statement.{statement}
 use Rattle.chart.proofs.rows.put_starts.Tie as tie
 
@@ -54,8 +54,8 @@ loop-again c =
     let s = c.before.before.before.step in (
       l.invariant.0,
       at_next _ _ _ _ l.i l.invariant.1 s.result s.ensures,
-      tasks-next _ _ _ _ l.i l.invariant.1 s.result s.ensures l.tasks l.invariant.2,
-      filled_more _ _ _ _ l.i _ l.out l.invariant.3 (omega arith) (start-next _ _ _ _ l.i l.invariant.1 s.result s.ensures l.tasks _ l.invariant.2 c.before.before.start_cell.ensures),
+      tasks_next _ _ _ _ l.i l.invariant.1 s.result s.ensures l.tasks l.invariant.2,
+      filled_more _ _ _ _ l.i _ l.out l.invariant.3 (omega arith) (start_next _ _ _ _ l.i l.invariant.1 s.result s.ensures l.tasks _ l.invariant.2 c.before.before.start_cell.ensures),
     )
 
 add-result : tie.Need-overflow-add-result invariant-loop decreases-loop
@@ -65,7 +65,7 @@ same_length : tie.Need-same-length invariant-loop decreases-loop
 same_length c = c.before.loop.invariant.3.size
 
 returns : tie.Need-returns invariant-loop decreases-loop
-returns c = let l = c.before.loop in filled-wrote _ _ _ _ l.i l.out l.invariant.3 c.loop-test.false
+returns c = let l = c.before.loop in filled_wrote _ _ _ _ l.i l.out l.invariant.3 c.loop-test.false
 
 pub put-starts-spec : {M : Type 1} → statement M
 put-starts-spec =

@@ -4,7 +4,7 @@ use mathlib.Core.Path.{refl}
 use native.Mathlib.Omega.{arith}
 use borrow.Author.Rules.{rules}
 use Rattle.chart.specs.Text.{unit_digit}
-use Rattle.chart.proofs.FillLaws.{Filled, filled_none, filled_more, filled-wrote}
+use Rattle.chart.proofs.FillLaws.{Filled, filled_none, filled_more, filled_wrote}
 use Rattle.chart.proofs.rows.put_units.Statement.{statement}
 use Rattle.chart.proofs.rows.put_units.Tie as tie
 
@@ -48,7 +48,7 @@ same_length : tie.Need-same-length invariant-loop decreases-loop
 same_length c = c.before.loop.invariant.1.size
 
 returns : tie.Need-returns invariant-loop decreases-loop
-returns c = let l = c.before.loop in filled-wrote _ _ _ _ _ _ l.invariant.1 c.loop-test.false
+returns c = let l = c.before.loop in filled_wrote _ _ _ _ _ _ l.invariant.1 c.loop-test.false
 
 pub put-units-spec : {M : Type 1} → statement M
 put-units-spec =

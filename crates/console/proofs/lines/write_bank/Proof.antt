@@ -1,6 +1,6 @@
 -- `console::lines::write_bank` meets its contract. Assumes nothing.
 use native.Mathlib.Omega.{arith}
-use Rattle.console.proofs.LineLaws.{bank-room-1, bank-room-2, bank-room-3, bank-wrote}
+use Rattle.console.proofs.LineLaws.{bank_room_1, bank_room_2, bank_room_3, bank_wrote}
 use borrow.Author.Rules.{rules}
 use Rattle.console.proofs.lines.write_bank.Statement.{statement}
 use Rattle.console.proofs.lines.write_bank.Tie as tie
@@ -15,7 +15,7 @@ put-value-requires : tie.Need-put-value-requires
 put-value-requires c κs =
     let first = c.before.before.before.before in
     let start = first.before.before.before in
-    omega (arith, bank-room-1 start.args.line.now start.args.bank.r1 start.requires first.put-number.ensures)
+    omega (arith, bank_room_1 start.args.line.now start.args.bank.r1 start.requires first.put-number.ensures)
 
 slice-aggregate-put-value-2 : tie.Need-slice-aggregate-put-value-2
 slice-aggregate-put-value-2 c = search rules
@@ -26,7 +26,7 @@ put-value-requires-2 c κs =
     let first = second.before.before.before.before.before in
     let start = first.before.before.before in
     let b = start.args.bank in
-    omega (arith, bank-room-2 start.args.line.now b.r1 start.requires first.put-number.ensures b.r2 second.put-value.ensures)
+    omega (arith, bank_room_2 start.args.line.now b.r1 start.requires first.put-number.ensures b.r2 second.put-value.ensures)
 
 slice-aggregate-put-value-3 : tie.Need-slice-aggregate-put-value-3
 slice-aggregate-put-value-3 c = search rules
@@ -38,7 +38,7 @@ put-value-requires-3 c κs =
     let first = second.before.before.before.before.before in
     let start = first.before.before.before in
     let b = start.args.bank in
-    omega (arith, bank-room-3 start.args.line.now b.r1 start.requires first.put-number.ensures b.r2 second.put-value.ensures b.r3 third.put-value2.ensures)
+    omega (arith, bank_room_3 start.args.line.now b.r1 start.requires first.put-number.ensures b.r2 second.put-value.ensures b.r3 third.put-value2.ensures)
 
 slice-aggregate-put : tie.Need-slice-aggregate-put
 slice-aggregate-put c = search rules
@@ -57,7 +57,7 @@ returns c =
     let first = second.before.before.before.before.before in
     let start = first.before.before.before in
     let b = start.args.bank in
-    bank-wrote start.args.line.now b.r1 start.requires first.put-number.ensures b.r2 second.put-value.ensures b.r3 third.put-value2.ensures b.r4
+    bank_wrote start.args.line.now b.r1 start.requires first.put-number.ensures b.r2 second.put-value.ensures b.r3 third.put-value2.ensures b.r4
     fourth.put-value3.ensures c.before.before.put.ensures
 
 pub write-bank-spec : {M : Type 1} → statement M

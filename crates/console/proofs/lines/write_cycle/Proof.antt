@@ -2,7 +2,7 @@
 use Prim.Native.Nat.{ℕ, ◌^◌, ◌<◌}
 use native.Mathlib.Omega.{arith}
 use lib.ListN.{length, get_or}
-use Rattle.console.proofs.LineLaws.{cycle-room, cycle-wrote}
+use Rattle.console.proofs.LineLaws.{cycle_room, cycle_wrote}
 use borrow.Author.Rules.{rules}
 use Rattle.console.proofs.lines.write_cycle.Statement.{statement}
 use Rattle.console.proofs.lines.write_cycle.Tie as tie
@@ -30,7 +30,7 @@ put-value-requires : tie.Need-put-value-requires
 put-value-requires c κs =
     let bytes = c.before.before.before.before in
     let a = (start bytes).args in
-    omega (arith, cycle-room a.line.now a.at a.cycle.now (small bytes) (start bytes).requires bytes.before.before.before.before.put.ensures bytes.put-bytes.ensures)
+    omega (arith, cycle_room a.line.now a.at a.cycle.now (small bytes) (start bytes).requires bytes.before.before.before.before.put.ensures bytes.put-bytes.ensures)
 
 slice-aggregate-put-2 : tie.Need-slice-aggregate-put-2
 slice-aggregate-put-2 c = search rules
@@ -46,7 +46,7 @@ returns c =
     let value = c.before.before.before.before.before.before.before in
     let bytes = value.before.before.before.before.before in
     let a = (start bytes).args in
-    cycle-wrote a.line.now a.at a.cycle.now (small bytes) (start bytes).requires bytes.before.before.before.before.put.ensures bytes.put-bytes.ensures a.sum value.put-value.ensures
+    cycle_wrote a.line.now a.at a.cycle.now (small bytes) (start bytes).requires bytes.before.before.before.before.put.ensures bytes.put-bytes.ensures a.sum value.put-value.ensures
     c.before.before.put2.ensures
 
 pub write-cycle-spec : {M : Type 1} → statement M

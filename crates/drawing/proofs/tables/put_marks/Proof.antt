@@ -6,7 +6,7 @@ use borrow.Author.Rules.{rules}
 use Rattle.words.specs.Below.{join_below}
 use Rattle.text.specs.Wrote.{Put}
 use Rattle.text.proofs.WroteLaws.{wrote_length}
-use Rattle.text.proofs.BoundedLaws.{put_as, put_room, put-join-start, put-join-more}
+use Rattle.text.proofs.BoundedLaws.{put_as, put_room, put_join_start, put_join_more}
 use Rattle.drawing.specs.Tables.{cell, mark_text}
 use Rattle.drawing.specs.Inner.{mark_cell}
 use Rattle.drawing.proofs.tables.put_marks.Statement.{statement}
@@ -19,7 +19,7 @@ abbrev decreases-loop : tie.decreases-loop
 decreases-loop out₀ at columns segment marks end₀ column₀ out end column = columns - column
 
 loop-holds : tie.Need-loop-init invariant-loop decreases-loop
-loop-holds c = let a = c.before.args in (omega arith, put-join-start 3 (mark_cell a.t3 a.segment) (omega arith))
+loop-holds c = let a = c.before.args in (omega arith, put_join_start 3 (mark_cell a.t3 a.segment) (omega arith))
 
 cast-word : tie.Need-overflow-cast-word invariant-loop decreases-loop
 cast-word c = search rules
@@ -50,7 +50,7 @@ loop-again c =
     let l = c.before.before.before.before.before.before.loop in
     let a = c.before.before.before.before.before.before.before.before.args in
     let p = put_as {n = 3} c.before.before.put-mark-cell.ensures (ap (λ b. cell (mark_text b)) c.before.before.before.test.ensures) (omega arith) in
-    (search rules, put-join-more 3 l.column (mark_cell a.t3 a.segment) l.invariant.1 p)
+    (search rules, put_join_more 3 l.column (mark_cell a.t3 a.segment) l.invariant.1 p)
 
 same_length : tie.Need-same-length invariant-loop decreases-loop
 same_length c = wrote_length c.before.loop.invariant.1.wrote

@@ -6,7 +6,7 @@ use borrow.Author.Rules.{rules}
 use Rattle.words.specs.Below.{join_below}
 use Rattle.text.specs.Wrote.{Put}
 use Rattle.text.proofs.WroteLaws.{wrote_length}
-use Rattle.text.proofs.BoundedLaws.{put_as, put_room, put-join-start, put-join-more}
+use Rattle.text.proofs.BoundedLaws.{put_as, put_room, put_join_start, put_join_more}
 use Rattle.drawing.specs.Inner.{number_cell}
 use Rattle.drawing.proofs.tables.put_numbers.Statement.{statement}
 use Rattle.drawing.proofs.tables.put_numbers.Tie as tie
@@ -18,7 +18,7 @@ abbrev decreases-loop : tie.decreases-loop
 decreases-loop out₀ at columns end₀ column₀ out end column = columns - column
 
 loop-holds : tie.Need-loop-init invariant-loop decreases-loop
-loop-holds c = (omega arith, put-join-start 3 number_cell (omega arith))
+loop-holds c = (omega arith, put_join_start 3 number_cell (omega arith))
 
 add-put-number-cell : tie.Need-overflow-add-put-number-cell invariant-loop decreases-loop
 add-put-number-cell c = search rules
@@ -35,7 +35,7 @@ loop-less c = search rules
 loop-again : tie.Need-loop-preserved invariant-loop decreases-loop
 loop-again c =
     let l = c.before.before.before.before.before.loop in
-    (search rules, put-join-more 3 l.column number_cell l.invariant.1 c.before.before.put-number-cell.ensures)
+    (search rules, put_join_more 3 l.column number_cell l.invariant.1 c.before.before.put-number-cell.ensures)
 
 same_length : tie.Need-same-length invariant-loop decreases-loop
 same_length c = wrote_length c.before.loop.invariant.1.wrote

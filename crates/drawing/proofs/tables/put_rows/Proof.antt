@@ -6,7 +6,7 @@ use borrow.Author.Rules.{rules}
 use Rattle.words.specs.Below.{join_below}
 use Rattle.text.specs.Wrote.{Put}
 use Rattle.text.proofs.WroteLaws.{wrote_length}
-use Rattle.text.proofs.BoundedLaws.{put_as, put_room, put-join-start, put-join-more}
+use Rattle.text.proofs.BoundedLaws.{put_as, put_room, put_join_start, put_join_more}
 use Rattle.drawing.specs.Inner.{line_text, line_length}
 use Rattle.drawing.proofs.TableLaws.{line_room}
 use Rattle.drawing.proofs.tables.put_rows.Statement.{statement}
@@ -19,7 +19,7 @@ abbrev decreases-loop : tie.decreases-loop
 decreases-loop out₀ at marks segments columns end₀ segment₀ out end segment = segments - segment
 
 loop-holds : tie.Need-loop-init invariant-loop decreases-loop
-loop-holds c = let a = c.before.args in (omega arith, put-join-start (line_length a.columns) (line_text a.marks a.columns) (omega arith))
+loop-holds c = let a = c.before.args in (omega arith, put_join_start (line_length a.columns) (line_text a.marks a.columns) (omega arith))
 
 put-line-requires : tie.Need-put-line-requires invariant-loop decreases-loop
 put-line-requires c κs =
@@ -38,7 +38,7 @@ loop-again : tie.Need-loop-preserved invariant-loop decreases-loop
 loop-again c =
     let l = c.before.before.before.before.before.loop in
     let a = c.before.before.before.before.before.before.before.args in
-    (search rules, put-join-more (line_length a.columns) l.segment (line_text a.marks a.columns) l.invariant.1 c.before.before.put-line.ensures)
+    (search rules, put_join_more (line_length a.columns) l.segment (line_text a.marks a.columns) l.invariant.1 c.before.before.put-line.ensures)
 
 same_length : tie.Need-same-length invariant-loop decreases-loop
 same_length c = wrote_length c.before.loop.invariant.1.wrote

@@ -6,7 +6,7 @@ use borrow.Author.Rules.{rules}
 use Rattle.words.specs.Below.{join_below}
 use Rattle.text.specs.Wrote.{Put}
 use Rattle.text.proofs.WroteLaws.{wrote_length}
-use Rattle.text.proofs.BoundedLaws.{put_as, put_room, put-join-start, put-join-more}
+use Rattle.text.proofs.BoundedLaws.{put_as, put_room, put_join_start, put_join_more}
 use Rattle.graph.specs.Inner.{permitted_text}
 use Rattle.graph.proofs.DotLaws.{arcs_all}
 use Rattle.graph.proofs.dots.put_arcs.Statement.{statement}
@@ -22,7 +22,7 @@ loop-holds : tie.Need-loop-init invariant-loop decreases-loop
 loop-holds c =
     let s = c.before.before.before in
     let a = s.args in
-    (omega arith, put-join-start 107 (permitted_text a.columns a.vector a.cycle.now a.state) (omega (arith, s.requires.2)))
+    (omega arith, put_join_start 107 (permitted_text a.columns a.vector a.cycle.now a.state) (omega (arith, s.requires.2)))
 
 put-permitted-requires : tie.Need-put-permitted-requires invariant-loop decreases-loop
 put-permitted-requires c κs =
@@ -40,7 +40,7 @@ loop-again : tie.Need-loop-preserved invariant-loop decreases-loop
 loop-again c =
     let l = c.before.before.before.before.before.loop in
     let a = c.before.before.before.before.before.before.before.before.before.args in
-    (search rules, put-join-more 107 l.index (permitted_text a.columns a.vector a.cycle.now a.state) l.invariant.1 c.before.before.put-permitted.ensures)
+    (search rules, put_join_more 107 l.index (permitted_text a.columns a.vector a.cycle.now a.state) l.invariant.1 c.before.before.put-permitted.ensures)
 
 same_length : tie.Need-same-length invariant-loop decreases-loop
 same_length c = wrote_length c.before.loop.invariant.1.wrote

@@ -5,7 +5,7 @@ use native.Mathlib.Omega.{arith}
 use borrow.Author.Rules.{rules}
 use Rattle.text.proofs.BoundedLaws.{put_start, put_as}
 use Rattle.graph.specs.Dot.{arc_text}
-use Rattle.graph.proofs.DotLaws.{permitted-not, permitted-arc}
+use Rattle.graph.proofs.DotLaws.{permitted_not, permitted_arc}
 use Rattle.graph.proofs.dots.put_permitted.Statement.{statement}
 use Rattle.graph.proofs.dots.put_permitted.Tie as tie
 
@@ -18,7 +18,7 @@ returns c =
     let a = s.args in
     let e = sym c.before.test.ensures ∙ c.if1.true in
     put_as (put_start a.out.now a.at (omega (arith, s.requires.3)))
-    (permitted-not a.columns a.vector a.cycle.now a.state a.index s.requires.1 s.requires.2 e)
+    (permitted_not a.columns a.vector a.cycle.now a.state a.index s.requires.1 s.requires.2 e)
     (omega arith)
 
 add-put-arc : tie.Need-overflow-add-put-arc
@@ -37,7 +37,7 @@ returns-2 c =
     let a = s.args in
     let e = sym b.before.test.ensures ∙ b.if1.false in
     put_as {a = arc_text a.columns a.vector a.cycle.now a.state (a.index + 1)} c.before.before.put-arc.ensures
-    (permitted-arc a.columns a.vector a.cycle.now a.state a.index s.requires.1 s.requires.2 e)
+    (permitted_arc a.columns a.vector a.cycle.now a.state a.index s.requires.1 s.requires.2 e)
     (omega arith)
 
 pub put-permitted-spec : {M : Type 1} → statement M

@@ -7,7 +7,7 @@ use borrow.Author.Rules.{rules}
 use Rattle.words.specs.Below.{join_below}
 use Rattle.text.specs.Wrote.{Put}
 use Rattle.text.proofs.WroteLaws.{wrote_length}
-use Rattle.text.proofs.BoundedLaws.{put_as, put_room, put-join-start, put-join-more}
+use Rattle.text.proofs.BoundedLaws.{put_as, put_room, put_join_start, put_join_more}
 use Rattle.graph.proofs.DotLaws.{arcs_at}
 use Rattle.graph.proofs.dots.put_states.Statement.{statement}
 use Rattle.graph.proofs.dots.put_states.Tie as tie
@@ -22,7 +22,7 @@ loop-holds : tie.Need-loop-init invariant-loop decreases-loop
 loop-holds c =
     let s = c.before.before.before.before in
     let a = s.args in
-    (omega arith, put-join-start 3531 (arcs_at a.columns a.vector a.cycle.now a.states.now) (omega (arith, s.requires.2)))
+    (omega arith, put_join_start 3531 (arcs_at a.columns a.vector a.cycle.now a.states.now) (omega (arith, s.requires.2)))
 
 mul-put-arcs : tie.Need-overflow-mul-put-arcs invariant-loop decreases-loop
 mul-put-arcs c = search rules
@@ -46,7 +46,7 @@ loop-again : tie.Need-loop-preserved invariant-loop decreases-loop
 loop-again c =
     let l = c.before.before.before.before.before.before.loop in
     let a = c.before.before.before.before.before.before.before.before.before.before.before.args in
-    (search rules, put-join-more 3531 l.i (arcs_at a.columns a.vector a.cycle.now a.states.now) l.invariant.1 c.before.before.put-arcs.ensures)
+    (search rules, put_join_more 3531 l.i (arcs_at a.columns a.vector a.cycle.now a.states.now) l.invariant.1 c.before.before.put-arcs.ensures)
 
 same_length : tie.Need-same-length invariant-loop decreases-loop
 same_length c = wrote_length c.before.loop.invariant.1.wrote

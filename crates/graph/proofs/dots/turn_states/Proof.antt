@@ -4,7 +4,7 @@ use Prim.Native.Nat.{◌-◌}
 use native.Mathlib.Omega.{arith}
 use lib.ListN.{length}
 use borrow.Author.Rules.{rules}
-use Rattle.graph.proofs.DotLaws.{Turning, turning_start, turning-more, turning-end}
+use Rattle.graph.proofs.DotLaws.{Turning, turning_start, turning_more, turning_end}
 use Rattle.graph.proofs.dots.turn_states.Statement.{statement}
 use Rattle.graph.proofs.dots.turn_states.Tie as tie
 
@@ -42,10 +42,10 @@ loop-less : tie.Need-loop-smaller invariant-loop decreases-loop
 loop-less c = search rules
 
 loop-again : tie.Need-loop-preserved invariant-loop decreases-loop
-loop-again c = turning-more c.before.before.before.loop.invariant (omega arith) c.next_of.ensures
+loop-again c = turning_more c.before.before.before.loop.invariant (omega arith) c.next_of.ensures
 
 returns : tie.Need-returns invariant-loop decreases-loop
-returns c = turning-end c.before.loop.invariant (omega arith)
+returns c = turning_end c.before.loop.invariant (omega arith)
 
 pub turn-states-spec : {M : Type 1} → statement M
 turn-states-spec =

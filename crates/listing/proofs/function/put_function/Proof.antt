@@ -1,5 +1,5 @@
 -- `listing::function::put_function` meets its contract: its lines in turn. Assumes nothing.
-use Rattle.listing.proofs.FunctionLaws.{function-lines}
+use Rattle.listing.proofs.FunctionLaws.{function_lines}
 use borrow.Author.Rules.{rules}
 use Rattle.listing.proofs.function.put_function.Statement.{statement}
 use Rattle.listing.proofs.function.put_function.Tie as tie
@@ -35,7 +35,7 @@ returns c =
     let b = s.before.before.before.before in
     let v = b.before.before.before.before in
     let f = v.before.before.before.before in
-    function-lines f.put-line.ensures v.put-vector-line.ensures b.put-bound-line.ensures s.put-states.ensures n.put-constant-line.ensures
+    function_lines f.put-line.ensures v.put-vector-line.ensures b.put-bound-line.ensures s.put-states.ensures n.put-constant-line.ensures
 
 pub put-function-spec : {M : Type 1} → statement M
 put-function-spec =

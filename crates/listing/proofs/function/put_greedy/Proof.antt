@@ -6,7 +6,7 @@ use lib.ListN.{replicate}
 use Rattle.unit.specs.Unit.{marked}
 use Rattle.text.specs.Text.{ascii}
 use Rattle.cycles.specs.Greedy.{greedy_of}
-use Rattle.listing.proofs.StandingLaws.{Standing, standing_part, standing_line, greedy-handed, greedy-stands}
+use Rattle.listing.proofs.StandingLaws.{Standing, standing_part, standing_line, greedy_handed, greedy_stands}
 use borrow.Author.Rules.{rules}
 use Rattle.listing.proofs.function.put_greedy.Statement.{statement}
 use Rattle.listing.proofs.function.put_greedy.Tie as tie
@@ -30,7 +30,7 @@ abbrev start : tie.After-greedy → tie.Start
 start c = c.before.before.before.before
 
 returns : tie.Need-returns
-returns c = let g = c.before.before.before.before in greedy-handed (start g).requires.0 g.greedy.ensures.0 c.enum_told.given.1
+returns c = let g = c.before.before.before.before in greedy_handed (start g).requires.0 g.greedy.ensures.0 c.enum_told.given.1
 
 abbrev call : tie.After-known-told → tie.After-greedy
 call c = c.before.before.before.before.before
@@ -44,7 +44,7 @@ stands : (c : tie.After-known-told)
     (call c).greedy.new.1.1.1.0
 stands c =
     let g = call c in
-    greedy-stands (start g).pre.0 (replicate 256 0) refl g.greedy.ensures.0 g.greedy.ensures.1 c.before.found.given.1
+    greedy_stands (start g).pre.0 (replicate 256 0) refl g.greedy.ensures.0 g.greedy.ensures.1 c.before.found.given.1
 
 cast-count : tie.Need-overflow-cast-count
 cast-count c = search rules

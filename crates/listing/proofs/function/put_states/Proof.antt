@@ -4,7 +4,7 @@ use Rattle.text.specs.Text.{ascii}
 use Rattle.listing.specs.Inner.{Small}
 use Rattle.text.proofs.BoundedLaws.{put_one}
 use Rattle.listing.proofs.AskedLaws.{Counted, states_counted, states_refused}
-use Rattle.listing.proofs.FunctionLaws.{number_line_lem, lines-many, lines_few}
+use Rattle.listing.proofs.FunctionLaws.{number_line_lem, lines_many, lines_few}
 use borrow.Author.Rules.{rules}
 use Rattle.listing.proofs.function.put_states.Statement.{statement}
 use Rattle.listing.proofs.function.put_states.Tie as tie
@@ -38,7 +38,7 @@ returns c =
     let p = c.before.before in
     let t = p.before.before.before in
     let n = t.before.before.before in
-    lines-many (states_refused (start n).requires.0 n.states.ensures.0 t.enum_told.given.1)
+    lines_many (states_refused (start n).requires.0 n.states.ensures.0 t.enum_told.given.1)
     (put_one 10 (ascii "refused 7\n") p.put.ensures (omega arith) (omega (arith, (start n).requires.1)))
 
 abbrev call : tie.After-known-told → tie.After-states

@@ -8,7 +8,7 @@ use Rattle.collision.specs.Answers.{vector_answer}
 use Rattle.text.specs.Wrote.{Put}
 use Rattle.text.proofs.BoundedLaws.{put_one}
 use Rattle.listing.proofs.AskedLaws.{value_answering}
-use Rattle.listing.proofs.FunctionLaws.{put_room, vector_line}
+use Rattle.listing.proofs.FunctionLaws.{put_room, vector_line_lem}
 use borrow.Author.Rules.{rules}
 use Rattle.listing.proofs.function.put_vector_line.Statement.{statement}
 use Rattle.listing.proofs.function.put_vector_line.Tie as tie
@@ -53,7 +53,7 @@ returns c =
     let l = c.before.before in
     let v = l.before.before.before.before.before in
     let p = v.before.before.before.before in
-    vector_line _ _ (vector-is p) (word p) v.put_vector.ensures l.put2.ensures (start p).requires.1
+    vector_line_lem _ _ (vector-is p) (word p) v.put_vector.ensures l.put2.ensures (start p).requires.1
 
 pub put-vector-line-spec : {M : Type 1} → statement M
 put-vector-line-spec =

@@ -3,7 +3,7 @@ use mathlib.Core.Path.{sym, subst}
 use Prim.Native.Nat.{◌-◌, ◌<◌}
 use lib.ListN.{length-set}
 use Rattle.loops.specs.declared.State.{State}
-use Rattle.loops.proofs.FollowLaws.{Following, follow_start, follow_more, mark-stocked, followed-over, followed-all}
+use Rattle.loops.proofs.FollowLaws.{Following, follow_start, follow_more, mark_stocked, followed_over, followed_all}
 use native.Mathlib.Omega.{arith}
 use Rattle.loops.proofs.listing.follow.Statement.{statement}
 use Rattle.loops.proofs.listing.follow.Tie as tie
@@ -42,7 +42,7 @@ slice-write-work c =
 loop-holds : tie.Need-loop-init invariant-loop decreases-loop
 loop-holds c =
     let ready = c.before.before.before.before.requires.1 in
-    follow_start _ _ _ _ _ ready.few (mark-stocked _ c.before.before.before.before.args.rules _ _ ready _)
+    follow_start _ _ _ _ _ ready.few (mark_stocked _ c.before.before.before.before.args.rules _ _ ready _)
 
 -- src/listing.rt:135:9
 turn-requires : tie.Need-turn-requires invariant-loop decreases-loop
@@ -61,13 +61,13 @@ turn-requires c κs =
 same_length : tie.Need-same-length invariant-loop decreases-loop
 same_length c =
     let start = c.before.before.before.before.before.before.before.before.before.before.before in
-    (followed-over _ _ _ _ start.requires.1 _ _ c.before.before.before.before.before.before.before.before.get.ensures c.before.before.before.before.before.before.before.mask.ensures _ _ _ _ _ c.before.before.before.before.before.before.loop.invariant c.before.before.before.before.before.loop-test.true c.before.before.before.turn.ensures c.if1.true).size
+    (followed_over _ _ _ _ start.requires.1 _ _ c.before.before.before.before.before.before.before.before.get.ensures c.before.before.before.before.before.before.before.mask.ensures _ _ _ _ _ c.before.before.before.before.before.before.loop.invariant c.before.before.before.before.before.loop-test.true c.before.before.before.turn.ensures c.if1.true).size
 
 -- src/listing.rt:137:13
 returns : tie.Need-returns invariant-loop decreases-loop
 returns c =
     let start = c.before.before.before.before.before.before.before.before.before.before.before in
-    followed-over _ _ _ _ start.requires.1 _ _ c.before.before.before.before.before.before.before.before.get.ensures c.before.before.before.before.before.before.before.mask.ensures _ _ _ _ _ c.before.before.before.before.before.before.loop.invariant c.before.before.before.before.before.loop-test.true c.before.before.before.turn.ensures c.if1.true
+    followed_over _ _ _ _ start.requires.1 _ _ c.before.before.before.before.before.before.before.before.get.ensures c.before.before.before.before.before.before.before.mask.ensures _ _ _ _ _ c.before.before.before.before.before.before.loop.invariant c.before.before.before.before.before.loop-test.true c.before.before.before.turn.ensures c.if1.true
 
 -- src/listing.rt:139:9
 add-latency : tie.Need-overflow-add-latency invariant-loop decreases-loop
@@ -87,13 +87,13 @@ loop-again c =
 same-length-2 : tie.Need-same-length-2 invariant-loop decreases-loop
 same-length-2 c =
     let pre = c.before.before.before.before.before.before.requires in
-    (followed-all _ _ _ _ pre.1 _ _ c.before.before.before.get.ensures c.before.before.mask.ensures _ _ _ c.before.loop.invariant c.loop-test.false pre.0.slim).size
+    (followed_all _ _ _ _ pre.1 _ _ c.before.before.before.get.ensures c.before.before.mask.ensures _ _ _ c.before.loop.invariant c.loop-test.false pre.0.slim).size
 
 -- src/listing.rt:124:1
 returns-2 : tie.Need-returns-2 invariant-loop decreases-loop
 returns-2 c =
     let pre = c.before.before.before.before.before.before.requires in
-    followed-all _ _ _ _ pre.1 _ _ c.before.before.before.get.ensures c.before.before.mask.ensures _ _ _ c.before.loop.invariant c.loop-test.false pre.0.slim
+    followed_all _ _ _ _ pre.1 _ _ c.before.before.before.get.ensures c.before.before.mask.ensures _ _ _ c.before.loop.invariant c.loop-test.false pre.0.slim
 
 pub follow-spec : {M : Type 1} → statement M
 follow-spec =

@@ -1,5 +1,5 @@
 -- `loops::listing::turn` meets its contract. Assumes nothing.
-use Rattle.loops.proofs.TurnLaws.{made, turned-old, turned-full, turned-new}
+use Rattle.loops.proofs.TurnLaws.{made, turned_old, turned_full, turned_new}
 use native.Mathlib.Omega.{arith}
 use borrow.Author.Rules.{rules}
 use Rattle.loops.proofs.listing.turn.Statement.{statement}
@@ -23,7 +23,7 @@ returns c =
     let pre = c.before.before.before.before.before.before.before.before.before.before.requires in
     let room = pre.1.1.0.1.1 in
     let m = made _ _ _ _ _ _ _ _ c.before.before.before.before.before.before.before.lead.ensures pre.1.1.1 (omega (arith, pre.1.1.0.0)) pre.1.1.0.1.0 room in
-    turned-old _ _ _ _ _ _ _ _ m pre.0 pre.1.1.0.0 pre.1.1.0.1.0 room pre.1.0.1.0 pre.1.0.1.1 _ c.before.before.note.ensures c.before.before.before.before.if1.true
+    turned_old _ _ _ _ _ _ _ _ m pre.0 pre.1.1.0.0 pre.1.1.0.1.0 room pre.1.0.1.0 pre.1.0.1.1 _ c.before.before.note.ensures c.before.before.before.before.if1.true
 
 -- src/listing.rt:117:9
 same-length-2 : tie.Need-same-length-2
@@ -35,7 +35,7 @@ returns-2 c =
     let pre = c.before.before.before.before.before.before.before.requires in
     let room = pre.1.1.0.1.1 in
     let m = made _ _ _ _ _ _ _ _ c.before.before.before.before.lead.ensures pre.1.1.1 (omega (arith, pre.1.1.0.0)) pre.1.1.0.1.0 room in
-    turned-full _ _ _ _ _ _ _ _ m pre.0 pre.1.1.0.0 pre.1.1.0.1.0 room pre.1.0.1.0 pre.1.0.1.1 c.before.if1.false c.if2.true
+    turned_full _ _ _ _ _ _ _ _ m pre.0 pre.1.1.0.0 pre.1.1.0.1.0 room pre.1.0.1.0 pre.1.0.1.1 c.before.if1.false c.if2.true
 
 -- src/listing.rt:119:5
 note-requires-2 : tie.Need-note-requires-2
@@ -59,7 +59,7 @@ returns-3 c =
     let pre = c.before.before.before.before.before.before.before.before.before.before.before.requires in
     let room = pre.1.1.0.1.1 in
     let m = made _ _ _ _ _ _ _ _ c.before.before.before.before.before.before.before.before.lead.ensures pre.1.1.1 (omega (arith, pre.1.1.0.0)) pre.1.1.0.1.0 room in
-    turned-new _ _ _ _ _ _ _ _ m pre.0 pre.1.1.0.0 pre.1.1.0.1.0 room pre.1.0.1.0 pre.1.0.1.1 _ c.before.before.note2.ensures c.before.before.before.before.before.if1.false c.before.before.before.before.if2.false
+    turned_new _ _ _ _ _ _ _ _ m pre.0 pre.1.1.0.0 pre.1.1.0.1.0 room pre.1.0.1.0 pre.1.0.1.1 _ c.before.before.note2.ensures c.before.before.before.before.before.if1.false c.before.before.before.before.if2.false
 
 pub turn_spec : {M : Type 1} → statement M
 turn_spec =

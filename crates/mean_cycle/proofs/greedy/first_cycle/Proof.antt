@@ -4,7 +4,7 @@ use native.Mathlib.Omega.{arith}
 use lib.ListN.{length-set}
 use Rattle.mean_cycle.proofs.Frames.{listing_few}
 use Rattle.mean_cycle.proofs.Rounds.{round_frame}
-use Rattle.mean_cycle.proofs.FirstCycle.{Walking, walk_inside, walk_fresh, walk_fewer, walk_start, walk_more, walk-copyable, walk_end}
+use Rattle.mean_cycle.proofs.FirstCycle.{Walking, walk_inside, walk_fresh, walk_fewer, walk_start, walk_more, walk_copyable, walk_end}
 use Rattle.mean_cycle.proofs.greedy.first_cycle.Statement.{statement}
 use Rattle.mean_cycle.proofs.greedy.first_cycle.Tie as tie
 
@@ -42,7 +42,7 @@ sub-copy : tie.Need-overflow-sub-copy invariant-loop decreases-loop
 sub-copy c = omega (arith, c.before.if1.true)
 
 copy-requires : tie.Need-copy-requires invariant-loop decreases-loop
-copy-requires c κs = walk-copyable _ _ _ _ _ c.before.before.before.loop.invariant c.before.if1.true
+copy-requires c κs = walk_copyable _ _ _ _ _ c.before.before.before.loop.invariant c.before.if1.true
 
 same_length : tie.Need-same-length invariant-loop decreases-loop
 same_length c =

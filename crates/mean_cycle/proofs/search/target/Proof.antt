@@ -3,7 +3,7 @@ use mathlib.Core.Path.{refl}
 use native.Mathlib.Omega.{arith}
 use Prim.Native.Nat.{◌+◌, ◌*◌}
 use borrow.Author.Rules.{rules}
-use Rattle.mean_cycle.proofs.Targets.{target-arc, table-arc, table_room}
+use Rattle.mean_cycle.proofs.Targets.{target_arc, table_arc, table_room}
 use Rattle.mean_cycle.proofs.search.target.Statement.{statement}
 use Rattle.mean_cycle.proofs.search.target.Tie as tie
 
@@ -30,7 +30,7 @@ cast-result c = let a = c.before.before.before.args in omega (arith, c.shared-sl
 returns : tie.Need-returns
 returns c =
     let pre = c.before.before.before.requires in
-    table-arc _ _ _ _ pre.0 pre.1.0 pre.1.1 _ c.before.if1.true refl
+    table_arc _ _ _ _ pre.0 pre.1.0 pre.1.1 _ c.before.if1.true refl
 
 mul-shift : tie.Need-overflow-mul-shift
 mul-shift c = search rules
@@ -50,7 +50,7 @@ place-requires c κs = search rules
 returns-2 : tie.Need-returns-2
 returns-2 c =
     let pre = c.before.before.before.before.before.before.requires in
-    target-arc _ _ _ _ pre.0 pre.1.0 pre.1.1 _ _ c.before.before.before.before.if1.false c.before.before.shift.ensures c.place.ensures
+    target_arc _ _ _ _ pre.0 pre.1.0 pre.1.1 _ _ c.before.before.before.before.if1.false c.before.before.shift.ensures c.place.ensures
 
 pub target-spec : {M : Type 1} → statement M
 target-spec =

@@ -3,7 +3,7 @@ use Prim.Native.Nat.{◌+◌}
 use native.Mathlib.Omega.{arith}
 use lib.ListN.{length-set}
 use Rattle.mean_cycle.specs.Inner.{Traceable}
-use Rattle.mean_cycle.proofs.Turns.{Tracing, trace_start, trace-more, trace_place, trace_label, trace_end}
+use Rattle.mean_cycle.proofs.Turns.{Tracing, trace_start, trace_more, trace_place, trace_label, trace_end}
 use Rattle.mean_cycle.proofs.search.trace.Statement.{statement}
 use Rattle.mean_cycle.proofs.search.trace.Tie as tie
 
@@ -86,7 +86,7 @@ loop-again : tie.Need-loop-preserved invariant-loop decreases-loop
 loop-again c =
     let i = c.before.before.before.loop.invariant in
     let h = i.0 in
-    (h, trace-more _ _ _ _ _ _ _ _ _ h.room h.few h.short h.labels _ c.before.before.loop-test.true i.1)
+    (h, trace_more _ _ _ _ _ _ _ _ _ h.room h.few h.short h.labels _ c.before.before.loop-test.true i.1)
 
 cast-work-2 : tie.Need-overflow-cast-work-2 invariant-loop decreases-loop
 cast-work-2 c = omega (arith, c.before.before.requires.low)

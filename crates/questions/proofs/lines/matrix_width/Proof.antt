@@ -6,7 +6,7 @@ use native.Mathlib.Omega.{arith}
 use Rattle.words.specs.Below.{max_below}
 use Rattle.unit.specs.Unit.{marked}
 use Rattle.questions.specs.Replies.{matrix_width}
-use Rattle.questions.proofs.WidthLaws.{row_width, widest-kept, widest-new}
+use Rattle.questions.proofs.WidthLaws.{row_width, widest_kept, widest_new}
 use borrow.Author.Rules.{rules}
 use Rattle.questions.proofs.lines.matrix_width.Statement.{statement}
 use Rattle.questions.proofs.lines.matrix_width.Tie as tie
@@ -42,8 +42,8 @@ more c =
     let l = c.before.before.before.loop in
     let w = c.before.row-width.ensures in
     ⊎_elim
-    (λ b. b.1 ∙ w ∙ widest-new (marked a.u) a.r.0 l.tag (omega (arith, l.invariant.1, w, b.0.taken)))
-    (λ b. b.1 ∙ l.invariant.1 ∙ widest-kept (marked a.u) a.r.0 l.tag (omega (arith, l.invariant.1, w, b.0.left)))
+    (λ b. b.1 ∙ w ∙ widest_new (marked a.u) a.r.0 l.tag (omega (arith, l.invariant.1, w, b.0.taken)))
+    (λ b. b.1 ∙ l.invariant.1 ∙ widest_kept (marked a.u) a.r.0 l.tag (omega (arith, l.invariant.1, w, b.0.left)))
     c.if1.branch
 
 loop-again : tie.Need-loop-preserved invariant-loop decreases-loop

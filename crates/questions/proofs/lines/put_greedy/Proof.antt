@@ -4,7 +4,7 @@ use native.Mathlib.Omega.{arith}
 use lib.ListN.{replicate}
 use Rattle.text.proofs.RowLaws.{wrote_as}
 use Rattle.questions.proofs.StatesLaws.{front_part}
-use Rattle.questions.proofs.GreedyLaws.{Handed, greedy-handed, greedy-refused, greedy-shown}
+use Rattle.questions.proofs.GreedyLaws.{Handed, greedy_handed, greedy_refused, greedy_shown}
 use borrow.Author.Rules.{rules}
 use Rattle.questions.proofs.lines.put_greedy.Statement.{statement}
 use Rattle.questions.proofs.lines.put_greedy.Tie as tie
@@ -32,7 +32,7 @@ cast-count c = search rules
 
 stands : (c : tie.After-known-told2)
     → Handed c.before.before.before.before.before.before.before.before.before.args.u c.before.before.before.before.before.before.before.before.before.args.tag.0 c.before.before.before.before.before.greedy.new.1.1.1.0 c.before.asked2.given.0.0
-stands c = let g = c.before.before.before.before.before.greedy.ensures in greedy-handed _ _ (replicate 256 0) refl g.0 g.1 c.before.asked2.given.1
+stands c = let g = c.before.before.before.before.before.greedy.ensures in greedy_handed _ _ (replicate 256 0) refl g.0 g.1 c.before.asked2.given.1
 
 array-share-prefix-cycle : tie.Need-array-share-prefix-cycle
 array-share-prefix-cycle c = (stands c.before.before).cycle.room
@@ -52,13 +52,13 @@ returns : tie.Need-returns
 returns c =
     let p = c.before.before in
     let g = p.before.before.before.before.before.before.before in
-    wrote_as p.put-refusal.ensures (greedy-refused _ _ g.greedy.ensures.0 p.before.before.before.asked.given.1)
+    wrote_as p.put-refusal.ensures (greedy_refused _ _ g.greedy.ensures.0 p.before.before.before.asked.given.1)
 
 same-length-2 : tie.Need-same-length-2
 same-length-2 c = search rules
 
 returns-2 : tie.Need-returns-2
-returns-2 c = let p = c.before.before in wrote_as p.put-cycle.ensures (greedy-shown _ _ (stands p.before.before.before.before))
+returns-2 c = let p = c.before.before in wrote_as p.put-cycle.ensures (greedy_shown _ _ (stands p.before.before.before.before))
 
 pub put-greedy-spec : {M : Type 1} → statement M
 put-greedy-spec =

@@ -2,8 +2,8 @@
 use native.Mathlib.Omega.{arith}
 use Rattle.unit.specs.Unit.{marked}
 use Rattle.text.proofs.RowLaws.{wrote_as}
-use Rattle.questions.proofs.WidthLaws.{matrix-most}
-use Rattle.questions.proofs.ReplyLaws.{row-refused, row-shown}
+use Rattle.questions.proofs.WidthLaws.{matrix_most}
+use Rattle.questions.proofs.ReplyLaws.{row_refused, row_shown}
 use borrow.Author.Rules.{rules}
 use Rattle.questions.proofs.lines.put_row.Statement.{statement}
 use Rattle.questions.proofs.lines.put_row.Tie as tie
@@ -30,7 +30,7 @@ put-columns-requires : tie.Need-put-columns-requires
 put-columns-requires c κs =
     let n = c.before.before in
     let start = n.before.before.before.before.before.before in
-    (omega arith, omega (arith, n.matrix-width.ensures, matrix-most (marked start.args.u) start.args.r.0), start.requires)
+    (omega arith, omega (arith, n.matrix-width.ensures, matrix_most (marked start.args.u) start.args.r.0), start.requires)
 
 same_length : tie.Need-same-length
 same_length c = search rules
@@ -39,7 +39,7 @@ returns : tie.Need-returns
 returns c =
     let p = c.before.before in
     let m = p.before.before.before.before.before in
-    wrote_as p.put-refusal.ensures (row-refused _ _ _ m.matrix-row.ensures p.before.before.before.asked.given.1)
+    wrote_as p.put-refusal.ensures (row_refused _ _ _ m.matrix-row.ensures p.before.before.before.asked.given.1)
 
 same-length-2 : tie.Need-same-length-2
 same-length-2 c = search rules
@@ -49,7 +49,7 @@ returns-2 c =
     let p = c.before.before in
     let n = p.before.before.before in
     let m = n.before.before.before.before in
-    wrote_as p.put-columns.ensures (row-shown _ _ _ m.matrix-row.ensures n.before.before.asked2.given.1 n.matrix-width.ensures)
+    wrote_as p.put-columns.ensures (row_shown _ _ _ m.matrix-row.ensures n.before.before.asked2.given.1 n.matrix-width.ensures)
 
 pub put-row-spec : {M : Type 1} → statement M
 put-row-spec =

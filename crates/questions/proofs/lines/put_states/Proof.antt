@@ -5,7 +5,7 @@ use lib.ListN.{replicate}
 use Rattle.unit.specs.Unit.{marked}
 use Rattle.text.proofs.RowLaws.{wrote_as}
 use Rattle.diagram.specs.Answers.{states_of}
-use Rattle.questions.proofs.StatesLaws.{Front, front_part, states-front, states_refused, states-shown}
+use Rattle.questions.proofs.StatesLaws.{Front, front_part, states_front, states_refused, states_shown}
 use borrow.Author.Rules.{rules}
 use Rattle.questions.proofs.lines.put_states.Statement.{statement}
 use Rattle.questions.proofs.lines.put_states.Tie as tie
@@ -30,7 +30,7 @@ cast-count c = search rules
 
 stands : (c : tie.After-known-told2)
     → Front (states_of 1 (marked c.before.before.before.before.before.before.before.args.u) c.before.before.before.before.before.before.before.args.tag.0) c.before.before.before.before.states.new.1.1.0 c.before.asked2.given.0.0
-stands c = let n = c.before.before.before.before.states.ensures in states-front _ _ (replicate 256 0) refl n.0 n.1 c.before.asked2.given.1
+stands c = let n = c.before.before.before.before.states.ensures in states_front _ _ (replicate 256 0) refl n.0 n.1 c.before.asked2.given.1
 
 array-share-prefix-list : tie.Need-array-share-prefix-list
 array-share-prefix-list c = (stands c.before).room
@@ -59,7 +59,7 @@ returns-2 : tie.Need-returns-2
 returns-2 c =
     let p = c.before.before in
     let t = p.before.before.before in
-    wrote_as p.put-list.ensures (states-shown _ _ t.before.before.before.before.states.ensures.0 t.before.asked2.given.1 (stands t).front)
+    wrote_as p.put-list.ensures (states_shown _ _ t.before.before.before.before.states.ensures.0 t.before.asked2.given.1 (stands t).front)
 
 pub put-states-spec : {M : Type 1} → statement M
 put-states-spec =

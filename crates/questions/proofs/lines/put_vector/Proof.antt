@@ -2,7 +2,7 @@
 use native.Mathlib.Omega.{arith}
 use Rattle.text.proofs.RowLaws.{wrote_as}
 use Rattle.diagram.proofs.WidthLaws.{width_le}
-use Rattle.questions.proofs.ReplyLaws.{vector_refused, vector-shown}
+use Rattle.questions.proofs.ReplyLaws.{vector_refused, vector_shown}
 use borrow.Author.Rules.{rules}
 use Rattle.questions.proofs.lines.put_vector.Statement.{statement}
 use Rattle.questions.proofs.lines.put_vector.Tie as tie
@@ -47,7 +47,7 @@ returns-2 c =
     let p = c.before.before in
     let n = p.before.before.before in
     let v = n.before.before.before.before in
-    wrote_as p.put-columns.ensures (vector-shown _ _ v.vector.ensures n.before.before.asked2.given.1 n.width_of_lem.ensures)
+    wrote_as p.put-columns.ensures (vector_shown _ _ v.vector.ensures n.before.before.asked2.given.1 n.width_of_lem.ensures)
 
 pub put-vector-spec : {M : Type 1} → statement M
 put-vector-spec =

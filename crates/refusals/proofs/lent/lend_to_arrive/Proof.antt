@@ -19,7 +19,7 @@ use types.Logic.{Logic, sem}
 use contract.Monad.{Fun}
 use contract.Running.{tables, tables_of}
 use types.Kit.{‵, raw, ◌⊛◌, some, later, ◌$◌, ◌∵◌, !, qed, by, move, keep, drop, use1, use2, use3, split, join, pick, fsplit, fjoin, fpick, fpack, feq_i, suffices, frame, await, done}
-use types.Run.{look, init, forget, stop, from, load, addr, unit_lit, and_then, no_more, of_opd, assigns, land, returns, enter, alloc1, alloc0, params1, pass1, pass0, free1, free0}
+use types.Run.{look, init, forget, stop, from, load, addr, unit_lit, and_then, no_more_lem, of_opd, assigns, land, returns, enter, alloc1, alloc0, params1, pass1, pass0, free1, free0}
 use types.Part.{agg}
 use types.Tokens.{lft_new, lft_end}
 use sound.WpLaws.{FmC, fm_of, WpFn-mono}
@@ -52,7 +52,7 @@ use Rattle.queue.proofs.Waiting.TheLaws as T'
 use Rattle.queue.specs.contracts.Arrival as R
 use Rattle.queue.proofs.Arrival.TheLaws as R'
 use Rattle.refusals.proofs.Records.{Records, tval, aval, fits}
-use Rattle.refusals.proofs.Front.{Others, Loan, lends-front, front-back, last_of}
+use Rattle.refusals.proofs.Front.{Others, Loan, lends_front, front_back, last_of}
 use Rattle.queue.specs.contracts.arrive as callee
 use Rattle.queue.proofs.arrive.Symbol as callee-def
 use Rattle.queue.proofs.arrive.Symbol.{name as #callee}
@@ -144,16 +144,16 @@ module _ {M : Type 1} {𝓤 : Ura M} (𝓛 : Logic 𝓤) (at_mem : Memory → SP
         pass1 ! (init ! 20 refl ((LL.lawful U.the_type U'.the_laws 𝓛).typed u _ is-u).0) $ pass1 ! (init ! 18 refl ((Array-Lawful 𝓛 T.the_row (LL.lawful T.the_type T'.the_laws 𝓛) 32).typed xs _ is-xs).0) $ pass1 ! (init ! 16 refl ((uint_Lawful 𝓛 w64).typed k _ is-k).0) $ pass1 ! (init ! 14 refl ((uint_Lawful 𝓛 w64).typed i _ is-i).0) $ pass1 ! (init ! 12 refl ((LL.lawful T.the_type T'.the_laws 𝓛).typed o _ is-o).0) $ pass0 ! $
         assigns ! (of_opd ! (load ! (from ! (stop !)) (look ! 18 refl))) (from ! (stop !)) (init ! 10 refl ((Array-Lawful 𝓛 T.the_row (LL.lawful T.the_type T'.the_laws 𝓛) 32).typed xs _ is-xs).0) $
         assigns ! (addr ! (from ! (stop !))) (from ! (stop !)) (init ! 6 refl (tt, tt)) $
-        assigns ! (agg ! (and_then ! (load ! (from ! (stop !)) (look ! 6 refl)) (and_then ! (load ! (from ! (stop !)) (look ! 16 refl)) (no_more !)))) (from ! (stop !)) (init ! 4 refl (tt, (tt, (record { fits = is-k.1 }, tt)))) $
+        assigns ! (agg ! (and_then ! (load ! (from ! (stop !)) (look ! 6 refl)) (and_then ! (load ! (from ! (stop !)) (look ! 16 refl)) (no_more_lem !)))) (from ! (stop !)) (init ! 4 refl (tt, (tt, (record { fits = is-k.1 }, tt)))) $
         -- the first records of the local are lent, for a lifetime ν of the call
         move ! (10 ∷ []) $ use1 𝓛 (‵ (cell_at full_share Records.mir (aval xs ∷ []) l₆ 0)) (𝓛.laws.at_raw full_share (ty_array T'.mir 32) l₆ 0 (aval xs)) $
         owned ! Records (Is Records) (Array-Makes 𝓛 T.the_row (LL.makes T.the_type T'.the_plain 𝓛) 32) xs _ is-xs $ move ! (1 ∷ 0 ∷ []) $ fjoin ! $
         fpack ! (List Val) (λ us. fsep (cell_at full_share Records.mir us l₆ 0) (Records.own xs us)) (aval xs ∷ []) $
         lft_new ! tt (λ ν. move ! (1 ∷ []) $
-        use1 𝓛 (later (some (λ (γ : GName). ‵ ((MutSlice (named 0) (ν ∷ []) T.the_row).own_val (x l₆ γ) (slice_val (l₆, 0) k ∷ [])) ⊛ (‵ (Loan 𝓛 T.the_row 32 k (ν ∷ []) l₆ xs γ) ⊛ ‵ (Others 𝓛 T.the_row 32 k (ν ∷ []) l₆ xs))))) (lends-front 𝓛 T.the_row 32 k (ν ∷ []) l₆ xs (named 0) k tt lent room) $ await ! tt $ pick ! (λ γ. split ! $
+        use1 𝓛 (later (some (λ (γ : GName). ‵ ((MutSlice (named 0) (ν ∷ []) T.the_row).own_val (x l₆ γ) (slice_val (l₆, 0) k ∷ [])) ⊛ (‵ (Loan 𝓛 T.the_row 32 k (ν ∷ []) l₆ xs γ) ⊛ ‵ (Others 𝓛 T.the_row 32 k (ν ∷ []) l₆ xs))))) (lends_front 𝓛 T.the_row 32 k (ν ∷ []) l₆ xs (named 0) k tt lent room) $ await ! tt $ pick ! (λ γ. split ! $
         move ! (1 ∷ []) $ split ! $ move ! (3 ∷ 2 ∷ []) $ use2 𝓛 (raw ((Callee 𝓛 at_mem run).pre (to ν l₆ γ))) (asked ν l₆ γ) $
         -- [what `arrive` asks; the lender's part; the others; the locals, the last first, each with what frees it; …]
-        calls_at ! fm (Callee 𝓛 at_mem run) known (to ν l₆ γ) (and_then ! (load ! (from ! (stop !)) (look ! 22 refl)) (and_then ! (load ! (from ! (stop !)) (look ! 7 refl)) (and_then ! (load ! (from ! (stop !)) (look ! 16 refl)) (and_then ! (load ! (from ! (stop !)) (look ! 14 refl)) (no_more !))))) (λ w.
+        calls_at ! fm (Callee 𝓛 at_mem run) known (to ν l₆ γ) (and_then ! (load ! (from ! (stop !)) (look ! 22 refl)) (and_then ! (load ! (from ! (stop !)) (look ! 7 refl)) (and_then ! (load ! (from ! (stop !)) (look ! 16 refl)) (and_then ! (load ! (from ! (stop !)) (look ! 14 refl)) (no_more_lem !))))) (λ w.
         use1 𝓛 (later (some (λ (r : Arrival). ((‵ (flft (ν ∷ []) full_share) ⊛ ‵ ftrue) ⊛ ‵ ((R.the_row).own_val r (w ∷ []))) ⊛ raw (ensured 𝓛 callee.ended (callee.clauses 𝓛 at_mem run) (ν ∷ [], tt) (passed l₆ γ) tt r)))) (id⊢ 𝓤 _) $ await ! tt $ pick ! (λ r.
         split ! $ move ! (1 ∷ []) $ use1 𝓛 (some (λ (zs : Unit {0} × (List Waiting × (Unit {0} × (Unit {0} × Unit {0})))). ‵ (lasts callee.ended (ν ∷ [], tt) (passed l₆ γ) zs))) (last_of 𝓛 callee.ended (callee.clauses 𝓛 at_mem run) (ν ∷ [], tt) (passed l₆ γ) tt r) $ pick ! (λ zs.
         fsplit ! $ drop ! $ fsplit ! $ fsplit ! $ move ! (1 ∷ []) $ drop ! $ move ! (1 ∷ []) $ drop ! $
@@ -162,14 +162,14 @@ module _ {M : Type 1} {𝓤 : Ura M} (𝓛 : Logic 𝓤) (at_mem : Memory → SP
         land ! (from ! (stop !)) (init ! 13 refl ((LL.lawful R.the_type R'.the_laws 𝓛).typed r _ is).0) $ drop ! $
         -- the lifetime is ended, and the local is had back
         split ! $ move ! (1 ∷ []) $ drop ! $ lft_end ! tt $ move ! (1 ∷ 3 ∷ []) $ fjoin ! $ move ! (1 ∷ 2 ∷ 0 ∷ []) $
-        use3 𝓛 (later (‵ (part_at Records full_share (zs.1.0 ++ others k xs) l₆ 0))) (front-back 𝓛 T.the_row 32 k (ν ∷ []) l₆ xs γ zs.1.0 whole) $ await ! tt $
+        use3 𝓛 (later (‵ (part_at Records full_share (zs.1.0 ++ others k xs) l₆ 0))) (front_back 𝓛 T.the_row 32 k (ν ∷ []) l₆ xs γ zs.1.0 whole) $ await ! tt $
         fpick ! (λ vs. fsplit ! $ spelt ! Records (Is Records) (shows 𝓛 Records) (array_vals (LL.vals T.the_type T'.the_laws)) (Array-Tells T.the_row (LL.vals T.the_type T'.the_laws) (LL.tells T.the_type T'.the_laws) 32) full_share (zs.1.0 ++ others k xs) vs l₆ 0 $
         use1 𝓛 (‵ (fat full_share (ty_array T'.mir 32) l₆ 0 (aval (zs.1.0 ++ others k xs)))) (𝓛.laws.raw_at full_share (ty_array T'.mir 32) l₆ 0 (aval (zs.1.0 ++ others k xs))) $
         move ! (1 ∷ []) $ peeks ! Records (Is Records) (shows 𝓛 Records) (zs.1.0 ++ others k xs) (aval (zs.1.0 ++ others k xs) ∷ []) (λ g. drop ! $
         -- [the local that was lent; the other locals, the last first, each with what frees it; …]
         assigns ! (of_opd ! (load ! (from ! (stop !)) (look ! 0 refl))) (from ! (stop !)) (init ! 1 refl ((Array-Lawful 𝓛 T.the_row (LL.lawful T.the_type T'.the_laws 𝓛) 32).typed (zs.1.0 ++ others k xs) _ g).0) $
         nothing ! $ use1 𝓛 (raw ((Last 𝓛 at_mem run).pre (to_last r w (zs.1.0 ++ others k xs)))) (goes_last r w (zs.1.0 ++ others k xs) is g) $
-        calls_at ! fm (Last 𝓛 at_mem run) known-last (to_last r w (zs.1.0 ++ others k xs)) (and_then ! (load ! (from ! (stop !)) (look ! 10 refl)) (and_then ! (load ! (from ! (stop !)) (look ! 2 refl)) (no_more !))) (λ v.
+        calls_at ! fm (Last 𝓛 at_mem run) known-last (to_last r w (zs.1.0 ++ others k xs)) (and_then ! (load ! (from ! (stop !)) (look ! 10 refl)) (and_then ! (load ! (from ! (stop !)) (look ! 2 refl)) (no_more_lem !))) (λ v.
         use1 𝓛 (later (some (λ (n : Unit {0}). (‵ ftrue ⊛ ‵ (Nothing.own n (v ∷ []))) ⊛ raw (ensured 𝓛 last.ended (last.clauses 𝓛 at_mem run) tt (r, ((zs.1.0 ++ others k xs), tt)) tt n)))) (id⊢ 𝓤 _) $ await ! tt $ pick ! (λ n.
         split ! $ move ! (1 ∷ []) $ drop ! $ split ! $ drop ! $ peeks ! Nothing (Is Nothing) (shows 𝓛 Nothing) n (v ∷ []) (λ is-n.
         land ! (from ! (stop !)) (init ! 4 refl ((Nothing-Lawful 𝓛).typed n _ is-n).0) $ drop ! $

@@ -17,7 +17,7 @@ use types.Logic.{Logic, sem}
 use contract.Monad.{Fun}
 use contract.Running.{tables, tables_of}
 use types.Kit.{‵, raw, ◌⊛◌, some, later, ◌$◌, ◌∵◌, !, qed, by, move, keep, drop, use1, use2, use3, split, join, pick, fsplit, fjoin, fpick, fpack, feq_i, suffices, frame, await, done}
-use types.Run.{look, init, forget, stop, from, load, addr, unit_lit, and_then, no_more, of_opd, assigns, land, returns, enter, alloc1, alloc0, params1, pass1, pass0, free1, free0}
+use types.Run.{look, init, forget, stop, from, load, addr, unit_lit, and_then, no_more_lem, of_opd, assigns, land, returns, enter, alloc1, alloc0, params1, pass1, pass0, free1, free0}
 use types.SemTy.{Body}
 use types.Tokens.{lft_new, lft_end}
 use sound.WpLaws.{FmC, fm_of, WpFn-mono}
@@ -141,7 +141,7 @@ module _ {M : Type 1} {𝓤 : Ura M} (𝓛 : Logic 𝓤) (at_mem : Memory → SP
         use1 𝓛 (later (some (λ (γ : GName). ‵ ((MutRef (named 0) (ν ∷ []) B.the_row).own_val (x l₃ γ) (vptr l₃ 0 ∷ [])) ⊛ ‵ (flent (ν ∷ []) (Body (mem B.the_row) l₃ 0 γ))))) (lends_ref 𝓛 B.the_row (named 0) (ν ∷ []) h l₃ 0) $ await ! tt $ pick ! (λ γ. split ! $
         move ! (2 ∷ 0 ∷ []) $ use2 𝓛 (raw ((Callee 𝓛 at_mem run).pre (to ν l₃ γ))) (asked ν l₃ γ) $
         -- [what `tick` asks; the lender's part; the locals, the last first, each with what frees it; …]
-        calls_at ! fm (Callee 𝓛 at_mem run) known (to ν l₃ γ) (and_then ! (load ! (from ! (stop !)) (look ! 13 refl)) (and_then ! (load ! (from ! (stop !)) (look ! 6 refl)) (no_more !))) (λ w.
+        calls_at ! fm (Callee 𝓛 at_mem run) known (to ν l₃ γ) (and_then ! (load ! (from ! (stop !)) (look ! 13 refl)) (and_then ! (load ! (from ! (stop !)) (look ! 6 refl)) (no_more_lem !))) (λ w.
         use1 𝓛 (later (some (λ (r : Answer). ((‵ (flft (ν ∷ []) full_share) ⊛ ‵ ftrue) ⊛ ‵ ((N.the_row).own_val r (w ∷ []))) ⊛ raw (ensured 𝓛 callee.ended (callee.clauses 𝓛 at_mem run) (ν ∷ [], tt) (passed l₃ γ) tt r)))) (id⊢ 𝓤 _) $ await ! tt $ pick ! (λ r.
         split ! $ move ! (1 ∷ []) $ use1 𝓛 (some (λ (zs : Unit {0} × (Bank × Unit {0})). ‵ (lasts callee.ended (ν ∷ [], tt) (passed l₃ γ) zs))) (last_of 𝓛 callee.ended (callee.clauses 𝓛 at_mem run) (ν ∷ [], tt) (passed l₃ γ) tt r) $ pick ! (λ zs.
         fsplit ! $ drop ! $ fsplit ! $ move ! (2 ∷ []) $ split ! $ move ! (1 ∷ []) $
@@ -156,7 +156,7 @@ module _ {M : Type 1} {𝓤 : Ura M} (𝓛 : Logic 𝓤) (at_mem : Memory → SP
         -- [what the bank owns; the local that was lent; true; what the answer owns; true; the other locals, the last first, each with what frees it; …]
         assigns ! (of_opd ! (load ! (from ! (stop !)) (look ! 1 refl))) (from ! (stop !)) (init ! 5 refl ((LL.lawful B.the_type B'.the_laws 𝓛).typed zs.1.0 _ g).0) $
         nothing ! $ use1 𝓛 (raw ((Last 𝓛 at_mem run).pre (to_last r w zs.1.0))) (goes_last r w zs.1.0 is g) $
-        calls_at ! fm (Last 𝓛 at_mem run) known-last (to_last r w zs.1.0) (and_then ! (load ! (from ! (stop !)) (look ! 15 refl)) (and_then ! (load ! (from ! (stop !)) (look ! 12 refl)) (and_then ! (load ! (from ! (stop !)) (look ! 6 refl)) (no_more !)))) (λ v.
+        calls_at ! fm (Last 𝓛 at_mem run) known-last (to_last r w zs.1.0) (and_then ! (load ! (from ! (stop !)) (look ! 15 refl)) (and_then ! (load ! (from ! (stop !)) (look ! 12 refl)) (and_then ! (load ! (from ! (stop !)) (look ! 6 refl)) (no_more_lem !)))) (λ v.
         use1 𝓛 (later (some (λ (n : Unit {0}). (‵ ftrue ⊛ ‵ (Nothing.own n (v ∷ []))) ⊛ raw (ensured 𝓛 last.ended (last.clauses 𝓛 at_mem run) tt (h, (r, (zs.1.0, tt))) tt n)))) (id⊢ 𝓤 _) $ await ! tt $ pick ! (λ n.
         split ! $ move ! (1 ∷ []) $ drop ! $ split ! $ drop ! $ peeks ! Nothing (Is Nothing) (shows 𝓛 Nothing) n (v ∷ []) (λ is-n.
         land ! (from ! (stop !)) (init ! 8 refl ((Nothing-Lawful 𝓛).typed n _ is-n).0) $ drop ! $

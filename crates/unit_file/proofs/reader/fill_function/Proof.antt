@@ -8,7 +8,7 @@ use Rattle.unit.specs.declared.Outcome.{Outcome}
 use Rattle.unit.specs.Calls.{column_of}
 use Rattle.unit_file.specs.Read.{columns_in}
 use Rattle.unit_file.specs.InnerRead.{unit_before}
-use Rattle.unit_file.proofs.FillLaws.{unit-more, unit-next}
+use Rattle.unit_file.proofs.FillLaws.{unit_more, unit_next}
 use Rattle.unit_file.proofs.reader.fill_function.Statement.{statement}
 use Rattle.unit_file.proofs.reader.fill_function.Tie as tie
 
@@ -47,7 +47,7 @@ loop-again c =
       search rules,
       ap (λ (o : Outcome). o.unit) c.before.with-column.ensures
           ∙ ap₂ (λ (u : FunctionUnit) (w : ℕ). (column_of u k m w).unit) h.loop.invariant.2 c.before.before.column-word.ensures
-          ∙ unit-more f b.requires.0 k m b.requires.1 (omega arith),
+          ∙ unit_more f b.requires.0 k m b.requires.1 (omega arith),
     )
 
 returns : tie.Need-returns invariant-loop decreases-loop
@@ -56,7 +56,7 @@ returns c =
     let b = h.before.before.before in
     let f = b.args.file.now in
     let e : h.loop.column ≡ columns_in f + 1 = omega (arith, c.loop-test.false) in
-    h.loop.invariant.2 ∙ ap (unit_before f b.args.tag) e ∙ unit-next f b.requires.0 b.args.tag
+    h.loop.invariant.2 ∙ ap (unit_before f b.args.tag) e ∙ unit_next f b.requires.0 b.args.tag
 
 pub fill-function-spec : {M : Type 1} → statement M
 fill-function-spec =

@@ -6,7 +6,7 @@ use native.Mathlib.Omega.{arith}
 use borrow.Author.Count.{below_more}
 use Rattle.words.proofs.BitLaws.{shifted_one}
 use Rattle.unit_file.specs.Read.{word32, columns_in}
-use Rattle.unit_file.proofs.ReadLaws.{beyond-found, beyond-none}
+use Rattle.unit_file.proofs.ReadLaws.{beyond_found, beyond_none}
 use Rattle.unit_file.proofs.reader.has_marks_beyond.Statement.{statement}
 use Rattle.unit_file.proofs.reader.has_marks_beyond.Tie as tie
 
@@ -71,7 +71,7 @@ returns c =
     let b = h.before.before.before.before.before in
     let e = c.before.word_at.ensures in
     let t = top-is h.before in
-    sym (beyond-found b.args.file.now b.requires.counts h.loop.i c.before.before.loop-test.true (omega (arith, c.before.word_at.type-inv)) (omega (arith, c.if1.true)))
+    sym (beyond_found b.args.file.now b.requires.counts h.loop.i c.before.before.loop-test.true (omega (arith, c.before.word_at.type-inv)) (omega (arith, c.if1.true)))
 
 add-i : tie.Need-overflow-add-i invariant-loop decreases-loop
 add-i c = search rules
@@ -88,7 +88,7 @@ returns-2 : tie.Need-returns-2 invariant-loop decreases-loop
 returns-2 c =
     let b = c.before.before.before.before.before.before in
     let t = top-is c.before.before in
-    sym (beyond-none b.args.file.now b.requires.counts (λ i l. omega (arith, c.before.loop.invariant.1 i (omega (arith, c.loop-test.false)))))
+    sym (beyond_none b.args.file.now b.requires.counts (λ i l. omega (arith, c.before.loop.invariant.1 i (omega (arith, c.loop-test.false)))))
 
 pub has-marks-beyond-spec : {M : Type 1} → statement M
 has-marks-beyond-spec =
