@@ -74,7 +74,7 @@ def table(names):
     """Each old name with its new one."""
     turned, taken = {}, {it: "" for it in foreign()}
     for name in sorted(names, key=lambda it: ("/specs/" not in names[it], snake(it) != it)):
-        if name[0].isupper() or not name[0].isalpha() or re.fullmatch(r"[a-z0-9]+", name):
+        if name[0].isupper() or not name[0].isalpha() or re.fullmatch(r"[a-z0-9]+", name) or name in taken:
             continue
         new = snake(name)
         if "/specs/" in names[name] and not taken.get(new, "-"):

@@ -1,5 +1,7 @@
 // The unit configurator for C: the proved calls over plain numbers and lent bytes and words. A unit is lent as its unit file. Every call
 // answers 0 or the number of its refusal, and none has a `requires`. The header is include/limedarts.h.
+#![tactic(auto)]
+
 mod diagrams;
 mod issue;
 mod jobs;

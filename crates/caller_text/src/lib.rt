@@ -1,5 +1,7 @@
 // The console's commands at a port that callers share: how many callers there are, a task arrives at one of them, and a time unit passes.
 // Every public function here is proved, total and without a `requires`.
+#![tactic(auto)]
+
 ghost use Rattle.std.specs.Prelude.{◌≡◌, ◌≤◌, length};
 ghost use Rattle.text.specs.Wrote.{Wrote};
 ghost use Rattle.unit.specs.Calls.{tested_by};

@@ -6,7 +6,7 @@ use mathlib.Core.List.{List, [], ◌∷◌}
 use native.Mathlib.Omega.{arith}
 use lib.ListN.{length, get_or, take, drop, length-drop}
 use lib.Seq.{get_or-drop}
-use borrow.Author.Tests.{leb-true, eqb-true, eqb-false, not_true, not_false}
+use borrow.Author.Tests.{leb-true, eqb-true, eqb-false, not-true, not-false}
 use Rattle.words.proofs.Tests.{by_test}
 use Rattle.unit.specs.declared.FunctionUnit.{FunctionUnit}
 use Rattle.unit.specs.declared.Refusal.{Refusal}
@@ -87,7 +87,7 @@ module _ (C turn : ℕ) (counts : List ℕ) (t : Among C turn) where
 pub nothing_starts : (b : Bank) (list : List Waiting) (counts : List ℕ) (i : ℕ) → has_work counts i ≡ false → Passed.Idle ≡ oldest b (waiting_of list counts i)
 unfolding oldest
 nothing_starts b list counts i e =
-    sym (ap (λ (k : ℕ). oldest b (take k (queue_of list i))) (eqb-true (count_of counts i) 0 (not_false _ e)))
+    sym (ap (λ (k : ℕ). oldest b (take k (queue_of list i))) (eqb-true (count_of counts i) 0 (not-false _ e)))
 
 -- and one with work may start where the tests passed
 pub may_start : (u : FunctionUnit) (C turn : ℕ) (list : List Waiting) (counts : List ℕ) (i : ℕ) → Servable u C turn list counts → Among C i → has_work counts i ≡ true
@@ -97,7 +97,7 @@ may_start u C turn list counts i s o e =
     record {
       sound = s.sound;
       caller = o;
-      some = positive (eqb-false (count_of counts i) 0 (not_true _ e));
+      some = positive (eqb-false (count_of counts i) 0 (not-true _ e));
       few = leb-true _ _ (each_at C (few_at counts) i s.few h);
       fit = each_at C (fits_at u.functions list counts) i s.fit h;
     }

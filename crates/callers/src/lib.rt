@@ -1,6 +1,8 @@
 // An issue port that up to 4 callers share: each has a queue of its own, and they start in turn. Here the queues are values; crate port has the same calls on a
 // lent list.
 // Every public function here is proved, total and without a `requires`.
+#![tactic(auto)]
+
 ghost use Rattle.std.specs.Prelude.{◌≡◌, true, cond, ◌++◌, ◌+◌, ◌*◌, ◌≤◌, ◌<◌, leb, length, get_or, take, drop, set, replicate};
 ghost use Rattle.unit.specs.Unit.{inside};
 ghost use Rattle.unit.specs.declared.Answer.TheVariants.{Done};
@@ -18,7 +20,7 @@ use queue::{Arrival, Waiting};
 use unit::{Answer, FunctionUnit, Refusal, Tag};
 
 // What a time unit did: it started a record of a caller, or none.
-#[derive(Drop)]
+#[derive(Clone, Copy)]
 pub enum Served {
     Started(u8, Waiting),
     Idle,
@@ -26,13 +28,13 @@ pub enum Served {
 }
 
 // How many wait in each caller's queue.
-#[derive(Drop)]
+#[derive(Clone, Copy)]
 pub struct Counts {
     pub each: [usize; 4],
 }
 
 // The answer of a time unit, and the bank, the turn and the counts that it leaves.
-#[derive(Drop)]
+#[derive(Clone, Copy)]
 pub struct Turned {
     pub answer: Served,
     pub bank: Bank,
@@ -41,7 +43,7 @@ pub struct Turned {
 }
 
 // A shared port as a value, for whoever has no list to lend: how many callers there are, whose turn it is, and their queues.
-#[derive(Drop)]
+#[derive(Clone, Copy)]
 pub struct Shared {
     pub callers: u8,
     pub turn: u8,
@@ -50,14 +52,14 @@ pub struct Shared {
 }
 
 // The answer to an arrival, and the port that it leaves.
-#[derive(Drop)]
+#[derive(Clone, Copy)]
 pub struct Called {
     pub answer: Answer,
     pub shared: Shared,
 }
 
 // The answer of a time unit, and the bank and the port that it leaves.
-#[derive(Drop)]
+#[derive(Clone, Copy)]
 pub struct Taken {
     pub answer: Served,
     pub bank: Bank,
@@ -65,20 +67,20 @@ pub struct Taken {
 }
 
 // The queues' records by value.
-#[derive(Drop)]
+#[derive(Clone, Copy)]
 pub struct Records {
     pub list: [Waiting; 32],
 }
 
 // An arrival, and the records that it leaves.
-#[derive(Drop)]
+#[derive(Clone, Copy)]
 pub struct ArrivalOn {
     pub arrival: Arrival,
     pub records: Records,
 }
 
 // A time unit, and the records that it leaves.
-#[derive(Drop)]
+#[derive(Clone, Copy)]
 pub struct UnitOn {
     pub turned: Turned,
     pub records: Records,

@@ -1,5 +1,7 @@
 // The chart of a plan that is played on a unit: the time units, the starts, and for each segment the task that occupies it in each unit and how much of
 // the time it is busy; as text in a lent area. Every public function here is proved, total and without a `requires`.
+#![tactic(auto)]
+
 mod rows;
 
 ghost use Rattle.std.specs.Prelude.{◌≡◌, length, replicate};
@@ -13,7 +15,7 @@ use unit::{Answer, FunctionUnit, Plan, Refusal, Tag};
 pub const CHART: usize = 147858;
 
 // The length of the text, or why nothing was written.
-#[derive(Drop)]
+#[derive(Clone, Copy)]
 pub enum Charted {
     Length(usize),
     Refused(Refusal),

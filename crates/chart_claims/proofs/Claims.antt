@@ -9,7 +9,7 @@ use native.Mathlib.Decide.{dec_lt}
 use native.Mathlib.Nat.{le_dest, eq-or-lt_of_le, mul-le-mul}
 use native.Mathlib.Numerals.{add-one}
 use native.Mathlib.Omega.{arith}
-use borrow.Author.Tests.{lt-ltb, le-leb, leb-true, leb-false, ne_eqb, eqb-false, ltb-true, ltb-false, not_true}
+use borrow.Author.Tests.{lt-ltb, le-leb, leb-true, leb-false, ne_eqb, eqb-false, ltb-true, ltb-false, not-true}
 use lib.Dec.{leb, ltb, eqb}
 use lib.ListN.{length}
 use Rattle.words.proofs.Tests.{nowhere, and_left, and_right, and_true, not_passed}
@@ -225,7 +225,7 @@ module _ (u : FunctionUnit) (p : Plan) (plays : Plays u p) where
     hit_has : (c : ℕ) → hit c ≡ true → Hit c
     hit_has c e =
         let first = and_left (leb c n && marked u p.tag s (c + 1)) _ e in
-        let f = told (n - c) (eqb-false (start_cell u p (n - c)) none (not_true (eqb (start_cell u p (n - c)) none) (and_right (leb c n && marked u p.tag s (c + 1)) _ e))) in
+        let f = told (n - c) (eqb-false (start_cell u p (n - c)) none (not-true (eqb (start_cell u p (n - c)) none) (and_right (leb c n && marked u p.tag s (c + 1)) _ e))) in
         record {
           task = f.index;
           serves = record { column = c + 1; marked = and_right (leb c n) _ first; moment = omega (arith, f.start, leb-true c n (and_left (leb c n) _ first)) };

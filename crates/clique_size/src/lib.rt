@@ -1,5 +1,7 @@
 // The size of the largest set of whole numbers in which every two differ by a forbidden latency (a clique), from the word of a collision vector, by
 // branch and bound. Every function here is proved, total and without a `requires`; the crate assumes nothing of its own.
+#![tactic(auto)]
+
 ghost use Rattle.std.specs.Prelude.{◌≡◌, ◌-◌, ◌/◌, ◌^◌, suc, max};
 ghost use Rattle.std.specs.Int.Count.{count_trailing_zeros};
 ghost use Rattle.clique_size.specs.Largest.{most_of, largest_clique};

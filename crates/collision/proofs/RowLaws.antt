@@ -8,7 +8,7 @@ use native.Mathlib.Decide.{dec_lt}
 use lib.Bits.{bit_and, and_le_l}
 use lib.Dec.{eqb}
 use lib.ListN.{length, get_or, take, drop, replicate, length-take, length-replicate, get_or-replicate, get_or-eq_default}
-use borrow.Author.Tests.{eqb-false, ne_eqb, not_true}
+use borrow.Author.Tests.{eqb-false, ne_eqb, not-true}
 use Rattle.words.specs.Bits.{is_set, set_bit}
 use Rattle.words.specs.Below.{some_below, word_below}
 use Rattle.words.proofs.Tests.{nowhere, and_left, and_right, and_true, same_test, not_passed, by_test}
@@ -30,7 +30,7 @@ meet_and a b h = same_test (not (eqb (bit_and a b) 0)) (some_below 16 (λ s. is_
   where
     there : not (eqb (bit_and a b) 0) ≡ true → some_below 16 (λ s. is_set a s && is_set b s) ≡ true
     there e =
-        let r = some_bit 16 (bit_and a b) (omega (arith, and_le_l a b)) (eqb-false (bit_and a b) 0 (not_true (eqb (bit_and a b) 0) e)) in
+        let r = some_bit 16 (bit_and a b) (omega (arith, and_le_l a b)) (eqb-false (bit_and a b) 0 (not-true (eqb (bit_and a b) 0) e)) in
         some_intro 16 (λ s. is_set a s && is_set b s) r.at r.most (sym (set_and a b r.at) ∙ r.set)
 
     back : some_below 16 (λ s. is_set a s && is_set b s) ≡ true → not (eqb (bit_and a b) 0) ≡ true

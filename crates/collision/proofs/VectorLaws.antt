@@ -7,7 +7,7 @@ use native.Mathlib.Nat.{mul-mod_left, div-add-mod', one-le-mul}
 use native.Mathlib.Decide.{dec_lt}
 use native.Mathlib.Omega.{arith}
 use lib.Dec.{eqb}
-use borrow.Author.Tests.{eqb-true, eq-eqb, not_true, not_false}
+use borrow.Author.Tests.{eqb-true, eq-eqb, not-true, not-false}
 use Rattle.words.specs.Bits.{is_set}
 use Rattle.words.specs.Below.{some_below, count_below, span_below, max_below, least_from, word_below}
 use Rattle.words.proofs.Tests.{nowhere, and_left, and_right, and_true, not_passed}
@@ -137,14 +137,14 @@ module _ (T : Table) (b : Bounded T) where
   suits_allowed q m h e k l x =
       let p : 1 ≤ k * m = one-le-mul l h in
       let s : k * m - 1 + 1 ≡ k * m = omega arith in
-      nowhere (sym (not_true (some_below 32 (λ k. eqb ((k + 1) % m) 0 && collides T q q (k + 1))) e)
+      nowhere (sym (not-true (some_below 32 (λ k. eqb ((k + 1) % m) 0 && collides T q q (k + 1))) e)
       ∙ some_intro 32 (λ k. eqb ((k + 1) % m) 0 && collides T q q (k + 1)) (k * m - 1) (omega (arith, collides_near q q (k * m) x))
       (and_true (eq-eqb ((k * m - 1 + 1) % m) 0 (ap (λ n. n % m) s ∙ mul-mod_left k m)) (ap (collides T q q) s ∙ collides← q q (k * m) x)))
 
   suits_not : (q m : ℕ) → 1 ≤ m → suits T q m ≡ false → (k : ℕ) × (1 ≤ k) × Forbidden T q (k * m)
   unfolding suits
   suits_not q m h e =
-      let p = some_elim 32 (λ k. eqb ((k + 1) % m) 0 && collides T q q (k + 1)) (not_false (some_below 32 (λ k. eqb ((k + 1) % m) 0 && collides T q q (k + 1))) e) in
+      let p = some_elim 32 (λ k. eqb ((k + 1) % m) 0 && collides T q q (k + 1)) (not-false (some_below 32 (λ k. eqb ((k + 1) % m) 0 && collides T q q (k + 1))) e) in
       let t : ℕ = p.at + 1 in
       let z : t % m ≡ 0 = eqb-true (t % m) 0 (and_left (eqb (t % m) 0) _ p.passed) in
       let s : t ≡ t / m * m = omega (arith, div-add-mod' t m) in

@@ -1,5 +1,7 @@
 // What collides: the collision vector of a function, and the rows of the collision matrices. Every function here is proved, and every
 // public one is total and without a `requires`; the crate assumes nothing of its own.
+#![tactic(auto)]
+
 ghost use Rattle.std.specs.Prelude.{◌≡◌, ◌<◌, length};
 ghost use Rattle.unit.specs.Unit.{marked};
 ghost use Rattle.collision.specs.Vector.{row_of_columns, row_word};
@@ -9,7 +11,7 @@ ghost use Rattle.collision.specs.Inner.{SameWords, Joins, Common};
 use unit::{Answer, FunctionUnit, Refusal, Tag};
 
 // A number that was asked for, or why there is none.
-#[derive(Drop)]
+#[derive(Clone, Copy)]
 pub enum Number {
     Value(u32),
     Refused(Refusal),

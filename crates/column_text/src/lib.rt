@@ -1,4 +1,6 @@
 // The columns of a word as text in lent bytes. Every function here is proved; the public one is total and without a `requires`.
+#![tactic(auto)]
+
 ghost use Rattle.std.specs.Prelude.{◌≡◌, ◌+◌, ◌≤◌, length};
 ghost use Rattle.words.specs.Bits.{bit};
 ghost use Rattle.text.specs.Text.{digit, column_text, vector_text, put_in, put_end};

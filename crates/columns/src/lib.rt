@@ -1,6 +1,8 @@
 // A function's marks, column by column: handed out, and given anew. With crate `unit`, whose test of a unit reads them, these calls know how marks are
 // laid out; the crates above go by `marked` (unit, specs/Unit.antt) and by the columns that they hand out.
 // Every public function here is proved, total and without a `requires`.
+#![tactic(auto)]
+
 ghost use Rattle.std.specs.Prelude.{◌≡◌};
 ghost use Rattle.unit.specs.Inner.{Somewhere};
 ghost use Rattle.unit.specs.Unit.{place, columns_of};

@@ -1,5 +1,7 @@
 // What a line of the designer's console says: a command of the table (crate command_table) with its numbers, no command and why, or nothing.
 // Every public function here is proved, total and without a `requires`.
+#![tactic(auto)]
+
 mod scan;
 
 ghost use Rattle.std.specs.Prelude.{◌≡◌, min, ◌≤◌, length};
@@ -11,7 +13,7 @@ use command_table::{Entry, Form, Named, Verb};
 use scan::Scan;
 
 // A command, how many words come after its name, and the numbers that the first three say, 0 where one says none.
-#[derive(Drop)]
+#[derive(Clone, Copy)]
 pub struct Request {
     pub verb: Verb,
     pub count: usize,
@@ -21,7 +23,7 @@ pub struct Request {
 }
 
 // Why a line is no command: more than 4,096 bytes, no command's name, or not the words that the command of a row wants.
-#[derive(Drop)]
+#[derive(Clone, Copy)]
 pub enum Trouble {
     TooLong,
     NoCommand,
@@ -29,7 +31,7 @@ pub enum Trouble {
 }
 
 // What a line says: nothing, no command, or a command.
-#[derive(Drop)]
+#[derive(Clone, Copy)]
 pub enum Parsed {
     Nothing,
     Bad(Trouble),

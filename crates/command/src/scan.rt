@@ -6,7 +6,7 @@ ghost use Rattle.command.specs.Inner.{word_from, words_from, Begins, numeral, no
 
 // Whether all words are numbers, whether those in front of the last are, how many they are, and the numbers that the first three say, 0 where one
 // says none.
-#[derive(Drop)]
+#[derive(Clone, Copy)]
 pub struct Scan {
     pub good: bool,
     pub front: bool,
@@ -17,7 +17,7 @@ pub struct Scan {
 }
 
 // The number that a word says, if it says one.
-#[derive(Drop)]
+#[derive(Clone, Copy)]
 pub enum Numeral {
     Number(u32),
     Other,

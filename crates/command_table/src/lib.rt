@@ -1,13 +1,15 @@
 // The commands of the designer's console as one table: a row for each command, with its name, what comes after the name, and what a designer is told to
 // write; beside it what each command does. Whoever reads, writes or explains commands goes by it, so that a further command is a further row.
 // Every public function here is proved, total and without a `requires`.
+#![tactic(auto)]
+
 ghost use Rattle.std.specs.Prelude.{◌≡◌, ◌<◌, length};
 ghost use Rattle.text.specs.Text.{put_in, put_end, same};
 ghost use Rattle.command_table.specs.Commands.{rows, row_at, name_at, usage_at, entry_at, command_of};
 ghost use Rattle.command_table.specs.Inner.{table_bytes, form_of};
 
 // What changes or tells the unit and the bank of a session.
-#[derive(Drop)]
+#[derive(Clone, Copy)]
 pub enum Act {
     Mark,
     Unmark,
@@ -19,7 +21,7 @@ pub enum Act {
 }
 
 // What is asked about a function.
-#[derive(Drop)]
+#[derive(Clone, Copy)]
 pub enum Ask {
     Vector,
     Row,
@@ -32,7 +34,7 @@ pub enum Ask {
 }
 
 // What is written to a file, listed, drawn, looked for, played or given delays; the session stays as it is.
-#[derive(Drop)]
+#[derive(Clone, Copy)]
 pub enum Show {
     Save,
     List,
@@ -45,14 +47,14 @@ pub enum Show {
 }
 
 // What is shown of the file of a plan record; no unit is wanted.
-#[derive(Drop)]
+#[derive(Clone, Copy)]
 pub enum View {
     Report,
     Ring,
 }
 
 // What is done at the issue port, at which tasks wait in a queue.
-#[derive(Drop)]
+#[derive(Clone, Copy)]
 pub enum Issue {
     Arrive,
     Pass,
@@ -60,7 +62,7 @@ pub enum Issue {
 }
 
 // What is done at a port that several callers share.
-#[derive(Drop)]
+#[derive(Clone, Copy)]
 pub enum Share {
     Callers,
     Call,
@@ -68,7 +70,7 @@ pub enum Share {
 }
 
 // What a command does. Fresh and load make a unit; small makes one, or tells the totals of a size.
-#[derive(Drop)]
+#[derive(Clone, Copy)]
 pub enum Verb {
     Fresh,
     Load,
@@ -83,7 +85,7 @@ pub enum Verb {
 
 // What comes after the name of a command: so many numbers; so many, and one more that may be left out; so many, and then the name of a file; so many,
 // and then the name of a file, which may be left out; a tag and the latencies of a cycle; or a list of numbers, which may be empty.
-#[derive(Drop)]
+#[derive(Clone, Copy)]
 pub enum Form {
     Numbers(usize),
     Optional(usize),
@@ -94,7 +96,7 @@ pub enum Form {
 }
 
 // A command that was found: the index of its row, what comes after its name, and what it does.
-#[derive(Drop)]
+#[derive(Clone, Copy)]
 pub struct Entry {
     pub row: usize,
     pub form: Form,
@@ -102,7 +104,7 @@ pub struct Entry {
 }
 
 // The command that has a name, if any has.
-#[derive(Drop)]
+#[derive(Clone, Copy)]
 pub enum Named {
     Known(Entry),
     Unknown,

@@ -5,7 +5,7 @@ use mathlib.Core.List.{List, [], ◌∷◌, ◌++◌, map, append_assoc, append-
 use Prim.Native.Nat.{ℕ, zero, suc, ◌+◌, ◌-◌, ◌^◌, ◌≤◌, ◌<◌}
 use native.Mathlib.Numerals.{add-one}
 use native.Mathlib.Omega.{arith}
-use borrow.Author.Tests.{eq-eqb, ne_eqb, eqb-true, eqb-false, not_true, le-leb, leb-true}
+use borrow.Author.Tests.{eq-eqb, ne_eqb, eqb-true, eqb-false, not-true, le-leb, leb-true}
 use lib.Dec.{eqb, leb}
 use lib.ListN.{length, get_or, take, drop, length-append}
 use lib.Seq.{take_all, take_at, drop_at, get_or_at}
@@ -42,7 +42,7 @@ blankless_each [] each = refl
 blankless_each (b ∷ word) each = and_true (ap not (each 0 (omega arith))) (blankless_each word (λ i h. each (suc i) (omega arith)))
 
 first_word : (b : ℕ) (word : List ℕ) → blankless (b ∷ word) ≡ true → is_blank b ≡ false
-first_word b word e = not_true (is_blank b) (and_left (not (is_blank b)) (blankless word) e)
+first_word b word e = not-true (is_blank b) (and_left (not (is_blank b)) (blankless word) e)
 
 -- a word before what begins with a blank, or is empty
 word_before : (word rest : List ℕ) → blankless word ≡ true → word_at (parts_of rest) 0 ≡ [] → word_at (parts_of (word ++ rest)) 0 ≡ word
@@ -83,7 +83,7 @@ returnless_join (x ∷ a) b p q =
 returnless_at : (line : List ℕ) (i : ℕ) → returnless line ≡ true → get_or line i 0 ≡ 13 → ⊥
 returnless_at [] i e q = omega arith
 returnless_at (b ∷ line) zero e q =
-    let t : eqb b 13 ≡ false = not_true (eqb b 13) (and_left (not (eqb b 13)) (returnless line) e) in eqb-false b 13 t q
+    let t : eqb b 13 ≡ false = not-true (eqb b 13) (and_left (not (eqb b 13)) (returnless line) e) in eqb-false b 13 t q
 returnless_at (b ∷ line) (suc i) e q = returnless_at line i (and_right (not (eqb b 13)) (returnless line) e) q
 
 whole_text : (line : List ℕ) → returnless line ≡ true → text_of line ≡ line

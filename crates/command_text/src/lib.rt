@@ -1,5 +1,7 @@
 // The line that says a command of the designer's console, and the line that says what was expected. A command that is written so and parsed is the
 // command again (proofs/RoundTrip.antt). Every public function here is proved, total and without a `requires`.
+#![tactic(auto)]
+
 ghost use Rattle.std.specs.Prelude.{◌≡◌, ◌+◌, ◌≤◌, length};
 ghost use Rattle.text.specs.Text.{spaced, put_in, put_end};
 ghost use Rattle.text.specs.Wrote.{Wrote};

@@ -1,4 +1,6 @@
 // The configurator: reads a unit file from standard input, however long, and prints its listing.
+#![tactic(auto)]
+
 use listing::Listed;
 
 // Reads some of what is left of the input, and answers whether there was any.

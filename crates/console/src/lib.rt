@@ -1,5 +1,7 @@
 // The designer's console: the commands on a session, each answered by one line of text.
 // Every public function here is proved, total and without a `requires`.
+#![tactic(auto)]
+
 mod lines;
 
 ghost use Rattle.std.specs.Prelude.{◌≡◌};

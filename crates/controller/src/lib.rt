@@ -1,6 +1,8 @@
 // The issue controller: a bank of four registers that says at each time unit which functions may start. Bit k of register r is
 // 1 where a start of function r, k time units from now, would collide with a task that is already under way.
 // Every function here is proved, total and without a `requires`; the crate assumes nothing of its own.
+#![tactic(auto)]
+
 ghost use Rattle.std.specs.Prelude.{◌≡◌, ◌/◌};
 ghost use Rattle.std.specs.Int.Bits.{bit_or};
 ghost use Rattle.controller.specs.Bank.{register, shifted, row_for, started, event_answer, step_of};
@@ -8,7 +10,7 @@ ghost use Rattle.controller.specs.Bank.{register, shifted, row_for, started, eve
 use unit::{Answer, FunctionUnit, Refusal, Tag};
 
 // Register r belongs to the function of tag r.
-#[derive(Drop)]
+#[derive(Clone, Copy)]
 pub struct Bank {
     pub r1: u32,
     pub r2: u32,
@@ -17,14 +19,14 @@ pub struct Bank {
 }
 
 // What happens in a time unit: nothing starts, or a function does.
-#[derive(Drop)]
+#[derive(Clone, Copy)]
 pub enum Event {
     Tick,
     Start(Tag),
 }
 
 // The answer to an event, and the bank that it leaves.
-#[derive(Drop)]
+#[derive(Clone, Copy)]
 pub struct Stepped {
     pub answer: Answer,
     pub bank: Bank,

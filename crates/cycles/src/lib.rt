@@ -1,5 +1,7 @@
 // Cycles of the state diagram: the greedy cycle of a function, and the rotation of a cycle that comes first.
 // Every function here is proved, and the crate assumes nothing of its own. No public function has a `requires`.
+#![tactic(auto)]
+
 ghost use Rattle.std.specs.Prelude.{◌≡◌, ◌++◌, ◌≤◌, ◌<◌, length, drop};
 ghost use Rattle.collision.specs.Pipeline.{total};
 ghost use Rattle.cycles.specs.Greedy.{least_latency, greedy_refusal, greedy_answer, greedy_out, WorkAfter};
@@ -11,21 +13,21 @@ use collision::Number;
 use unit::{FunctionUnit, Refusal, Tag};
 
 // How many latencies a cycle has, and their sum.
-#[derive(Drop)]
+#[derive(Clone, Copy)]
 pub struct Counted {
     pub count: u32,
     pub sum: u32,
 }
 
 // The greedy cycle, whose latencies then stand in the lent bytes, or why there is none.
-#[derive(Drop)]
+#[derive(Clone, Copy)]
 pub enum GreedyAnswer {
     Cycle(Counted),
     Refused(Refusal),
 }
 
 // Where the latencies of a cycle stand in the working words.
-#[derive(Drop)]
+#[derive(Clone, Copy)]
 struct Noted {
     from: usize,
     count: usize,

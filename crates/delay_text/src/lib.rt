@@ -1,5 +1,7 @@
 // What the console does with delay columns: the table of the unit that they make, and its unit file.
 // Every public function here is proved, total and without a `requires`.
+#![tactic(auto)]
+
 ghost use Rattle.std.specs.Prelude.{◌≡◌, length};
 ghost use Rattle.delay_text.specs.Shown.{delayed_table_answer, delayed_table_out, delayed_file_answer, delayed_file_out};
 

@@ -7,7 +7,7 @@ use mathlib.Core.List.{List, [], ◌∷◌}
 use native.Mathlib.Decide.{dec_lt}
 use native.Mathlib.Nat.{eq-or-lt_of_le, mul-one, add-mul-mod_self_right, le_dest, suc-mul, add-mul}
 use native.Mathlib.Omega.{arith}
-use borrow.Author.Tests.{leb-true, not_true}
+use borrow.Author.Tests.{leb-true, not-true}
 use lib.Dec.{leb}
 use lib.ListN.{length}
 use Rattle.words.specs.Below.{some_below}
@@ -59,7 +59,7 @@ accepted u q m e =
     record {
       sound = a.sound;
       tag = a.tag;
-      single = not_true (crowded (marked u q)) (check_ok (not (crowded (marked u q))) TwoMarks _ e1);
+      single = not-true (crowded (marked u q)) (check_ok (not (crowded (marked u q))) TwoMarks _ e1);
       latency = and_left (inside m 32) _ i;
       room = leb-true (marks_of (marked u) q) m (and_right (inside m 32) _ i);
       near = leb-true (width_of (marked u q) m u.columns) 32 (check_ok (leb (width_of (marked u q) m u.columns) 32) PlaceBeyond _ e3);

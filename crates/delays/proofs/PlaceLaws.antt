@@ -8,7 +8,7 @@ use mathlib.Core.List.{List, [], ◌∷◌, ◌++◌}
 use native.Mathlib.Nat.{eq-or-lt_of_le, le_of_suc-le-suc, not-suc-le-zero}
 use native.Mathlib.Numerals.{add-one}
 use native.Mathlib.Omega.{arith}
-use borrow.Author.Tests.{eq-eqb, not_true, not_false}
+use borrow.Author.Tests.{eq-eqb, not-true, not-false}
 use lib.Dec.{eqb}
 use lib.ListN.{length, get_or, length-append, get_or-append}
 use lib.Seq.{get_or_at}
@@ -99,7 +99,7 @@ module _ (R : Marks) (m : ℕ) where
   pub place_skips : (i p : ℕ) → last_of (places R m i) < p → p < place_at_lem i → taken R m (places R m i) p ≡ true
   unfolding place_at_lem next_place
   place_skips i p h l =
-      not_false (taken R m (places R m i) p)
+      not-false (taken R m (places R m i) p)
       (least_skips m (last_of (places R m i) + 1) (λ p. not (taken R m (places R m i) p)) p (omega arith) l)
 
 -- Remainders
@@ -152,7 +152,7 @@ module _ (T : Table) (q m : ℕ) (b : Bounded T) (single : crowded (T q) ≡ fal
       (λ j h e. shares_mark s (length l + 1) (j + 1) (subst (λ (k : ℕ). T q s (k + 1) ≡ true) (sym n) x) e) in
       let below : count_below (length l) (λ j. T q s (j + 1)) < m = subst (λ (k : ℕ). count_below k (λ j. T q s (j + 1)) < m) (sym n) (few_earlier s i x) in
       let p = some_left m (λ k. taken (T q) m l (start + k)) (omega (arith, few)) in
-      not_true (taken (T q) m l (place_at_lem (T q) m i))
+      not-true (taken (T q) m l (place_at_lem (T q) m i))
       (least_passes m start (λ p. not (taken (T q) m l p)) (start + p.at) (omega arith) (omega (arith, p.inside)) p.passed)
 
   pub place_apart : (s j i : ℕ) → j < i → T q s (j + 1) ≡ true → T q s (i + 1) ≡ true → place_at_lem (T q) m j % m ≡ place_at_lem (T q) m i % m → ⊥

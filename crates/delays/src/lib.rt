@@ -1,5 +1,7 @@
 // Delay columns for a wanted constant latency: the columns of a function are placed further apart, so that the latency never collides.
 // Every function here is proved, and every public one is total and without a `requires`; the crate assumes nothing of its own.
+#![tactic(auto)]
+
 ghost use Rattle.std.specs.Prelude.{◌≡◌, ◌&&◌, ◌||◌, ◌+◌, ◌*◌, ◌%◌, ◌≤◌, ◌<◌, leb, eqb, get_or};
 ghost use Rattle.words.specs.Below.{some_below};
 ghost use Rattle.unit.specs.declared.Answer.TheVariants.{Done};

@@ -5,7 +5,7 @@ use unit::{FunctionUnit, Tag};
 use unit_file::Written;
 
 // How many bytes of a file were read, if it can be read.
-#[derive(Drop)]
+#[derive(Clone, Copy)]
 pub enum Found {
     Bytes(usize),
     Nothing,

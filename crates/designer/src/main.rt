@@ -1,6 +1,8 @@
 // The designer's console: reads commands from standard input, one a line, and answers each on standard output. What a line says, what a
 // command does and every byte of an answer are given by the contracts of the crates below; here lines are cut out of the input, and files are
 // opened. The program stops at the first answer that can't be written.
+#![tactic(auto)]
+
 mod files;
 
 ghost use Rattle.std.specs.Prelude.{◌≡◌, length};
@@ -124,7 +126,7 @@ fn show_unit(u: FunctionUnit, what: Show, request: Request, line: &[u8]) -> bool
 }
 
 // The session after a line, and whether its answer was written.
-#[derive(Drop)]
+#[derive(Clone, Copy)]
 struct Answered {
     session: Session,
     said: bool,
@@ -252,7 +254,7 @@ fn answer(session: Session, number: u32, line: &[u8]) -> Answered {
 // Lines. A line is held in 4,097 bytes: where it is longer, what is held is longer than a command can be, and the rest is passed over.
 
 // The session, the number of the present line, how many of its bytes are held, and whether all answers so far were written.
-#[derive(Drop)]
+#[derive(Clone, Copy)]
 struct Reading {
     session: Session,
     number: u32,
@@ -318,7 +320,7 @@ fn take_bytes(reading: Reading, bytes: &[u8], line: &mut [u8]) -> Reading {
 }
 
 // Reads some of the input, and answers every line that ends in it. More follows unless the input has ended, or an answer could not be written.
-#[derive(Drop)]
+#[derive(Clone, Copy)]
 struct Taken {
     reading: Reading,
     more: bool,

@@ -1,5 +1,7 @@
 // The state diagram of a collision vector: its states listed in working words, with an index by which a state's place is found.
 // Every function here is proved, and the crate assumes nothing of its own. No public function has a `requires`.
+#![tactic(auto)]
+
 ghost use Rattle.std.specs.Prelude.{◌≡◌, false, [], ◌∷◌, ◌++◌, ◌+◌, ◌-◌, ◌≤◌, ◌<◌, length, take, drop};
 ghost use Rattle.words.specs.Bits.{is_set};
 ghost use Rattle.diagram.specs.Diagram.{width, longest};

@@ -1,5 +1,7 @@
 // The drawing of a function's reservation table as text in a lent area.
 // Every public function here is proved, total and without a `requires`.
+#![tactic(auto)]
+
 mod tables;
 
 ghost use Rattle.std.specs.Prelude.{◌≡◌, length};
@@ -11,7 +13,7 @@ use unit::{Answer, FunctionUnit, Refusal, Tag};
 pub const TABLE: usize = 1700;
 
 // The length of the text, or why nothing was written.
-#[derive(Drop)]
+#[derive(Clone, Copy)]
 pub enum Drawn {
     Length(u32),
     Refused(Refusal),

@@ -1,4 +1,6 @@
 // The edits of a unit: one mark set or cleared, which drops the plan. They go by the columns that crate `columns` hands out and takes. Every function here is proved; the public ones are total and without a `requires`.
+#![tactic(auto)]
+
 ghost use Rattle.std.specs.Prelude.{◌≡◌, ◌-◌, ◌≤◌};
 ghost use Rattle.words.specs.Bits.{set_bit, clear_bit};
 ghost use Rattle.unit.specs.Calls.{spot_answer, mark_of, unmark_of};

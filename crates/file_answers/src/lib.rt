@@ -1,4 +1,6 @@
 // What a question about a unit file answers and hands out. Every function here is proved, total and without a `requires`.
+#![tactic(auto)]
+
 ghost use Rattle.std.specs.Prelude.{◌≡◌};
 ghost use Rattle.file_answers.specs.Answers.{read_then, number_told, number_value};
 

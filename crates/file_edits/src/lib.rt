@@ -1,5 +1,7 @@
 // Units made and edited in a lent unit file. A call answers 0 or the number of its refusal. Every function here is proved; the public
 // ones are total and without a `requires`.
+#![tactic(auto)]
+
 ghost use Rattle.std.specs.Prelude.{◌≡◌, length};
 ghost use Rattle.words.specs.Bytes.{narrow};
 ghost use Rattle.unit.specs.Numbers.{number_in};

@@ -1,5 +1,7 @@
 // Bound, upper and constant of a function of a lent unit file. A call answers 0 or the number of its refusal. Every function here is proved,
 // total and without a `requires`.
+#![tactic(auto)]
+
 ghost use Rattle.std.specs.Prelude.{◌≡◌};
 ghost use Rattle.words.specs.Bytes.{narrow};
 ghost use Rattle.unit.specs.Numbers.{number_in};

@@ -1,6 +1,8 @@
 // Reads unit files and prints a line, or the listing, for each: those of the papers' tables, damaged ones, and files drawn at random. The file stdout
 // beside it holds the answers that follow from the papers, worked out by hand; the counts of random files come from a separate model of the order
 // in which a file is tried.
+#![tactic(auto)]
+
 ghost use Rattle.std.specs.Prelude.{◌≡◌, length};
 
 use collision::Number;

@@ -1,5 +1,7 @@
 // The plan of a function, handed out: what the unit holds, if it is the function's own.
 // Every public function here is proved, total and without a `requires`.
+#![tactic(auto)]
+
 ghost use Rattle.std.specs.Prelude.{◌≡◌};
 ghost use Rattle.function_plan.specs.Own.{own_plan};
 ghost use Rattle.function_plan.specs.Inner.{nothing, held_plan};

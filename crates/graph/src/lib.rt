@@ -1,5 +1,7 @@
 // The drawing of a function's state diagram for Graphviz, in a lent area.
 // Every public function here is proved, total and without a `requires`.
+#![tactic(auto)]
+
 mod dots;
 
 ghost use Rattle.std.specs.Prelude.{◌≡◌, length, ◌≤◌};

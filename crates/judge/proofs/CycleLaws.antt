@@ -8,7 +8,7 @@ use native.Mathlib.Omega.{arith}
 use lib.Dec.{leb, eqb}
 use lib.ListN.{length, get_or, take}
 use lib.Seq.{get_or-take, take-length, length-take-le}
-use borrow.Author.Tests.{leb-true, le-leb, eqb-true, eq-eqb, not_true, lt-ltb, le-ltb}
+use borrow.Author.Tests.{leb-true, le-leb, eqb-true, eq-eqb, not-true, lt-ltb, le-ltb}
 use Rattle.words.specs.Below.{some_below}
 use Rattle.words.proofs.Tests.{nowhere, and_left, and_right, and_true, not_passed}
 use Rattle.words.proofs.BelowLaws.{some_intro, some_elim}
@@ -30,7 +30,7 @@ pub good_facts : (l : List ℕ) → good_cycle l ≡ true → Counted l (length 
 unfolding good_cycle
 good_facts l e =
     let w = within (length l) 256 (and_left (inside (length l) 256) _ e) in
-    let none = not_true (some_below (length l) (λ i. eqb (get_or l i 0) 0)) (and_right (inside (length l) 256) _ e) in
+    let none = not-true (some_below (length l) (λ i. eqb (get_or l i 0) 0)) (and_right (inside (length l) 256) _ e) in
     let never : (i : ℕ) → i < length l → get_or l i 0 ≡ 0 → ⊥ =
     λ i h z. nowhere (sym none ∙ some_intro (length l) (λ i. eqb (get_or l i 0) 0) i h (eq-eqb (get_or l i 0) 0 z)) in
     record { inside = omega arith; least = w.least; most = w.most; each = λ i h. let n = never i h in omega arith }

@@ -1,5 +1,7 @@
 // The judge of a cycle, and the better of two cycles. Every function here is proved, and every public one is total and without a
 // `requires`; the crate assumes nothing of its own.
+#![tactic(auto)]
+
 ghost use Rattle.std.specs.Prelude.{◌≡◌, true, ◌*◌, ◌≤◌, ◌<◌, length, take};
 ghost use Rattle.collision.specs.Pipeline.{total};
 ghost use Rattle.judge.specs.Judge.{good_cycle, counted, better_of, judge_answer};
@@ -9,7 +11,7 @@ use collision::Number;
 use unit::{FunctionUnit, Refusal, Tag};
 
 // Whether a cycle never collides.
-#[derive(Drop)]
+#[derive(Clone, Copy)]
 pub enum Verdict {
     Yes,
     No,

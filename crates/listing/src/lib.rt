@@ -1,5 +1,7 @@
 // The listing of a unit, or of a unit file, as text in a lent area: for each function its collision vector, bound and upper, the number of
 // states, the greedy and the best cycle, and the constant latency. Every public function here is proved, total and without a `requires`.
+#![tactic(auto)]
+
 mod function;
 mod lines;
 
@@ -15,7 +17,7 @@ use unit::{Answer, FunctionUnit, Refusal, Tag};
 pub const AREA: usize = 8888;
 
 // The length of the text, or why nothing was written.
-#[derive(Drop)]
+#[derive(Clone, Copy)]
 pub enum Listed {
     Length(u32),
     Refused(Refusal),

@@ -1,5 +1,7 @@
 // The line that answers the console's `loop`: the latencies of a loop over several functions, or why there are none.
 // Every public function here is proved, total and without a `requires`.
+#![tactic(auto)]
+
 ghost use Rattle.std.specs.Prelude.{◌++◌, ◌≤◌, length};
 ghost use Rattle.text.specs.Text.{ascii, decimal, spaced};
 ghost use Rattle.text.specs.Wrote.{Wrote};

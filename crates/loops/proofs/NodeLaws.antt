@@ -8,7 +8,7 @@ use native.Mathlib.Decide.{dec_le}
 use native.Mathlib.Omega.{arith}
 use lib.Bits.{bit_or}
 use lib.ListN.{length, get_or}
-use borrow.Author.Tests.{not_true}
+use borrow.Author.Tests.{not-true}
 use Rattle.words.specs.Bits.{bit, is_set}
 use Rattle.words.proofs.BitLaws.{unset_zero, zero_unset, bit_above}
 use Rattle.unit.specs.declared.FunctionUnit.{FunctionUnit}
@@ -133,13 +133,13 @@ module _ (u : FunctionUnit) (tags : List ℕ) (loop : Loop u tags) (R : Rules) (
       }
 
   free_bit : (b : Bool) → not b ≡ true → b ≡ false
-  free_bit b e = not_true b e
+  free_bit b e = not-true b e
 
   pub rule_step : (s : State) (t : ℕ) → RuleStep R s t → ShortStep (largest_column (marked u)) tags s t
   rule_step s t p = record {
     step = record {
       least = p.least;
-      granted = bit_granted s.bank t (next_tag tags s) (ap (λ m. is_set m (t - 1)) (sym (mask_same s)) ∙ not_true _ p.free);
+      granted = bit_granted s.bank t (next_tag tags s) (ap (λ m. is_set m (t - 1)) (sym (mask_same s)) ∙ not-true _ p.free);
     };
     most = omega (arith, p.most, rules.width);
   }
@@ -246,7 +246,7 @@ module _ (u : FunctionUnit) (tags : List ℕ) (loop : Loop u tags) (R : Rules) (
             positive = q.least;
             spaced = q.least;
             small = omega (arith, q.most);
-            free = λ m. unset_zero (state_in w v) (t - 1) (ap (λ k. is_set k (t - 1)) (h.done few v l).mask ∙ not_true _ q.free);
+            free = λ m. unset_zero (state_in w v) (t - 1) (ap (λ k. is_set k (t - 1)) (h.done few v l).mask ∙ not-true _ q.free);
           };
           high = top;
           leads = refl;

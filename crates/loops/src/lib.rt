@@ -1,5 +1,7 @@
 // Loops over several functions: the latencies of least average at which a list of tags can be issued, in that order, without end.
 // Every function here is proved, and the crate assumes nothing of its own. No public function has a `requires`.
+#![tactic(auto)]
+
 ghost use Rattle.std.specs.Prelude.{◌≡◌, ◌++◌, ◌-◌, ◌<◌, length, replicate};
 ghost use Rattle.unit.specs.Unit.{inside};
 ghost use Rattle.unit.specs.Calls.{no_plan};
@@ -20,7 +22,7 @@ use ruling::{known_tags, rules_of};
 use unit::{Answer, FunctionUnit, Plan, Refusal};
 
 // A state of a loop: a position in its list of tags, with the bank just after the start of that tag.
-#[derive(Drop)]
+#[derive(Clone, Copy)]
 pub struct State {
     pub position: u32,
     pub bank: Bank,
@@ -28,7 +30,7 @@ pub struct State {
 
 // What the steps of a loop go by: for each position the rows that its tag brings into the four registers, and the tag; how many positions there are;
 // and the largest column with a 1 in any matrix.
-#[derive(Drop)]
+#[derive(Clone, Copy)]
 pub struct Rules {
     pub rows: [u32; 32],
     pub tags: [u8; 8],

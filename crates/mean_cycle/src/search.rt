@@ -15,7 +15,7 @@ use crate::greedy::first_cycle;
 
 // What is searched: nodes, numbered from 0, of which word v says in its columns which latencies v permits, up to one more than the width. Where
 // they lead is told by a table of arcs, or else the words are the listed states of a collision vector.
-#[derive(Drop)]
+#[derive(Clone, Copy)]
 pub struct Graph {
     pub nodes: usize,
     pub width: u32,
@@ -24,7 +24,7 @@ pub struct Graph {
 }
 
 // What a part of a round left: whether a better cycle stands in the words (then best is that cycle), and how often a gain grew.
-#[derive(Drop)]
+#[derive(Clone, Copy)]
 pub struct Outcome {
     pub found: bool,
     pub moved: usize,

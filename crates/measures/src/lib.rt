@@ -1,5 +1,7 @@
 // The measures of a function: marks, bound, upper and constant. Every function here is proved, and every public one is total and without a
 // `requires`; the crate assumes nothing of its own.
+#![tactic(auto)]
+
 ghost use Rattle.std.specs.Prelude.{◌≡◌, ◌≤◌};
 ghost use Rattle.words.specs.Bits.{is_set};
 ghost use Rattle.collision.specs.Answers.{marks_answer, bound_answer, upper_answer, constant_answer};

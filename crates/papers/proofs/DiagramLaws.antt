@@ -7,7 +7,7 @@ use Prim.Native.Nat.{ℕ, ◌+◌, ◌-◌, ◌≤◌, ◌<◌}
 use native.Mathlib.Omega.{arith}
 use lib.Dec.{leb}
 use lib.ListN.{length}
-use borrow.Author.Tests.{leb-true, not_true, not_false}
+use borrow.Author.Tests.{leb-true, not-true, not-false}
 use Rattle.words.specs.Bits.{is_set}
 use Rattle.words.specs.Below.{some_below}
 use Rattle.words.proofs.Tests.{nowhere, and_left, and_right, and_true, not_passed}
@@ -86,8 +86,8 @@ module _ {T : Table} {q cv n : ℕ} {m : List ℕ} (d : Computed T q cv n m) whe
 
       noted : (k : ℕ) → k < n → is_set cv k ≡ true → has (k + 1) latencies ≡ true
       noted k l e =
-          let none = not_true (misses n cv latencies) (and_right (all (λ x. is_set cv (x - 1)) latencies) _ h) in
-          not_false (has (k + 1) latencies) (not_passed (not (has (k + 1) latencies))
+          let none = not-true (misses n cv latencies) (and_right (all (λ x. is_set cv (x - 1)) latencies) _ h) in
+          not-false (has (k + 1) latencies) (not_passed (not (has (k + 1) latencies))
           (λ f. nowhere (sym none ∙ some_intro n (λ j. is_set cv j && not (has (j + 1) latencies)) k l (and_true e f))))
 
   -- States

@@ -10,7 +10,7 @@ use native.Mathlib.Nat.{mul-suc, mul-add, mul-zero, not-suc-le-zero}
 use native.Mathlib.Omega.{arith}
 use lib.Dec.{ltb, eqb}
 use lib.ListN.{length, get_or}
-use borrow.Author.Tests.{ltb-false, not_true}
+use borrow.Author.Tests.{ltb-false, not-true}
 use Rattle.words.specs.Below.{some_below}
 use Rattle.words.proofs.Tests.{nowhere, and_true, not_passed, T_true}
 use Rattle.words.proofs.BelowLaws.{some_intro}
@@ -63,7 +63,7 @@ module _ (g n cv S K : ℕ) (φ : ℕ → ℕ) where
   potential_tested m b i h zero p = absurd (not-suc-le-zero p.positive)
   potential_tested m b i h (suc k) p =
       let s = get_or m i 0 in
-      let none = not_true (some_climbs s) (all_at (λ x. not (some_climbs x)) m 0 b i h) in
+      let none = not-true (some_climbs s) (all_at (λ x. not (some_climbs x)) m 0 b i h) in
       ltb-false (K * suc k + φ s) (S + φ (next cv s (suc k)))
       (not_passed (ltb (K * suc k + φ s) (S + φ (next cv s (suc k))))
       (λ more.

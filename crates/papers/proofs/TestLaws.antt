@@ -7,7 +7,7 @@ use Prim.Native.Nat.{ℕ, zero, suc, ◌^◌, ◌<◌}
 use native.Mathlib.Nat.{le_of_suc-le-suc, not-suc-le-zero}
 use lib.Dec.{ltb, eqb}
 use lib.ListN.{length, get_or}
-use borrow.Author.Tests.{ltb-true, eqb-true, not_true}
+use borrow.Author.Tests.{ltb-true, eqb-true, not-true}
 use Rattle.words.proofs.Tests.{nowhere, and_left, and_right, or_cases, T_true}
 use Rattle.diagram.specs.States.{Distinct, has}
 use Rattle.diagram.proofs.ListLaws.{listed_has}
@@ -40,7 +40,7 @@ pub apart_distinct : (l : List ℕ) → apart l ≡ true → Distinct l
 apart_distinct [] h i j o k e = not-suc-le-zero k
 apart_distinct (x ∷ l) h i zero o k e = not-suc-le-zero o
 apart_distinct (x ∷ l) h zero (suc j) o k e =
-    nowhere (sym (not_true (has x l) (and_left (not (has x l)) _ h)) ∙ T_true (has x l) (listed_has x l j (le_of_suc-le-suc k) (sym e)))
+    nowhere (sym (not-true (has x l) (and_left (not (has x l)) _ h)) ∙ T_true (has x l) (listed_has x l j (le_of_suc-le-suc k) (sym e)))
 apart_distinct (x ∷ l) h (suc i) (suc j) o k e =
     apart_distinct l (and_right (not (has x l)) _ h) i j (le_of_suc-le-suc o) (le_of_suc-le-suc k) e
 

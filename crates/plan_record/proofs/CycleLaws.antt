@@ -7,7 +7,7 @@ use native.Mathlib.Nat.{le_of_lt, not-suc-le-zero, le_of_suc-le-suc, eq-or-lt_of
 use mathlib.Core.Logic.{◌⊎◌, inl, inr}
 use native.Mathlib.Decide.{dec_lt}
 use native.Mathlib.Omega.{arith}
-use borrow.Author.Tests.{not_true, not_false}
+use borrow.Author.Tests.{not-true, not-false}
 use lib.ListN.{length, get_or, take}
 use lib.Seq.{take-length}
 use Rattle.words.specs.Below.{some_below}
@@ -28,10 +28,10 @@ recordable_facts l e =
     record { some = w.least; few = w.most; least = λ i h. (each i h).0; most = λ i h. (each i h).1 }
   where
     none : some_below (length l) (λ i. not (inside (get_or l i 0) 32)) ≡ false
-    none = not_true _ (and_right (inside (length l) 256) _ e)
+    none = not-true _ (and_right (inside (length l) 256) _ e)
 
     good : (i : ℕ) → i < length l → inside (get_or l i 0) 32 ≡ true
-    good i h = not_false _ (not_passed (not (inside (get_or l i 0) 32)) (λ p. nowhere (sym none ∙ some_intro (length l) (λ i. not (inside (get_or l i 0) 32)) i h p)))
+    good i h = not-false _ (not_passed (not (inside (get_or l i 0) 32)) (λ p. nowhere (sym none ∙ some_intro (length l) (λ i. not (inside (get_or l i 0) 32)) i h p)))
 
     each : (i : ℕ) → i < length l → (1 ≤ get_or l i 0) × (get_or l i 0 ≤ 32)
     each i h = let w = within (get_or l i 0) 32 (good i h) in (w.least, w.most)

@@ -4,7 +4,7 @@ use mathlib.Core.Path.{◌≡◌, sym, ap, ap₂, ◌∙◌}
 use mathlib.Core.Bool.{true, false, not}
 use mathlib.Core.List.{List, ◌++◌, append_assoc}
 use native.Mathlib.Omega.{arith}
-use borrow.Author.Tests.{eqb-true, eqb-false, eq-eqb, ne_eqb, le-leb, lt-leb, not_true}
+use borrow.Author.Tests.{eqb-true, eqb-false, eq-eqb, ne_eqb, le-leb, lt-leb, not-true}
 use lib.Dec.{eqb}
 use lib.ListN.{length, take, drop, replicate, length-append, length-drop, take-append-drop}
 use lib.Seq.{length-take-le, take_all}
@@ -117,7 +117,7 @@ module _ (p : Plan) where
 
   pub writable_tag : writable p ≡ true → p.tag ≡ 0 → ⊥
   unfolding writable
-  writable_tag e = eqb-false p.tag 0 (not_true (eqb p.tag 0) (and_left (not (eqb p.tag 0)) _ e))
+  writable_tag e = eqb-false p.tag 0 (not-true (eqb p.tag 0) (and_left (not (eqb p.tag 0)) _ e))
 
   pub writable_holds : writable p ≡ true → holds_cycle p ≡ true
   unfolding writable

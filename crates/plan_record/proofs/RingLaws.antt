@@ -9,7 +9,7 @@ use native.Mathlib.Numerals.{add-one}
 use native.Mathlib.Omega.{arith}
 use native.Mathlib.Decide.{dec_lt}
 use borrow.Author.Count.{below_more}
-use borrow.Author.Tests.{eqb-true, eq-eqb, ltb-true, lt-ltb, not_false}
+use borrow.Author.Tests.{eqb-true, eq-eqb, ltb-true, lt-ltb, not-false}
 use lib.Dec.{ltb, eqb}
 use lib.ListN.{length, get_or, take}
 use Rattle.words.specs.Bits.{is_set}
@@ -116,7 +116,7 @@ pub ring_means : (l : List ℕ) → Recordable l → IsRing l (ring_of l)
 ring_means l r = record {
   size = ring_length_lem l;
   bits = λ i h. let b = ring_bit_lem l i (omega arith) in
-      (λ e. start_said l i (not_false (starts l i) (sym b ∙ e)), λ s. b ∙ ap not (said_start l i s));
+      (λ e. start_said l i (not-false (starts l i) (sym b ∙ e)), λ s. b ∙ ap not (said_start l i s));
   spare = λ i h m. ring_bit_lem l i (omega (arith, ring_length_lem l)) ∙ ap not (start_below l i r h);
 }
 

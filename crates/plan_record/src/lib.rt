@@ -1,5 +1,7 @@
 // The plan record: a plan's cycle as bytes, for the report, which reads its latencies, and for the controller's loader, which reads document 000's
 // end-around bit ring. Every function here is proved, and every public one is total and without a `requires`; the crate assumes nothing of its own.
+#![tactic(auto)]
+
 ghost use Rattle.std.specs.Prelude.{◌≡◌, cond, ◌&&◌, ◌+◌, ◌*◌, ◌≤◌, ltb, eqb, length, replicate};
 ghost use Rattle.words.specs.Below.{list_below};
 ghost use Rattle.text.specs.Text.{same, placed};
@@ -23,14 +25,14 @@ pub fn area() -> [u8; LONGEST]
 }
 
 // A number of a record: K for the report, S for the loader.
-#[derive(Drop)]
+#[derive(Clone, Copy)]
 pub enum Shown {
     Number(u16),
     Refused(Refusal),
 }
 
 // A byte of the ring, and the start that comes next after it: how many latencies stand before it, and their sum.
-#[derive(Drop)]
+#[derive(Clone, Copy)]
 struct Turned {
     byte: u8,
     index: usize,

@@ -1,5 +1,7 @@
 // Search and read: the plan of a function's best cycle. Every function here is proved, and no public function has a `requires`.
 // The claim over every list of mark, unmark, search and read calls is `EveryList` (specs/Sheet.antt), proved in proofs/EveryList.antt.
+#![tactic(auto)]
+
 ghost use Rattle.std.specs.Prelude.{◌≡◌, ◌++◌, ◌-◌, ◌≤◌, ◌<◌, length, take, replicate};
 ghost use Rattle.graphs.specs.Rotation.{rotate};
 ghost use Rattle.planner.specs.Plans.{plan_of, SearchPromise, read_answer, read_of};
@@ -10,14 +12,14 @@ use mean_cycle::Cycle;
 use unit::{Answer, FunctionUnit, Outcome, Plan, Refusal, Tag};
 
 // A plan that is handed out by value, or why there is none.
-#[derive(Drop)]
+#[derive(Clone, Copy)]
 pub struct Handed {
     pub answer: Answer,
     pub plan: Plan,
 }
 
 // What a search finds before it stores it.
-#[derive(Drop)]
+#[derive(Clone, Copy)]
 struct Searched {
     answer: Answer,
     plan: Plan,

@@ -1,6 +1,8 @@
 // Plays a list of mark, unmark, search and read calls over the calls themselves, so that the claim over every list of calls (`EveryList`, crate
 // planner) speaks of running code. A call is four bytes and a reply 262 (specs/Play.antt); what was written is what the sheet says
 // (proofs/PlayedLaws.antt). Every function here is proved, and no public function has a `requires`.
+#![tactic(auto)]
+
 ghost use Rattle.std.specs.Prelude.{◌≡◌, ◌∷◌, min, length};
 ghost use Rattle.player.specs.Play.{plan_bytes, call_of, Played};
 ghost use Rattle.player.specs.Inner.{Told, Turned};
@@ -8,7 +10,7 @@ ghost use Rattle.player.specs.Inner.{Told, Turned};
 use unit::{Answer, FunctionUnit, Outcome, Plan, Segment, Tag};
 
 // What one call leaves: the refusal's number or 0, the plan that was handed out or no plan, and the unit.
-#[derive(Drop)]
+#[derive(Clone, Copy)]
 struct Turn {
     number: u8,
     plan: Plan,

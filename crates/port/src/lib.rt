@@ -1,5 +1,7 @@
 // The issue port that up to 4 callers share, on a lent list: caller i's queue is the part of 8 records from record 8 × (i - 1) on, counted from 0.
 // Every public function here is proved, total and without a `requires`.
+#![tactic(auto)]
+
 ghost use Rattle.std.specs.Prelude.{◌≡◌, ◌≤◌, ◌<◌, length, get_or, set, replicate};
 ghost use Rattle.queue.specs.Line.{no_record};
 ghost use Rattle.callers.specs.Calls.{arrival_of, arrival_list, unit_of, unit_list};

@@ -1,5 +1,7 @@
 // A designer's questions about a function, each answered by one line of text. Every public function here is proved, total and without a
 // `requires`.
+#![tactic(auto)]
+
 mod lines;
 
 ghost use Rattle.std.specs.Prelude.{◌≡◌};
@@ -10,7 +12,7 @@ use unit::{FunctionUnit, Tag};
 
 // What is asked: the collision vector of a tag, row q of the matrix M_r, the list of states, the greedy cycle, bound, upper and constant, and
 // whether a cycle never collides.
-#[derive(Drop)]
+#[derive(Clone, Copy)]
 pub enum Question {
     Vector(Tag),
     Row(Tag, Tag),

@@ -1,5 +1,7 @@
 // A queue at the issue port: tasks that wait for the bank to grant their start, the oldest first.
 // Every public function here is proved, total and without a `requires`.
+#![tactic(auto)]
+
 ghost use Rattle.std.specs.Prelude.{◌≡◌, ◌&&◌, cond, ltb, [], ◌≤◌, ◌<◌, length, take, get_or};
 ghost use Rattle.unit.specs.Unit.{inside};
 ghost use Rattle.queue.specs.Inner.{list_by, arrived_by, oldest_by, pass_by, Startable, FirstFits, seen_of, look_of, shown_of};
@@ -10,21 +12,21 @@ use controller::{Bank, Event};
 use unit::{Answer, FunctionUnit, Refusal, Tag};
 
 // A task that waits: the tag of its function, and a ticket, which is a number chosen by its sender.
-#[derive(Drop)]
+#[derive(Clone, Copy)]
 pub struct Waiting {
     pub tag: u8,
     pub ticket: u32,
 }
 
 // The answer to an arrival, and how many wait then.
-#[derive(Drop)]
+#[derive(Clone, Copy)]
 pub struct Arrival {
     pub answer: Answer,
     pub count: usize,
 }
 
 // What a time unit did: it started a record, or none.
-#[derive(Drop)]
+#[derive(Clone, Copy)]
 pub enum Passed {
     Started(Waiting),
     Idle,
@@ -32,7 +34,7 @@ pub enum Passed {
 }
 
 // The answer of a time unit, the bank that it leaves, and how many wait then.
-#[derive(Drop)]
+#[derive(Clone, Copy)]
 pub struct Pass {
     pub answer: Passed,
     pub bank: Bank,
@@ -40,21 +42,21 @@ pub struct Pass {
 }
 
 // A queue as a value, for whoever has no list to lend.
-#[derive(Drop)]
+#[derive(Clone, Copy)]
 pub struct Queue {
     pub list: [Waiting; 32],
     pub count: usize,
 }
 
 // The answer to an arrival, and the queue that it leaves.
-#[derive(Drop)]
+#[derive(Clone, Copy)]
 pub struct Joined {
     pub answer: Answer,
     pub queue: Queue,
 }
 
 // The answer of a time unit, and the bank and the queue that it leaves.
-#[derive(Drop)]
+#[derive(Clone, Copy)]
 pub struct Advanced {
     pub answer: Passed,
     pub bank: Bank,
@@ -62,7 +64,7 @@ pub struct Advanced {
 }
 
 // What the records that wait show: whether their tags are the unit's, and the first of them.
-#[derive(Drop)]
+#[derive(Clone, Copy)]
 pub struct Seen {
     pub fit: bool,
     pub first: Waiting,

@@ -1,5 +1,7 @@
 // The console's commands at the issue port: a task arrives, a time unit passes, and the tasks that wait are told.
 // Every public function here is proved, total and without a `requires`.
+#![tactic(auto)]
+
 ghost use Rattle.std.specs.Prelude.{◌≡◌, ◌++◌, ◌*◌, ◌≤◌, min, length, take};
 ghost use Rattle.text.specs.Text.{ascii, decimal, spaced};
 ghost use Rattle.text.specs.Wrote.{Wrote};

@@ -1,5 +1,7 @@
 // What the console does with plan records: the record of a function's plan for a file, and the lines that show what the report and the loader read.
 // Every public function here is proved, total and without a `requires`.
+#![tactic(auto)]
+
 ghost use Rattle.std.specs.Prelude.{◌≡◌, ◌+◌, ◌*◌, ◌≤◌, ◌<◌, length};
 ghost use Rattle.text.specs.Wrote.{Wrote};
 ghost use Rattle.session.specs.Sessions.{Line};

@@ -1,5 +1,7 @@
 // A designer's session: the unit, the bank, the queue and the callers' queues that commands work on; how it opens, and how a fresh unit or one from a file is taken into it.
 // Every public function here is proved, total and without a `requires`.
+#![tactic(auto)]
+
 ghost use Rattle.std.specs.Prelude.{◌≡◌, ◌≤◌, length};
 ghost use Rattle.text.specs.Wrote.{Wrote};
 ghost use Rattle.unit_file.specs.Read.{read_of};
@@ -13,7 +15,7 @@ use queue::Queue;
 use unit::{Answer, FunctionUnit, Outcome, Refusal};
 
 // Whether there is a unit, the unit, and what is at its issue port: the bank, the queue, and the port that callers share.
-#[derive(Drop)]
+#[derive(Clone, Copy)]
 pub struct Session {
     pub present: bool,
     pub unit: FunctionUnit,
@@ -23,7 +25,7 @@ pub struct Session {
 }
 
 // The session after a command, and how many bytes the answer has.
-#[derive(Drop)]
+#[derive(Clone, Copy)]
 pub struct Reply {
     pub session: Session,
     pub end: usize,

@@ -1,6 +1,8 @@
 // The simulator: `simulate Q UNITS` reads a unit file from standard input, however long, searches for the best plan of function Q, plays it for so many
 // time units, and prints the chart, or why there is none. What is read, found and printed is given by the contracts of the crates below; here the
 // arguments are put into a line of the console, which says what they are.
+#![tactic(auto)]
+
 use chart::Charted;
 use command::{Parsed, Request};
 use unit::{Answer, FunctionUnit, Outcome, Refusal, Tag};
@@ -86,7 +88,7 @@ fn obey(request: Request) {
 // The arguments.
 
 // Where an argument that was put into the line ends there, and how many bytes it has.
-#[derive(Drop)]
+#[derive(Clone, Copy)]
 struct Placed {
     end: usize,
     length: usize,

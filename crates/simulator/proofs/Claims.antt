@@ -4,7 +4,7 @@ use mathlib.Core.Path.{◌≡◌, refl, sym, ap, ap₂, ◌∙◌, subst, subst�
 use mathlib.Core.Bool.{true, not}
 use mathlib.Core.List.{List, [], ◌∷◌, ◌++◌}
 use native.Mathlib.Omega.{arith}
-use borrow.Author.Tests.{not_true, eqb-false}
+use borrow.Author.Tests.{not-true, eqb-false}
 use lib.Dec.{eqb}
 use lib.ListN.{length, replicate, take-append-drop}
 use lib.Seq.{length-take-le, take-append_seam}
@@ -70,7 +70,7 @@ read_gives u p e = go (read_answer u) refl e
     go : (a : Answer) → read_answer u ≡ a → handing a u.plan ≡ record { answer = Done; plan = p } → (u.plan ≡ p) × (u.plan.tag ≡ 0 → ⊥)
     go Done d e =
         let held = check_ok (not (eqb u.plan.tag 0)) NoPlan Done (check_next (sound_of u) NotSound _ d) in
-        (ap (λ (h : Handed). h.plan) e, eqb-false u.plan.tag 0 (not_true (eqb u.plan.tag 0) held))
+        (ap (λ (h : Handed). h.plan) e, eqb-false u.plan.tag 0 (not-true (eqb u.plan.tag 0) held))
     go (Refused why) d e = never_done (ap (λ (h : Handed). h.answer) e)
 
 -- Calls of which no edit is accepted

@@ -11,7 +11,7 @@ use native.Mathlib.Decide.{dec_lt}
 use native.Mathlib.Nat.{le_dest, mod-lt, div-add-mod', suc-mod, mod_self, mod-eq_of_lt, mul-add-mod_self_right, le_of_lt, le_refl}
 use native.Mathlib.Numerals.{add-one}
 use native.Mathlib.Omega.{arith}
-use borrow.Author.Tests.{eqb-true, eqb-false, not_true, not_false}
+use borrow.Author.Tests.{eqb-true, eqb-false, not-true, not-false}
 use lib.Dec.{eqb}
 use lib.ListN.{length, take}
 use Rattle.words.proofs.Tests.{by_test}
@@ -85,7 +85,7 @@ module _ (p : Plan) (holds : holds_cycle p ≡ true) where
   -- a unit with bit 0 is a start of the cycle
   start_is : (n : ℕ) → bit_of p (n % p.sum) ≡ false → FallsOn cycle n
   start_is n e =
-      let s = start_has cycle (n % p.sum) can (not_false _ (sym (bit_starts p (n % p.sum) (on_ring n)) ∙ e)) in
+      let s = start_has cycle (n % p.sum) can (not-false _ (sym (bit_starts p (n % p.sum) (on_ring n)) ∙ e)) in
       let k = s.index in
       let turns = start_at_turns_add cycle (n / p.sum) k in
       let first = start_at_take cycle k (le_of_lt s.inside) in
@@ -219,24 +219,24 @@ module _ (p : Plan) (holds : holds_cycle p ≡ true) where
     abbrev place_at_lem : ℕ → Place
     place_at_lem n = record { position = n % p.sum; bank = (course n).bank }
 
-    place_is_lem : (n : ℕ) → place_after u p n ≡ place_at_lem n
+    place_is : (n : ℕ) → place_after u p n ≡ place_at_lem n
     unfolding place_after events_below played
-    place_is_lem zero = λ i. record { position = sym (mod-eq_of_lt some) i; bank = empty }
-    place_is_lem (suc n) =
-        ap (λ (x : Place). onward (play_of u p x.position x.bank)) (place_is_lem n)
+    place_is zero = λ i. record { position = sym (mod-eq_of_lt some) i; bank = empty }
+    place_is (suc n) =
+        ap (λ (x : Place). onward (play_of u p x.position x.bank)) (place_is n)
         ∙ (λ i. record {
           position = (ap (λ (x : UnitPlayed). x.position) (played_is n) ∙ following_is n) i;
           bank = (ap (λ (x : UnitPlayed). x.bank) (played_is n) ∙ sym (bank_next n (told n))) i;
         })
 
     unit_is : (n : ℕ) → unit_after u p n ≡ playing Done u p (n % p.sum) (course n).bank
-    unit_is n = ap (λ (x : Place). play_of u p x.position x.bank) (place_is_lem n) ∙ played_is n
+    unit_is n = ap (λ (x : Place). play_of u p x.position x.bank) (place_is n) ∙ played_is n
 
     bank_is : (n : ℕ) → (place_after u p n).bank ≡ (course n).bank
-    bank_is n = ap (λ (x : Place). x.bank) (place_is_lem n)
+    bank_is n = ap (λ (x : Place). x.bank) (place_is n)
 
     bit_is : (n : ℕ) → bit_of p (place_after u p n).position ≡ bit_of p (n % p.sum)
-    bit_is n = ap (λ (x : Place). bit_of p x.position) (place_is_lem n)
+    bit_is n = ap (λ (x : Place). bit_of p x.position) (place_is n)
 
     started_is : (n : ℕ) → (unit_after u p n).started ≡ not (bit_of p (n % p.sum))
     started_is n = ap (λ (x : UnitPlayed). x.started) (unit_is n)
@@ -261,14 +261,14 @@ module _ (p : Plan) (holds : holds_cycle p ≡ true) where
 
     plays_at : (n : ℕ) → PlaysAt u p n
     plays_at n = record {
-      position = ap (λ (x : Place). x.position) (place_is_lem n);
+      position = ap (λ (x : Place). x.position) (place_is n);
       accepted = ap (λ (x : UnitPlayed). x.answer) (unit_is n);
       start = λ e. let b = sym (bit_is n) ∙ e in goes n (Start (tag_of p)) false b (ap (λ b. cond b Tick (Start (tag_of p))) b);
       tick = λ e. let b = sym (bit_is n) ∙ e in goes n Tick true b (ap (λ b. cond b Tick (Start (tag_of p))) b);
     }
 
     started_falls : (n : ℕ) → (unit_after u p n).started ≡ true → FallsOn cycle n
-    started_falls n e = start_is n (not_true _ (sym (started_is n) ∙ e))
+    started_falls n e = start_is n (not-true _ (sym (started_is n) ∙ e))
 
     pub never_plays : Plays u p
     never_plays = record {

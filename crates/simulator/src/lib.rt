@@ -1,5 +1,7 @@
 // The simulator: plays a plan's ring beside a bank, a time unit at each step. It stands on the library's contracts and laws alone.
 // Every public function here is proved, total and without a `requires`; the crate assumes nothing of its own.
+#![tactic(auto)]
+
 ghost use Rattle.std.specs.Prelude.{◌≡◌, ◌<◌};
 ghost use Rattle.collision.specs.Pipeline.{total};
 ghost use Rattle.plan_record.specs.Record.{Recordable, starts};
@@ -11,7 +13,7 @@ use controller::{Bank, Event};
 use unit::{Answer, FunctionUnit, Plan, Refusal, Tag};
 
 // What a step answers: whether a task has started, and the position and the bank for the next step.
-#[derive(Drop)]
+#[derive(Clone, Copy)]
 pub struct UnitPlayed {
     pub answer: Answer,
     pub started: bool,

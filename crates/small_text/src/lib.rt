@@ -1,5 +1,7 @@
 // What the console's `small` does: it tells the totals of a size of small tables, or takes the table of a number as the unit.
 // Every public function here is proved, total and without a `requires`.
+#![tactic(auto)]
+
 ghost use Rattle.std.specs.Prelude.{◌++◌, ◌+◌, ◌≤◌, length};
 ghost use Rattle.text.specs.Text.{decimal};
 ghost use Rattle.text.specs.Wrote.{Wrote, Put};

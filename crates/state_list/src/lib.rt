@@ -1,5 +1,7 @@
 // The states of a function's diagram, listed in the order in which they are first found. Every function here is proved; the public one is total and
 // without a `requires`.
+#![tactic(auto)]
+
 ghost use Rattle.std.specs.Prelude.{◌≡◌, ◌++◌, ◌≤◌, length, take, drop};
 ghost use Rattle.diagram.specs.Answers.{states_answer, states_out};
 

@@ -1,6 +1,8 @@
 // Every small table: one function, 1 or 2 segments, 1 to 6 columns. Each has a number, and a caller who counts from 0 on up to the count of a size meets
 // every table of it, each once (`EachOnce`, `EachMade`, specs/Claims.antt).
 // Every function here is proved, and every public one is total and without a `requires`; the crate assumes nothing of its own.
+#![tactic(auto)]
+
 ghost use Rattle.std.specs.Prelude.{◌≡◌, ◌≤◌};
 ghost use Rattle.unit.specs.Calls.{unit_of};
 ghost use Rattle.table_numbers.specs.Tables.{small_size, count_answer, small_table, small_table_answer, small_table_of};

@@ -1,6 +1,8 @@
 // Totals over every small table of a size: how many tables there are, how many have a best cycle at the bound, the largest average latency and the
 // first number that has it. They do not depend on which of several best cycles a search finds (`OneTotals`, crate total_claims).
 // Every function here is proved, and the public one is total and without a `requires`; the crate assumes nothing of its own.
+#![tactic(auto)]
+
 ghost use Rattle.std.specs.Prelude.{◌≡◌, cond, ◌*◌, ◌<◌, eqb, length};
 ghost use Rattle.unit.specs.Unit.{marked};
 ghost use Rattle.unit.specs.Calls.{tag_answer};
@@ -14,7 +16,7 @@ use unit::{Answer, FunctionUnit, Refusal, Tag};
 
 // The number of tables of a size, how many of them have a best cycle with S = bound × K, the largest S / K as a fraction in lowest terms, and the
 // first number that has it.
-#[derive(Drop)]
+#[derive(Clone, Copy)]
 pub struct SizeTotals {
     pub tables: u32,
     pub reaching: u32,
@@ -24,14 +26,14 @@ pub struct SizeTotals {
 }
 
 // The totals of a size, or why there are none.
-#[derive(Drop)]
+#[derive(Clone, Copy)]
 pub enum Totalled {
     Value(SizeTotals),
     Refused(Refusal),
 }
 
 // S and K of a table's best cycle, and 1 where S = bound × K.
-#[derive(Drop)]
+#[derive(Clone, Copy)]
 struct Average {
     sum: u32,
     count: u32,
@@ -39,7 +41,7 @@ struct Average {
 }
 
 // Of the tables so far: how many are at the bound, and S and K of the largest average with the first number that has it.
-#[derive(Drop)]
+#[derive(Clone, Copy)]
 struct Tally {
     reaching: u32,
     sum: u32,
@@ -47,7 +49,7 @@ struct Tally {
     first: u32,
 }
 
-#[derive(Drop)]
+#[derive(Clone, Copy)]
 struct Fraction {
     numerator: u32,
     denominator: u32,

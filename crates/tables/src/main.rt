@@ -1,5 +1,7 @@
 // Runs the calls on the tables of the papers and prints a line for each answer. The file stdout beside it holds the answers
 // that follow from the papers, worked out by hand.
+#![tactic(auto)]
+
 ghost use Rattle.std.specs.Prelude.{◌≡◌, length};
 
 use callers::{Counts, Served, Shared};

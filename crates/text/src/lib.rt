@@ -1,4 +1,6 @@
 // Text in lent bytes: words and numbers, one after the other. Every function here is proved and ends, and no public one has a `requires`.
+#![tactic(auto)]
+
 ghost use Rattle.std.specs.Prelude.{◌≡◌, ◌++◌, ◌+◌, ◌≤◌, ◌<◌, leb, length};
 ghost use Rattle.text.specs.Text.{ascii, decimal, spaced, placed, put_in, put_end};
 ghost use Rattle.text.specs.Wrote.{Wrote};

@@ -8,7 +8,7 @@ use native.Mathlib.Decide.{dec_lt, ℕ_discrete}
 use lib.Dec.{eqb, leb}
 use lib.ListN.{length, get_or}
 use lib.Pow.{pow_pos}
-use borrow.Author.Tests.{ne_eqb, eqb-false, leb-true, le-leb, not_true}
+use borrow.Author.Tests.{ne_eqb, eqb-false, leb-true, le-leb, not-true}
 use Rattle.words.specs.Bits.{is_set}
 use Rattle.words.specs.Below.{some_below}
 use Rattle.words.proofs.Tests.{nowhere, and_left, and_right, and_true, same_test, not_passed, by_test}
@@ -45,7 +45,7 @@ inside_means u h q s c e =
       leb-true c u.columns (and_right (leb s u.segments) _ t2),
     ))
     (λ t.
-    nowhere (sym (not_true (some_below 5 (λ q. some_below 17 (λ s. some_below 33 (λ c. strays u q s c)))) h)
+    nowhere (sym (not-true (some_below 5 (λ q. some_below 17 (λ s. some_below 33 (λ c. strays u q s c)))) h)
     ∙ some_intro 5 (λ q. some_below 17 (λ s. some_below 33 (λ c. strays u q s c))) q (omega arith)
     (some_intro 17 (λ s. some_below 33 (λ c. strays u q s c)) s (omega arith)
     (some_intro 33 (λ c. strays u q s c) c (omega arith) (and_true e (ap not t))))))
@@ -62,7 +62,7 @@ inside_test u h = ap not (not_passed (some_below 5 (λ q. some_below 17 (λ s. s
         let m = and_left (marked u a.at b.at d.at) _ d.passed in
         let n = and_right (marked u a.at b.at d.at) _ d.passed in
         let r = h a.at b.at d.at m in
-        nowhere (sym (not_true (leb a.at u.functions && (leb b.at u.segments && leb d.at u.columns)) n)
+        nowhere (sym (not-true (leb a.at u.functions && (leb b.at u.segments && leb d.at u.columns)) n)
         ∙ simp (le-leb a.at u.functions r.0, le-leb b.at u.segments r.1, le-leb d.at u.columns r.2))
 
 -- The same test of the words

@@ -1,6 +1,8 @@
 // A function unit: which segments a task of a function occupies in which column, and the plan that was last searched for.
 // Every function here is proved, total and without a `requires`. Only this crate knows how the marks are laid out: the
 // crates above go by `marked` (specs/Unit.antt) and by the columns that `columns_of` hands out.
+#![tactic(auto)]
+
 ghost use Rattle.std.specs.Prelude.{◌≡◌, ◌≤◌};
 ghost use Rattle.unit.specs.Inner.{Between, Beyond, Joins, Tested, Somewhere};
 ghost use Rattle.unit.specs.Numbers.{number_of, number_in};
@@ -8,16 +10,16 @@ ghost use Rattle.unit.specs.Unit.{inside, good_counts, sound_plan, sound_of, pla
 ghost use Rattle.unit.specs.Calls.{tested_by, no_plan, with_word, tag_answer, spot_answer, fresh_of, column_answer, column_of};
 
 // The number of a function, 1 to 4.
-#[derive(Drop)]
+#[derive(Clone, Copy)]
 pub struct Tag(pub u8);
 
 // The number of a segment, 1 to 16.
-#[derive(Drop)]
+#[derive(Clone, Copy)]
 pub struct Segment(pub u8);
 
 // A cycle of latencies for the function of the tag: count of them, their sum, and the latencies, after which all bytes
 // are 0. A tag of 0 means no plan, whatever the other fields hold.
-#[derive(Drop)]
+#[derive(Clone, Copy)]
 pub struct Plan {
     pub tag: u8,
     pub count: u16,
@@ -26,7 +28,7 @@ pub struct Plan {
 }
 
 // Word (tag - 1) * 32 + (column - 1) holds the marks of a tag in a column, bit r - 1 for segment r.
-#[derive(Drop)]
+#[derive(Clone, Copy)]
 pub struct FunctionUnit {
     pub functions: u8,
     pub segments: u8,
@@ -36,7 +38,7 @@ pub struct FunctionUnit {
 }
 
 // Why a call is refused: a case for each number, in the numbers' order.
-#[derive(Drop)]
+#[derive(Clone, Copy)]
 pub enum Refusal {
     NotSound,
     NoSuchTag,
@@ -61,14 +63,14 @@ pub enum Refusal {
     NoSmallTable,
 }
 
-#[derive(Drop)]
+#[derive(Clone, Copy)]
 pub enum Answer {
     Done,
     Refused(Refusal),
 }
 
 // The answer to a call that makes a unit, and the unit that it leaves.
-#[derive(Drop)]
+#[derive(Clone, Copy)]
 pub struct Outcome {
     pub answer: Answer,
     pub unit: FunctionUnit,

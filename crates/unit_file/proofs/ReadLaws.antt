@@ -5,7 +5,7 @@ use mathlib.Core.Bool.{Bool, true, false, not, ◌&&◌}
 use mathlib.Core.List.{List}
 use native.Mathlib.Nat.{mod-lt}
 use native.Mathlib.Omega.{arith}
-use borrow.Author.Tests.{leb-true, leb-false, lt-leb, le-leb, eqb-true, eq-eqb, ne_eqb, not_true}
+use borrow.Author.Tests.{leb-true, leb-false, lt-leb, le-leb, eqb-true, eq-eqb, ne_eqb, not-true}
 use lib.Dec.{leb, eqb}
 use lib.ListN.{length}
 use Rattle.words.specs.Bits.{is_set}
@@ -72,7 +72,7 @@ module _ (file : List ℕ) (n : Counted file) where
       some_none 33 (λ c. file_table file k r c && not (leb c (columns_in file))) (λ c _.
       not_passed (file_table file k r c && not (leb c (columns_in file))) (λ e.
       let m = file_mark file k r c (and_left (file_table file k r c) _ e) in
-      nowhere (sym (not_true (leb c (columns_in file)) (and_right (file_table file k r c) _ e)) ∙ le-leb c (columns_in file) (h k r c m))))))
+      nowhere (sym (not-true (leb c (columns_in file)) (and_right (file_table file k r c) _ e)) ∙ le-leb c (columns_in file) (h k r c m))))))
 
   -- a word of the tables that is not below 2 ^ columns has such a mark
   pub beyond_found : (i : ℕ) → i < functions_in file * segments_in file → word32 file (4 + 2 * functions_in file + 4 * i) < 2 ^ 32
@@ -125,7 +125,7 @@ pub header_offset : (file : List ℕ) (i : ℕ) → i < functions_in file → (O
 unfolding good_header
 header_offset file i l ne =
     not_passed (good_header file) (λ e.
-    nowhere (sym (not_true (some_below (functions_in file) (λ j. not (eqb (word16 file (4 + 2 * j)) (offset_of (functions_in file) (segments_in file) (j + 1))))) (and_right (eqb (byte_in file 3) 0) _ e))
+    nowhere (sym (not-true (some_below (functions_in file) (λ j. not (eqb (word16 file (4 + 2 * j)) (offset_of (functions_in file) (segments_in file) (j + 1))))) (and_right (eqb (byte_in file 3) 0) _ e))
     ∙ some_intro (functions_in file) (λ j. not (eqb (word16 file (4 + 2 * j)) (offset_of (functions_in file) (segments_in file) (j + 1)))) i l
     (ap not (ne_eqb (word16 file (4 + 2 * i)) (offset_of (functions_in file) (segments_in file) (i + 1)) ne))))
 
@@ -160,7 +160,7 @@ accepted_clean file e =
         counts = counted file (leb-true 4 (length file) (check_ok (leb 4 (length file)) BadLength _ e)) (check_ok g NotSound _ e1);
         size = eqb-true (length file) (file_length (functions_in file) (segments_in file)) (check_ok z BadLength _ e2);
       };
-      within = not_true (marks_beyond file) (check_ok (not (marks_beyond file)) MarkBeyondColumns _ e4);
+      within = not-true (marks_beyond file) (check_ok (not (marks_beyond file)) MarkBeyondColumns _ e4);
     }
 
 -- past the counts the rest is tried

@@ -6,7 +6,7 @@ use Prim.Native.Nat.{ℕ, ◌+◌, ◌-◌, ◌*◌, ◌^◌, ◌<◌}
 use native.Mathlib.Omega.{arith}
 use lib.Dec.{leb, eqb}
 use lib.ListN.{length}
-use borrow.Author.Tests.{le-leb, eq-eqb, eqb-true, not_true}
+use borrow.Author.Tests.{le-leb, eq-eqb, eqb-true, not-true}
 use Rattle.words.specs.Bits.{is_set}
 use Rattle.words.specs.Below.{some_below}
 use Rattle.words.proofs.Tests.{nowhere, and_left, and_right, and_true, same_test, by_test, not_passed}
@@ -109,7 +109,7 @@ module _ (f s c : ℕ) (T : Table) (good : good_counts f s c ≡ true) (counted 
           let out = and_right (file_table (file_of f s c T) k r x) (not (leb x (columns_in (file_of f s c T)))) h in
           let w = within x c (counted k r x (sym (table_at k r x) ∙ mark)).column in
           let e : leb x (columns_in (file_of f s c T)) ≡ true = ap (leb x) (file_head f s c T).columns ∙ le-leb x c w.most in
-          nowhere (sym (not_true (leb x (columns_in (file_of f s c T))) out) ∙ e)
+          nowhere (sym (not-true (leb x (columns_in (file_of f s c T))) out) ∙ e)
 
   pub file_answer : read_answer (file_of f s c T) ≡ Done
   unfolding read_answer
@@ -188,7 +188,7 @@ unfolding good_header
 header_offset b h k l =
     eqb-true (word16 b (4 + 2 * k)) (offset_of (functions_in b) (segments_in b) (k + 1))
     (by_test (eqb (word16 b (4 + 2 * k)) (offset_of (functions_in b) (segments_in b) (k + 1))) (λ e. e)
-    (λ e. nowhere (sym (not_true (some_below (functions_in b) wrong) (and_right (eqb (byte_in b 3) 0) _ h)) ∙ some_intro (functions_in b) wrong k l (ap not e))))
+    (λ e. nowhere (sym (not-true (some_below (functions_in b) wrong) (and_right (eqb (byte_in b 3) 0) _ h)) ∙ some_intro (functions_in b) wrong k l (ap not e))))
   where
     wrong : ℕ → Bool
     wrong i = not (eqb (word16 b (4 + 2 * i)) (offset_of (functions_in b) (segments_in b) (i + 1)))

@@ -1,5 +1,7 @@
 // Writes a unit as a file (the definitions and laws are in crate unit_file). Each word and each table goes to the front of a part of the output that is lent to its writer.
 // Every function here is proved; the public one is total and without a `requires`.
+#![tactic(auto)]
+
 ghost use Rattle.std.specs.Prelude.{◌≡◌, ◌+◌, ◌*◌, ◌≤◌, length};
 ghost use Rattle.words.specs.Bits.{is_set};
 ghost use Rattle.unit.specs.Unit.{marked};

@@ -1,6 +1,8 @@
 // Bits of 32-bit words: test, set and clear one, shift, count, find the next 0; a word as a byte; a number
 // within a range. Bit 0 is the lowest.
 // Every function here is proved, total and without a `requires`; the crate assumes nothing of its own.
+#![tactic(auto)]
+
 ghost use Rattle.std.specs.Prelude.{◌≡◌, ◌/◌, ◌%◌, ◌^◌};
 ghost use Rattle.words.specs.Bits.{is_set, set_bit, clear_bit, zero_from};
 ghost use Rattle.words.specs.Below.{inside, count_below};

@@ -17,7 +17,7 @@ use types.Logic.{Logic, sem}
 use contract.Monad.{Fun, fact}
 use contract.Running.{tables, tables_of}
 use types.Kit.{‵, raw, ◌⊛◌, ⋆, some, later, ◌$◌, ◌∵◌, !, qed, by, move, keep, drop, use1, split, join, pick, rewrite, fsplit, fsplit3, fjoin, fjoin3, feq_i, suffices, frame, await, done}
-use types.Run.{look, look_raw, init, store_raw, forget, stop, hop, fld, from, load, and_then, no_more_lem, of_opd, assigns, land, returns, enter, alloc1, alloc0, params1, pass1, pass0, free1, free0}
+use types.Run.{look, look_raw, init, store_raw, forget, stop, hop, fld, from, load, and_then, no_more, of_opd, assigns, land, returns, enter, alloc1, alloc0, params1, pass1, pass0, free1, free0}
 use types.Part.{whole, sub, look_in}
 use types.SemTy.{Body}
 use sound.WpLaws.{FmC, fm_of, WpFn-mono}
@@ -116,7 +116,7 @@ module _ {M : Type 1} {𝓤 : Ura M} (𝓛 : Logic 𝓤) (at_mem : Memory → SP
         -- [what the struct owns; its cell; the open borrow; obs; auth; the locals, the last first, each with what frees it; …]
         assigns ! (of_opd ! (load ! (from ! (hop ! (look ! 9 refl) (stop !))) (look_raw ! 1 refl))) (from ! (stop !)) (init ! 5 refl ((LL.lawful T-as-Bank.the_type L-as-Bank.the_laws 𝓛).typed bank _ g).0) $
         use1 𝓛 (raw ((Callee 𝓛 at_mem run).pre to)) asked $
-        calls_at ! fm (Callee 𝓛 at_mem run) known to (and_then ! (load ! (from ! (stop !)) (look ! 11 refl)) (and_then ! (load ! (from ! (stop !)) (look ! 5 refl)) (no_more_lem !))) (λ v.
+        calls_at ! fm (Callee 𝓛 at_mem run) known to (and_then ! (load ! (from ! (stop !)) (look ! 11 refl)) (and_then ! (load ! (from ! (stop !)) (look ! 5 refl)) (no_more !))) (λ v.
         use1 𝓛 (later (some (λ (r : Stepped). (‵ ftrue ⊛ ‵ ((T-as-Stepped.the_row).own_val r (v ∷ []))) ⊛ raw (ensured 𝓛 callee.ended (callee.clauses 𝓛 at_mem run) tt (u, (bank, tt)) tt r)))) (id⊢ 𝓤 _) $ await ! tt $ pick ! (λ r.
         split ! $ move ! (1 ∷ []) $ use1 𝓛 (raw (fact 𝓤 (Said r))) (said r) $ heard ! (Said r) (λ e. split ! $ drop ! $
         peeks ! T-as-Stepped.the_row (Is T-as-Stepped.the_row) (shows 𝓛 T-as-Stepped.the_row) r (v ∷ []) (λ is.

@@ -24,7 +24,7 @@ use types.Logic.{Logic, sem}
 use contract.Monad.{Fun, fact}
 use contract.Running.{tables, tables_of}
 use types.Kit.{Item, ‵, raw, ◌⊛◌, ⋆, some, later, Sq, runs, any_q, at_ret, ◌$◌, ◌∵◌, !, qed, by, move, drop, use1, split, join, pick, rewrite, fsplit, fjoin, suffices, frame, await, done}
-use types.Run.{look, look_raw, init, store, forget, stop, hop, fld, from, load, lit, and_then, no_more_lem, of_opd, bin, assigns, assigns_last, land, first, blocks, stays, leaves_loop, returns, enter, alloc1, alloc0, params1, pass1, pass0, free1, free0, exec, Below, again, loops}
+use types.Run.{look, look_raw, init, store, forget, stop, hop, fld, from, load, lit, and_then, no_more, of_opd, bin, assigns, assigns_last, land, first, blocks, stays, leaves_loop, returns, enter, alloc1, alloc0, params1, pass1, pass0, free1, free0, exec, Below, again, loops}
 use types.Part.{whole, sub, look_in}
 use sound.WpLaws.{FmC, fm_of, WpFn-mono}
 use denote.RattleType.{owns}
@@ -36,7 +36,7 @@ use denote.Builtin.{usize}
 use denote.Ref.{MutBor}
 use denote.Slice.{slice_ty, slice_val, MutSlice, heres, Room, mut_slice_vals, mut_slice_Tells, mut_slice_at, coded_holeys}
 use denote.Lend.{Held}
-use denote.Index.{row, place_is_lem, elem_out, elem_back, opens_slice, closes_slice}
+use denote.Index.{row, place_is, elem_out, elem_back, opens_slice, closes_slice}
 use denote.Signature.{plain}
 use denote.Steps.{owned, peeks, heard, nothing, only}
 use denote.Struct.Laws as LL
@@ -203,12 +203,12 @@ module _ {M : Type 1} {𝓤 : Ura M} (𝓛 : Logic 𝓤) (at_mem : Memory → SP
           rewrite ! 10 (λ (t : Bool). ‵ (fat full_share ty_bool l₅ 0 (vbool t))) e refl $ stays ! (load ! (from ! (stop !)) (look ! 10 refl)) $
           assigns ! (bin ! (load ! (from ! (stop !)) (look ! 12 refl)) (lit ! tt) (record { fits = byte_fits room.1 place })) (from ! (stop !)) (init ! 8 refl (tt, record { fits = byte_fits room.1 place })) $
           assigns ! (bin ! (load ! (from ! (fld ! refl (stop !))) (look_in ! 18 (sub ! 0 refl (whole !)))) (load ! (from ! (stop !)) (look ! 8 refl)) tt) (from ! (stop !)) (init ! 6 refl (tt, tt)) $
-          rewrite ! 6 (λ (p : ℕ). ‵ (fat full_share ty_ptr l₇ 0 (vptr b p))) (sym (place_is_lem 8 o j.0)) refl $
+          rewrite ! 6 (λ (p : ℕ). ‵ (fat full_share ty_ptr l₇ 0 (vptr b p))) (sym (place_is 8 o j.0)) refl $
           elem_out ! T.the_row (Is T.the_row) (shows 𝓛 T.the_row) (LL.vals T.the_type T'.the_laws) (LL.tells T.the_type T'.the_laws) full_share ys j.0 none b o place (λ g.
           assigns ! (of_opd ! (load ! (from ! (hop ! (look ! 8 refl) (stop !))) (look_raw ! 0 refl))) (from ! (stop !)) (init ! 6 refl ((LL.lawful T.the_type T'.the_laws 𝓛).typed taken _ g).0) $
           elem_back ! T.the_row full_share ys j.0 none (val taken ∷ []) b o place $
           nothing ! $ use1 𝓛 (raw ((Put 𝓛 at_mem run).pre (to-put j.0 (copied j.0) taken))) (goes-put j.0 (copied j.0) taken (fits_too j.1.0 n-fits) inside j.1.1 g) $
-          calls_at ! fm (Put 𝓛 at_mem run) known-put (to-put j.0 (copied j.0) taken) (and_then ! (load ! (from ! (stop !)) (look ! 15 refl)) (and_then ! (load ! (from ! (stop !)) (look ! 13 refl)) (and_then ! (load ! (from ! (stop !)) (look ! 5 refl)) (no_more_lem !)))) (λ w.
+          calls_at ! fm (Put 𝓛 at_mem run) known-put (to-put j.0 (copied j.0) taken) (and_then ! (load ! (from ! (stop !)) (look ! 15 refl)) (and_then ! (load ! (from ! (stop !)) (look ! 13 refl)) (and_then ! (load ! (from ! (stop !)) (look ! 5 refl)) (no_more !)))) (λ w.
           use1 𝓛 (later (some (λ (r : Records). (‵ ftrue ⊛ ‵ ((S.the_row).own_val r (w ∷ []))) ⊛ raw (ensured 𝓛 putting.ended (putting.clauses 𝓛 at_mem run) tt (copied j.0, (j.0, (taken, tt))) tt r)))) (id⊢ 𝓤 _) $ await ! tt $ pick ! (λ r.
           split ! $ move ! (1 ∷ []) $ use1 𝓛 (raw (fact 𝓤 (Held-then j.0 (copied j.0) taken r))) (held j.0 (copied j.0) taken r) $ heard ! (Held-then j.0 (copied j.0) taken r) (λ said. split ! $ drop ! $
           peeks ! S.the_row (Is S.the_row) (shows 𝓛 S.the_row) r (w ∷ []) (λ is.
@@ -252,7 +252,7 @@ module _ {M : Type 1} {𝓤 : Ura M} (𝓛 : Logic 𝓤) (at_mem : Memory → SP
         opens_slice ! tt T.the_row ys b o $ move ! (4 ∷ 5 ∷ 6 ∷ []) $ drop ! $ drop ! $ drop ! $
         -- [the row; the open borrow; obs; auth; room for _8; …]
         nothing ! $ use1 𝓛 (raw ((Empty 𝓛 at_mem run).pre to-empty)) goes-empty $
-        calls_at ! fm (Empty 𝓛 at_mem run) known-empty to-empty (no_more_lem !) (λ w.
+        calls_at ! fm (Empty 𝓛 at_mem run) known-empty to-empty (no_more !) (λ w.
         use1 𝓛 (later (some (λ (r : Records). (‵ ftrue ⊛ ‵ ((S.the_row).own_val r (w ∷ []))) ⊛ raw (ensured 𝓛 empty.ended (empty.clauses 𝓛 at_mem run) tt tt tt r)))) (id⊢ 𝓤 _) $ await ! tt $ pick ! (λ r.
         split ! $ move ! (1 ∷ []) $ use1 𝓛 (raw (fact 𝓤 (Began r))) (began r) $ heard ! (Began r) (λ said. split ! $ drop ! $
         peeks ! S.the_row (Is S.the_row) (shows 𝓛 S.the_row) r (w ∷ []) (λ is.

@@ -24,7 +24,7 @@ use types.Logic.{Logic, sem}
 use contract.Monad.{Fun, fact}
 use contract.Running.{tables, tables_of}
 use types.Kit.{Item, ‵, raw, ◌⊛◌, ⋆, some, later, Sq, runs, any_q, at_ret, ◌$◌, ◌∵◌, !, qed, by, move, drop, use1, split, join, pick, rewrite, fsplit, fjoin, feq_i, suffices, frame, await, done}
-use types.Run.{look, init, store, store_raw, forget, stop, hop, fld, from, load, lit, unit_lit, and_then, no_more_lem, of_opd, bin, assigns, assigns_last, land, first, blocks, stays, leaves_loop, returns, enter, alloc1, alloc0, params1, pass1, pass0, free1, free0, exec, Below, again, loops}
+use types.Run.{look, init, store, store_raw, forget, stop, hop, fld, from, load, lit, unit_lit, and_then, no_more, of_opd, bin, assigns, assigns_last, land, first, blocks, stays, leaves_loop, returns, enter, alloc1, alloc0, params1, pass1, pass0, free1, free0, exec, Below, again, loops}
 use types.Part.{whole, sub, look_in}
 use sound.WpLaws.{FmC, fm_of, WpFn-mono}
 use denote.RattleType.{owns}
@@ -36,7 +36,7 @@ use denote.Builtin.{usize}
 use denote.Ref.{MutBor}
 use denote.Slice.{slice_ty, slice_val, MutSlice, heres, Room, mut_slice_vals, mut_slice_Tells, mut_slice_at, coded_holeys}
 use denote.Lend.{Held}
-use denote.Index.{row, place_is_lem, elem_out, elem_put, opens_slice, closes_slice}
+use denote.Index.{row, place_is, elem_out, elem_put, opens_slice, closes_slice}
 use denote.Signature.{plain}
 use denote.Steps.{owned, peeks, heard, nothing, only}
 use denote.Struct.Laws as LL
@@ -186,7 +186,7 @@ module _ {M : Type 1} {𝓤 : Ura M} (𝓛 : Logic 𝓤) (at_mem : Memory → SP
           assigns ! (bin ! (load ! (from ! (stop !)) (look ! 12 refl)) (load ! (from ! (stop !)) (look ! 14 refl)) tt) (from ! (stop !)) (init ! 10 refl (tt, tt)) $
           rewrite ! 10 (λ (t : Bool). ‵ (fat full_share ty_bool l₅ 0 (vbool t))) e refl $ stays ! (load ! (from ! (stop !)) (look ! 10 refl)) $
           nothing ! $ use1 𝓛 (raw ((Take 𝓛 at_mem run).pre (to_take j.0))) (goes-take j.0 (fits_too j.1 n-fits) (reach less few refl)) $
-          calls_at ! fm (Take 𝓛 at_mem run) known-take (to_take j.0) (and_then ! (load ! (from ! (stop !)) (look ! 17 refl)) (and_then ! (load ! (from ! (stop !)) (look ! 13 refl)) (no_more_lem !))) (λ w.
+          calls_at ! fm (Take 𝓛 at_mem run) known-take (to_take j.0) (and_then ! (load ! (from ! (stop !)) (look ! 17 refl)) (and_then ! (load ! (from ! (stop !)) (look ! 13 refl)) (no_more !))) (λ w.
           use1 𝓛 (later (some (λ (r : Waiting). (‵ ftrue ⊛ ‵ ((T.the_row).own_val r (w ∷ []))) ⊛ raw (ensured 𝓛 taking.ended (taking.clauses 𝓛 at_mem run) tt (rs, (j.0, tt)) tt r)))) (id⊢ 𝓤 _) $ await ! tt $ pick ! (λ r.
           split ! $ move ! (1 ∷ []) $ use1 𝓛 (raw (fact 𝓤 (Taken j.0 r))) (taken j.0 r) $ heard ! (Taken j.0 r) (λ said. split ! $ drop ! $
           peeks ! T.the_row (Is T.the_row) (shows 𝓛 T.the_row) r (w ∷ []) (λ is.
@@ -196,7 +196,7 @@ module _ {M : Type 1} {𝓤 : Ura M} (𝓛 : Logic 𝓤) (at_mem : Memory → SP
           rewrite ! 8 (λ (v : Val). ‵ (fat full_share T'.mir l₆ 0 v)) same refl $
           assigns ! (bin ! (load ! (from ! (stop !)) (look ! 12 refl)) (lit ! tt) (record { fits = byte_fits room.1 place })) (from ! (stop !)) (init ! 6 refl (tt, record { fits = byte_fits room.1 place })) $
           assigns ! (bin ! (load ! (from ! (fld ! refl (stop !))) (look_in ! 18 (sub ! 0 refl (whole !)))) (load ! (from ! (stop !)) (look ! 6 refl)) tt) (from ! (stop !)) (init ! 4 refl (tt, tt)) $
-          rewrite ! 4 (λ (p : ℕ). ‵ (fat full_share ty_ptr l₈ 0 (vptr b p))) (sym (place_is_lem 8 o j.0)) refl $
+          rewrite ! 4 (λ (p : ℕ). ‵ (fat full_share ty_ptr l₈ 0 (vptr b p))) (sym (place_is 8 o j.0)) refl $
           elem_out ! T.the_row (Is T.the_row) (shows 𝓛 T.the_row) (LL.vals T.the_type T'.the_laws) (LL.tells T.the_type T'.the_laws) full_share (stored j.0) j.0 none b o to-place (λ _.
           assigns ! (of_opd ! (load ! (from ! (stop !)) (look ! 10 refl))) (from ! (hop ! (look ! 6 refl) (stop !))) (store_raw ! 0 refl ((LL.lawful T.the_type T'.the_laws 𝓛).typed r _ g).0) $
           move ! (1 ∷ []) $ drop ! $ owned ! T.the_row (Is T.the_row) (LL.makes T.the_type T'.the_plain 𝓛) r _ g $ move ! (1 ∷ 0 ∷ []) $ elem_put ! T.the_row full_share (stored j.0) j.0 r (val r ∷ []) b o to-place $

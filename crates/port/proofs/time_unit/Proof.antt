@@ -19,7 +19,7 @@ use types.Logic.{Logic, sem}
 use contract.Monad.{Fun, fact}
 use contract.Running.{tables, tables_of}
 use types.Kit.{‵, raw, ◌⊛◌, ⋆, some, later, Sq, runs, at_ret, ◌$◌, ◌∵◌, !, qed, by, move, drop, use1, use2, use3, split, join, pick, rewrite, fsplit, fjoin, feq_l, suffices, frame, await, done}
-use types.Run.{look, init, store, forget, stop, hop, fld, from, load, of_opd, addr, and_then, no_more_lem, assigns, land, returns, enter, alloc1, alloc0, params1, pass1, pass0, free1, free0}
+use types.Run.{look, init, store, forget, stop, hop, fld, from, load, of_opd, addr, and_then, no_more, assigns, land, returns, enter, alloc1, alloc0, params1, pass1, pass0, free1, free0}
 use types.Part.{agg, whole, sub, look_in}
 use types.Tokens.{lft_new, lft_end}
 use sound.WpLaws.{FmC, fm_of, WpFn-mono}
@@ -262,12 +262,12 @@ module _ {M : Type 1} {𝓤 : Ura M} (𝓛 : Logic 𝓤) (at_mem : Memory → SP
           let is-r = (LL.owed O.the_type O'.the_laws r _ is).0 in
           let ends = unit_lent u bank C turn ys counts.each r said in
           assigns ! (addr ! (from ! (fld ! refl (hop ! (look_in ! 22 (sub ! 0 refl (whole !))) (stop !))))) (from ! (stop !)) (init ! 4 refl (tt, tt)) $
-          assigns ! (agg ! (and_then ! (load ! (from ! (stop !)) (look ! 4 refl)) (and_then ! (load ! (from ! (fld ! refl (stop !))) (look_in ! 22 (sub ! 1 refl (whole !)))) (no_more_lem !)))) (from ! (stop !)) (init ! 2 refl (tt, (tt, (record { fits = room.0 }, tt)))) $
+          assigns ! (agg ! (and_then ! (load ! (from ! (stop !)) (look ! 4 refl)) (and_then ! (load ! (from ! (fld ! refl (stop !))) (look_in ! 22 (sub ! 1 refl (whole !)))) (no_more !)))) (from ! (stop !)) (init ! 2 refl (tt, (tt, (record { fits = room.0 }, tt)))) $
           lft_new ! tt (λ ν. move ! (1 ∷ 2 ∷ []) $
           use2 𝓛 (later (some (λ (δ : GName). ‵ ((MutSlice (named 0) (ν ∷ []) T.the_row).own_val (x δ ys) (s ∷ [])) ⊛ ‵ (LentAgain T.the_row κ (ν ∷ []) q γ b o δ ys)))) (lends_again T.the_row κ (ν ∷ []) q γ b o 𝓛 (named 0) (named 0) ys) $ await ! tt $ pick ! (λ δ. split ! $
           move ! (2 ∷ 0 ∷ []) $ use2 𝓛 (raw ((Storing 𝓛 at_mem run).pre (to-store r.records ν δ))) (goes-store r.records is-rs ν δ m-fits) $
           -- [what `store` asks; what is kept of the loan; _15; …]
-          calls_at ! fm (Storing 𝓛 at_mem run) known_store (to-store r.records ν δ) (and_then ! (load ! (from ! (stop !)) (look ! 2 refl)) (and_then ! (load ! (from ! (fld ! refl (stop !))) (look_in ! 14 (sub ! 1 refl (whole !)))) (and_then ! (load ! (from ! (stop !)) (look ! 18 refl)) (no_more_lem !)))) (λ v.
+          calls_at ! fm (Storing 𝓛 at_mem run) known_store (to-store r.records ν δ) (and_then ! (load ! (from ! (stop !)) (look ! 2 refl)) (and_then ! (load ! (from ! (fld ! refl (stop !))) (look_in ! 14 (sub ! 1 refl (whole !)))) (and_then ! (load ! (from ! (stop !)) (look ! 18 refl)) (no_more !)))) (λ v.
           use1 𝓛 (later (some (λ (t : Unit {0}). ((‵ (flft (ν ∷ []) full_share) ⊛ ‵ ftrue) ⊛ ‵ (unit.own_val t (v ∷ []))) ⊛ raw (ensured 𝓛 storing.ended (storing.clauses 𝓛 at_mem run) (ν ∷ [], tt) (x δ ys, (r.records, (m, tt))) tt t)))) (id⊢ 𝓤 _) $ await ! tt $ pick ! (λ t.
           split ! $ move ! (1 ∷ []) $ use1 𝓛 (some (λ (zs : List Waiting × (Unit {0} × (Unit {0} × Unit {0}))). ‵ (lasts storing.ended (ν ∷ [], tt) (x δ ys, (r.records, (m, tt))) zs) ⊛ raw (fact 𝓤 (Stored r.records zs.0)))) (id⊢ 𝓤 _) $ pick ! (λ zs.
           split ! $ move ! (1 ∷ []) $ heard ! (Stored r.records zs.0) (λ d. fsplit ! $ fsplit ! $ move ! (1 ∷ []) $ feq_l ! (λ l.
@@ -289,7 +289,7 @@ module _ {M : Type 1} {𝓤 : Ura M} (𝓛 : Logic 𝓤) (at_mem : Memory → SP
       works m-fits is-loaded =
           assigns ! (of_opd ! (load ! (from ! (fld ! refl (stop !))) (look_in ! 22 (sub ! 1 refl (whole !))))) (from ! (stop !)) (store ! 12 refl (tt, record { fits = room.0 })) $
           nothing ! $ use1 𝓛 (raw ((Working 𝓛 at_mem run).pre to-work)) (goes-work is-loaded) $
-          calls_at ! fm (Working 𝓛 at_mem run) known-unit-on to-work (and_then ! (load ! (from ! (stop !)) (look ! 31 refl)) (and_then ! (load ! (from ! (stop !)) (look ! 29 refl)) (and_then ! (load ! (from ! (stop !)) (look ! 27 refl)) (and_then ! (load ! (from ! (stop !)) (look ! 25 refl)) (and_then ! (load ! (from ! (stop !)) (look ! 13 refl)) (and_then ! (load ! (from ! (stop !)) (look ! 17 refl)) (and_then ! (load ! (from ! (stop !)) (look ! 21 refl)) (no_more_lem !)))))))) (λ v.
+          calls_at ! fm (Working 𝓛 at_mem run) known-unit-on to-work (and_then ! (load ! (from ! (stop !)) (look ! 31 refl)) (and_then ! (load ! (from ! (stop !)) (look ! 29 refl)) (and_then ! (load ! (from ! (stop !)) (look ! 27 refl)) (and_then ! (load ! (from ! (stop !)) (look ! 25 refl)) (and_then ! (load ! (from ! (stop !)) (look ! 13 refl)) (and_then ! (load ! (from ! (stop !)) (look ! 17 refl)) (and_then ! (load ! (from ! (stop !)) (look ! 21 refl)) (no_more !)))))))) (λ v.
           use1 𝓛 (later (some (λ (r : UnitOn). (‵ ftrue ⊛ ‵ ((O.the_row).own_val r (v ∷ []))) ⊛ raw (ensured 𝓛 working.ended (working.clauses 𝓛 at_mem run) tt (u, (bank, (C, (turn, (length ys, (loaded, (counts, tt))))))) tt r)))) (id⊢ 𝓤 _) $ await ! tt $ pick ! (λ r.
           split ! $ move ! (1 ∷ []) $ use1 𝓛 (raw (fact 𝓤 (Worked r))) (worked r) $ heard ! (Worked r) (λ said. split ! $ drop ! $
           peeks ! O.the_row (Is O.the_row) (shows 𝓛 O.the_row) r (v ∷ []) (λ is.
@@ -307,12 +307,12 @@ module _ {M : Type 1} {𝓤 : Ura M} (𝓛 : Logic 𝓤) (at_mem : Memory → SP
           (runs C' Λ En steps.t-3 (at_ret En Post))
       loads m-fits =
           assigns ! (addr ! (from ! (fld ! refl (hop ! (look_in ! 22 (sub ! 0 refl (whole !))) (stop !))))) (from ! (stop !)) (init ! 10 refl (tt, tt)) $
-          assigns ! (agg ! (and_then ! (load ! (from ! (stop !)) (look ! 10 refl)) (and_then ! (load ! (from ! (fld ! refl (stop !))) (look_in ! 22 (sub ! 1 refl (whole !)))) (no_more_lem !)))) (from ! (stop !)) (init ! 8 refl (tt, (tt, (record { fits = room.0 }, tt)))) $
+          assigns ! (agg ! (and_then ! (load ! (from ! (stop !)) (look ! 10 refl)) (and_then ! (load ! (from ! (fld ! refl (stop !))) (look_in ! 22 (sub ! 1 refl (whole !)))) (no_more !)))) (from ! (stop !)) (init ! 8 refl (tt, (tt, (record { fits = room.0 }, tt)))) $
           lft_new ! tt (λ ν. move ! (1 ∷ 2 ∷ []) $
           use2 𝓛 (later (some (λ (δ : GName). ‵ ((MutSlice (named 0) (ν ∷ []) T.the_row).own_val (x δ ys) (s ∷ [])) ⊛ ‵ (LentAgain T.the_row κ (ν ∷ []) q γ b o δ ys)))) (lends_again T.the_row κ (ν ∷ []) q γ b o 𝓛 (named 0) (named 0) ys) $ await ! tt $ pick ! (λ δ. split ! $
           move ! (2 ∷ 0 ∷ []) $ use2 𝓛 (raw ((Loading 𝓛 at_mem run).pre (to-load ν δ))) (goes_load ν δ m-fits) $
           -- [what `load` asks; what is kept of the loan; _15; …]
-          calls_at ! fm (Loading 𝓛 at_mem run) known-load (to-load ν δ) (and_then ! (load ! (from ! (stop !)) (look ! 8 refl)) (and_then ! (load ! (from ! (stop !)) (look ! 18 refl)) (no_more_lem !))) (λ v.
+          calls_at ! fm (Loading 𝓛 at_mem run) known-load (to-load ν δ) (and_then ! (load ! (from ! (stop !)) (look ! 8 refl)) (and_then ! (load ! (from ! (stop !)) (look ! 18 refl)) (no_more !))) (λ v.
           use1 𝓛 (later (some (λ (r : Records). ((‵ (flft (ν ∷ []) full_share) ⊛ ‵ ftrue) ⊛ ‵ ((S.the_row).own_val r (v ∷ []))) ⊛ raw (ensured 𝓛 loading.ended (loading.clauses 𝓛 at_mem run) (ν ∷ [], tt) (x δ ys, (m, tt)) tt r)))) (id⊢ 𝓤 _) $ await ! tt $ pick ! (λ r.
           split ! $ move ! (1 ∷ []) $ use1 𝓛 (some (λ (zs : List Waiting × (Unit {0} × Unit {0})). ‵ (lasts loading.ended (ν ∷ [], tt) (x δ ys, (m, tt)) zs) ⊛ raw (fact 𝓤 (Loaded r zs.0)))) (id⊢ 𝓤 _) $ pick ! (λ zs.
           split ! $ move ! (1 ∷ []) $ heard ! (Loaded r zs.0) (λ e. fsplit ! $ fsplit ! $ move ! (1 ∷ []) $ feq_l ! (λ l.
@@ -338,7 +338,7 @@ module _ {M : Type 1} {𝓤 : Ura M} (𝓛 : Logic 𝓤) (at_mem : Memory → SP
       begins =
           assigns ! (of_opd ! (load ! (from ! (fld ! refl (stop !))) (look_in ! 22 (sub ! 1 refl (whole !))))) (from ! (stop !)) (init ! 12 refl (tt, record { fits = room.0 })) $
           nothing ! $ use1 𝓛 (raw ((Reaching 𝓛 at_mem run).pre to-reach)) goes-reach $
-          calls_at ! fm (Reaching 𝓛 at_mem run) known-reach to-reach (and_then ! (load ! (from ! (stop !)) (look ! 27 refl)) (and_then ! (load ! (from ! (stop !)) (look ! 13 refl)) (no_more_lem !))) (λ v.
+          calls_at ! fm (Reaching 𝓛 at_mem run) known-reach to-reach (and_then ! (load ! (from ! (stop !)) (look ! 27 refl)) (and_then ! (load ! (from ! (stop !)) (look ! 13 refl)) (no_more !))) (λ v.
           use1 𝓛 (later (some (λ (r : ℕ). (‵ ftrue ⊛ ‵ (usize.own_val r (v ∷ []))) ⊛ raw (ensured 𝓛 reaching.ended (reaching.clauses 𝓛 at_mem run) tt (C, (length ys, tt)) tt r)))) (id⊢ 𝓤 _) $ await ! tt $ pick ! (λ r.
           split ! $ move ! (1 ∷ []) $ use1 𝓛 (raw (fact 𝓤 (Reached r))) (reached r) $ heard ! (Reached r) (λ said. split ! $ drop ! $
           peeks ! usize (Is usize) (shows 𝓛 usize) r (v ∷ []) (λ is.

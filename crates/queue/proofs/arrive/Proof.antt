@@ -21,7 +21,7 @@ use types.Logic.{Logic, sem}
 use contract.Monad.{Fun, fact}
 use contract.Running.{tables, tables_of}
 use types.Kit.{Item, ‵, raw, ◌⊛◌, ⋆, some, later, Sq, runs, at_ret, ◌$◌, ◌∵◌, !, qed, by, move, keep, drop, use1, use2, use3, split, join, pick, rewrite, fsplit, fjoin, feq_l, suffices, frame, await, done}
-use types.Run.{look, init, store, store_raw, forget, stop, hop, fld, from, load, lit, of_opd, bin, addr, and_then, no_more_lem, assigns, assigns_last, land, first, branches, skips, returns, enter, alloc1, alloc0, params1, pass1, pass0, free1, free0, exec}
+use types.Run.{look, init, store, store_raw, forget, stop, hop, fld, from, load, lit, of_opd, bin, addr, and_then, no_more, assigns, assigns_last, land, first, branches, skips, returns, enter, alloc1, alloc0, params1, pass1, pass0, free1, free0, exec}
 use types.Part.{agg, whole, sub, look_in}
 use types.Tokens.{lft_new, lft_end}
 use sound.WpLaws.{FmC, fm_of, WpFn-mono}
@@ -34,7 +34,7 @@ use denote.Builtin.{usize, u8, bool}
 use denote.Ref.{MutBor}
 use denote.Slice.{slice_ty, slice_val, MutSlice, heres, Room, mut_slice_vals, mut_slice_Tells, mut_slice_at, coded_holeys, finally}
 use denote.Lend.{Held}
-use denote.Index.{place_is_lem, elem_out, elem_put, opens_slice, closes_slice}
+use denote.Index.{place_is, elem_out, elem_put, opens_slice, closes_slice}
 use denote.Signature.{plain}
 use denote.Steps.{owned, peeks, heard, nothing, only}
 use denote.Struct.Laws as LL
@@ -214,7 +214,7 @@ module _ {M : Type 1} {𝓤 : Ura M} (𝓛 : Logic 𝓤) (at_mem : Memory → SP
           (λ less. let more = ltb→lt i r.count less in let within = arrival_place 32 u ys i w r e more in
           assigns ! (bin ! (load ! (from ! (stop !)) (look ! 22 refl)) (lit ! tt) (record { fits = byte_fits room.1 within })) (from ! (stop !)) (init ! 4 refl (tt, record { fits = byte_fits room.1 within })) $
           assigns ! (bin ! (load ! (from ! (fld ! refl (stop !))) (look_in ! 24 (sub ! 0 refl (whole !)))) (load ! (from ! (stop !)) (look ! 4 refl)) tt) (from ! (stop !)) (init ! 2 refl (tt, tt)) $
-          rewrite ! 2 (λ (p : ℕ). ‵ (fat full_share ty_ptr l₁₃ 0 (vptr b p))) (sym (place_is_lem 8 o i)) refl $
+          rewrite ! 2 (λ (p : ℕ). ‵ (fat full_share ty_ptr l₁₃ 0 (vptr b p))) (sym (place_is 8 o i)) refl $
           fsplit ! $ move ! (1 ∷ []) $ fsplit ! $ move ! (0 ∷ 1 ∷ 3 ∷ []) $ move ! (3 ∷ []) $ drop ! $
           -- [obs; the borrow; the token; _13; …]
           opens_slice ! tt T.the_row ys b o $ elem_out ! T.the_row (Is T.the_row) (shows 𝓛 T.the_row) (LL.vals T.the_type T'.the_laws) (LL.tells T.the_type T'.the_laws) full_share ys i none b o within (λ _.
@@ -242,7 +242,7 @@ module _ {M : Type 1} {𝓤 : Ura M} (𝓛 : Logic 𝓤) (at_mem : Memory → SP
       answers tag-Fits =
           assigns ! (of_opd ! (load ! (from ! (fld ! refl (stop !))) (look_in ! 24 (sub ! 1 refl (whole !))))) (from ! (stop !)) (store ! 12 refl (tt, record { fits = room.0 })) $
           nothing ! $ use1 𝓛 (raw ((Arriving 𝓛 at_mem run).pre to-arriving)) (goes-arriving tag-Fits) $
-          calls_at ! fm (Arriving 𝓛 at_mem run) known-arriving to-arriving (and_then ! (lit ! tt) (and_then ! (load ! (from ! (stop !)) (look ! 27 refl)) (and_then ! (load ! (from ! (stop !)) (look ! 13 refl)) (and_then ! (load ! (from ! (stop !)) (look ! 23 refl)) (and_then ! (load ! (from ! (fld ! refl (stop !))) (look_in ! 21 (sub ! 0 refl (whole !)))) (and_then ! (load ! (from ! (fld ! refl (stop !))) (look_in ! 17 (sub ! 0 refl (whole !)))) (no_more_lem !))))))) (λ v.
+          calls_at ! fm (Arriving 𝓛 at_mem run) known-arriving to-arriving (and_then ! (lit ! tt) (and_then ! (load ! (from ! (stop !)) (look ! 27 refl)) (and_then ! (load ! (from ! (stop !)) (look ! 13 refl)) (and_then ! (load ! (from ! (stop !)) (look ! 23 refl)) (and_then ! (load ! (from ! (fld ! refl (stop !))) (look_in ! 21 (sub ! 0 refl (whole !)))) (and_then ! (load ! (from ! (fld ! refl (stop !))) (look_in ! 17 (sub ! 0 refl (whole !)))) (no_more !))))))) (λ v.
           use1 𝓛 (later (some (λ (r : Arrival). (‵ ftrue ⊛ ‵ ((R.the_row).own_val r (v ∷ []))) ⊛ raw (ensured 𝓛 arriving.ended (arriving.clauses 𝓛 at_mem run) tt (32, (u, (length ys, (i, (w.tag, (seen.fit, tt)))))) tt r)))) (id⊢ 𝓤 _) $ await ! tt $ pick ! (λ r.
           split ! $ move ! (1 ∷ []) $ use1 𝓛 (raw (fact 𝓤 (Arrived r))) (arrived r) $ heard ! (Arrived r) (λ said. split ! $ drop ! $
           peeks ! R.the_row (Is R.the_row) (shows 𝓛 R.the_row) r (v ∷ []) (λ is.
@@ -256,12 +256,12 @@ module _ {M : Type 1} {𝓤 : Ura M} (𝓛 : Logic 𝓤) (at_mem : Memory → SP
           (runs C Λ En steps.t-3 (at_ret En Post))
       looks-over m-fits u-fits tag-Fits =
           assigns ! (addr ! (from ! (fld ! refl (hop ! (look_in ! 24 (sub ! 0 refl (whole !))) (stop !))))) (from ! (stop !)) (init ! 10 refl (tt, tt)) $
-          assigns ! (agg ! (and_then ! (load ! (from ! (stop !)) (look ! 10 refl)) (and_then ! (load ! (from ! (fld ! refl (stop !))) (look_in ! 24 (sub ! 1 refl (whole !)))) (no_more_lem !)))) (from ! (stop !)) (init ! 8 refl (tt, (tt, (record { fits = room.0 }, tt)))) $
+          assigns ! (agg ! (and_then ! (load ! (from ! (stop !)) (look ! 10 refl)) (and_then ! (load ! (from ! (fld ! refl (stop !))) (look_in ! 24 (sub ! 1 refl (whole !)))) (no_more !)))) (from ! (stop !)) (init ! 8 refl (tt, (tt, (record { fits = room.0 }, tt)))) $
           lft_new ! tt (λ ν. move ! (1 ∷ 2 ∷ []) $
           use2 𝓛 (later (some (λ (δ : GName). ‵ ((MutSlice (named 0) (ν ∷ []) T.the_row).own_val (x δ ys) (s ∷ [])) ⊛ ‵ (LentAgain T.the_row κ (ν ∷ []) q γ b o δ ys)))) (lends_again T.the_row κ (ν ∷ []) q γ b o 𝓛 (named 0) (named 0) ys) $ await ! tt $ pick ! (λ δ. split ! $
           move ! (2 ∷ 0 ∷ []) $ use2 𝓛 (raw ((Over 𝓛 at_mem run).pre (to-over ν δ))) (goes_over ν δ m-fits u-fits) $
           -- [what `look_over` asks; what is kept of the loan; _13; …]
-          calls_at ! fm (Over 𝓛 at_mem run) Known-over (to-over ν δ) (and_then ! (load ! (from ! (stop !)) (look ! 8 refl)) (and_then ! (load ! (from ! (stop !)) (look ! 18 refl)) (and_then ! (load ! (from ! (fld ! refl (stop !))) (look_in ! 26 (sub ! 0 refl (whole !)))) (no_more_lem !)))) (λ v.
+          calls_at ! fm (Over 𝓛 at_mem run) Known-over (to-over ν δ) (and_then ! (load ! (from ! (stop !)) (look ! 8 refl)) (and_then ! (load ! (from ! (stop !)) (look ! 18 refl)) (and_then ! (load ! (from ! (fld ! refl (stop !))) (look_in ! 26 (sub ! 0 refl (whole !)))) (no_more !)))) (λ v.
           use1 𝓛 (later (some (λ (r : Seen). ((‵ (flft (ν ∷ []) full_share) ⊛ ‵ ftrue) ⊛ ‵ ((S.the_row).own_val r (v ∷ []))) ⊛ raw (ensured 𝓛 over.ended (over.clauses 𝓛 at_mem run) (ν ∷ [], tt) (x δ ys, (m, (u.functions, tt))) tt r)))) (id⊢ 𝓤 _) $ await ! tt $ pick ! (λ r.
           split ! $ move ! (1 ∷ []) $ use1 𝓛 (some (λ (zs : List Waiting × (Unit {0} × (Unit {0} × Unit {0}))). ‵ (lasts over.ended (ν ∷ [], tt) (x δ ys, (m, (u.functions, tt))) zs) ⊛ raw (fact 𝓤 (Overseen r zs.0)))) (id⊢ 𝓤 _) $ pick ! (λ zs.
           split ! $ move ! (1 ∷ []) $ heard ! (Overseen r zs.0) (λ e. fsplit ! $ fsplit ! $ move ! (1 ∷ []) $ feq_l ! (λ l.
@@ -285,7 +285,7 @@ module _ {M : Type 1} {𝓤 : Ura M} (𝓛 : Logic 𝓤) (at_mem : Memory → SP
         move ! (28 ∷ 29 ∷ []) $
         assigns ! (of_opd ! (load ! (from ! (fld ! refl (stop !))) (look_in ! 24 (sub ! 1 refl (whole !))))) (from ! (stop !)) (init ! 12 refl (tt, record { fits = room.0 })) $
         nothing ! $ use1 𝓛 (raw ((Shown 𝓛 at_mem run).pre to-shown)) goes-shown $
-        calls_at ! fm (Shown 𝓛 at_mem run) known-shown to-shown (and_then ! (lit ! tt) (and_then ! (load ! (from ! (stop !)) (look ! 13 refl)) (and_then ! (load ! (from ! (stop !)) (look ! 23 refl)) (no_more_lem !)))) (λ v.
+        calls_at ! fm (Shown 𝓛 at_mem run) known-shown to-shown (and_then ! (lit ! tt) (and_then ! (load ! (from ! (stop !)) (look ! 13 refl)) (and_then ! (load ! (from ! (stop !)) (look ! 23 refl)) (no_more !)))) (λ v.
         use1 𝓛 (later (some (λ (r : ℕ). (‵ ftrue ⊛ ‵ (usize.own_val r (v ∷ []))) ⊛ raw (ensured 𝓛 shown.ended (shown.clauses 𝓛 at_mem run) tt (32, (length ys, (i, tt))) tt r)))) (id⊢ 𝓤 _) $ await ! tt $ pick ! (λ r.
         split ! $ move ! (1 ∷ []) $ use1 𝓛 (raw (fact 𝓤 (Showed r))) (showed r) $ heard ! (Showed r) (λ said. split ! $ drop ! $
         peeks ! usize (Is usize) (shows 𝓛 usize) r (v ∷ []) (λ is.

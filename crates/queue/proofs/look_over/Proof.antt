@@ -25,7 +25,7 @@ use types.Logic.{Logic, sem}
 use contract.Monad.{Fun, fact}
 use contract.Running.{tables, tables_of}
 use types.Kit.{Item, ‵, raw, ◌⊛◌, ⋆, some, later, Sq, runs, any_q, at_ret, ◌$◌, ◌∵◌, !, qed, by, move, keep, drop, use1, split, join, pick, rewrite, fsplit, fjoin, suffices, frame, await, done}
-use types.Run.{look, look_raw, init, store, forget, stop, hop, fld, from, load, lit, and_then, no_more_lem, of_opd, bin, assigns, assigns_last, land, first, blocks, stays, leaves_loop, returns, enter, alloc1, alloc0, params1, pass1, pass0, free1, free0, exec, Below, again, loops}
+use types.Run.{look, look_raw, init, store, forget, stop, hop, fld, from, load, lit, and_then, no_more, of_opd, bin, assigns, assigns_last, land, first, blocks, stays, leaves_loop, returns, enter, alloc1, alloc0, params1, pass1, pass0, free1, free0, exec, Below, again, loops}
 use types.Part.{whole, sub, look_in}
 use sound.WpLaws.{FmC, fm_of, WpFn-mono}
 use denote.RattleType.{owns}
@@ -37,7 +37,7 @@ use denote.Builtin.{usize, u8}
 use denote.Ref.{MutBor}
 use denote.Slice.{slice_ty, slice_val, MutSlice, heres, Room, mut_slice_vals, mut_slice_Tells, mut_slice_at, coded_holeys}
 use denote.Lend.{Held}
-use denote.Index.{row, place_is_lem, elem_out, elem_back, opens_slice, closes_slice}
+use denote.Index.{row, place_is, elem_out, elem_back, opens_slice, closes_slice}
 use denote.Signature.{plain}
 use denote.Steps.{owned, peeks, heard, nothing, only}
 use denote.Struct.Laws as LL
@@ -209,12 +209,12 @@ module _ {M : Type 1} {𝓤 : Ura M} (𝓛 : Logic 𝓤) (at_mem : Memory → SP
           rewrite ! 10 (λ (t : Bool). ‵ (fat full_share ty_bool l₆ 0 (vbool t))) e refl $ stays ! (load ! (from ! (stop !)) (look ! 10 refl)) $
           assigns ! (bin ! (load ! (from ! (stop !)) (look ! 12 refl)) (lit ! tt) (record { fits = byte_fits room.1 place })) (from ! (stop !)) (init ! 8 refl (tt, record { fits = byte_fits room.1 place })) $
           assigns ! (bin ! (load ! (from ! (fld ! refl (stop !))) (look_in ! 20 (sub ! 0 refl (whole !)))) (load ! (from ! (stop !)) (look ! 8 refl)) tt) (from ! (stop !)) (init ! 6 refl (tt, tt)) $
-          rewrite ! 6 (λ (p : ℕ). ‵ (fat full_share ty_ptr l₈ 0 (vptr b p))) (sym (place_is_lem 8 o j.0)) refl $
+          rewrite ! 6 (λ (p : ℕ). ‵ (fat full_share ty_ptr l₈ 0 (vptr b p))) (sym (place_is 8 o j.0)) refl $
           elem_out ! T.the_row (Is T.the_row) (shows 𝓛 T.the_row) (LL.vals T.the_type T'.the_laws) (LL.tells T.the_type T'.the_laws) full_share ys j.0 none b o place (λ g.
           assigns ! (of_opd ! (load ! (from ! (hop ! (look ! 8 refl) (stop !))) (look_raw ! 0 refl))) (from ! (stop !)) (init ! 6 refl ((LL.lawful T.the_type T'.the_laws 𝓛).typed taken _ g).0) $
           elem_back ! T.the_row full_share ys j.0 none (val taken ∷ []) b o place $
           nothing ! $ use1 𝓛 (raw ((Look 𝓛 at_mem run).pre (to-look j.0 (shows-up j.0) taken))) (goes-look j.0 (shows-up j.0) taken (fits-too j.1.0 n-fits) j.1.1 g) $
-          calls_at ! fm (Look 𝓛 at_mem run) known_look (to-look j.0 (shows-up j.0) taken) (and_then ! (load ! (from ! (stop !)) (look ! 15 refl)) (and_then ! (load ! (from ! (stop !)) (look ! 13 refl)) (and_then ! (load ! (from ! (stop !)) (look ! 5 refl)) (and_then ! (load ! (from ! (stop !)) (look ! 17 refl)) (no_more_lem !))))) (λ w.
+          calls_at ! fm (Look 𝓛 at_mem run) known_look (to-look j.0 (shows-up j.0) taken) (and_then ! (load ! (from ! (stop !)) (look ! 15 refl)) (and_then ! (load ! (from ! (stop !)) (look ! 13 refl)) (and_then ! (load ! (from ! (stop !)) (look ! 5 refl)) (and_then ! (load ! (from ! (stop !)) (look ! 17 refl)) (no_more !))))) (λ w.
           use1 𝓛 (later (some (λ (r : Seen). (‵ ftrue ⊛ ‵ ((S.the_row).own_val r (w ∷ []))) ⊛ raw (ensured 𝓛 looking.ended (looking.clauses 𝓛 at_mem run) tt (shows-up j.0, (j.0, (taken, (fs, tt)))) tt r)))) (id⊢ 𝓤 _) $ await ! tt $ pick ! (λ r.
           split ! $ move ! (1 ∷ []) $ use1 𝓛 (raw (fact 𝓤 (Looked j.0 (shows-up j.0) taken r))) (looked j.0 (shows-up j.0) taken r) $ heard ! (Looked j.0 (shows-up j.0) taken r) (λ said. split ! $ drop ! $
           peeks ! S.the_row (Is S.the_row) (shows 𝓛 S.the_row) r (w ∷ []) (λ is.
@@ -261,7 +261,7 @@ module _ {M : Type 1} {𝓤 : Ura M} (𝓛 : Logic 𝓤) (at_mem : Memory → SP
         opens_slice ! tt T.the_row ys b o $ move ! (4 ∷ 5 ∷ 6 ∷ []) $ drop ! $ drop ! $ drop ! $
         -- [the row; the open borrow; obs; auth; room for _9; …]
         nothing ! $ use1 𝓛 (raw ((Unseen 𝓛 at_mem run).pre to-unseen)) goes-unseen $
-        calls_at ! fm (Unseen 𝓛 at_mem run) known-unseen to-unseen (no_more_lem !) (λ w.
+        calls_at ! fm (Unseen 𝓛 at_mem run) known-unseen to-unseen (no_more !) (λ w.
         use1 𝓛 (later (some (λ (r : Seen). (‵ ftrue ⊛ ‵ ((S.the_row).own_val r (w ∷ []))) ⊛ raw (ensured 𝓛 unseen.ended (unseen.clauses 𝓛 at_mem run) tt tt tt r)))) (id⊢ 𝓤 _) $ await ! tt $ pick ! (λ r.
         split ! $ move ! (1 ∷ []) $ use1 𝓛 (raw (fact 𝓤 (Began r))) (began r) $ heard ! (Began r) (λ said. split ! $ drop ! $
         peeks ! S.the_row (Is S.the_row) (shows 𝓛 S.the_row) r (w ∷ []) (λ is.

@@ -38,7 +38,7 @@ use denote.Builtin.{usize}
 use denote.Ref.{MutBor}
 use denote.Slice.{slice_ty, slice_val, MutSlice, heres, Room, mut_slice_vals, mut_slice_Tells, mut_slice_at, coded_holeys}
 use denote.Lend.{Held}
-use denote.Index.{row, place_is_lem, elem_out, elem_back, elem_put, opens_slice, closes_slice}
+use denote.Index.{row, place_is, elem_out, elem_back, elem_put, opens_slice, closes_slice}
 use denote.Signature.{plain}
 use denote.Steps.{owned, nothing}
 use denote.Struct.Laws as LL
@@ -156,7 +156,7 @@ module _ {M : Type 1} {𝓤 : Ura M} (𝓛 : Logic 𝓤) (at_mem : Memory → SP
           -- list[i] is read
           assigns ! (bin ! (load ! (from ! (stop !)) (look ! 22 refl)) (lit ! tt) (record { fits = byte_fits room.1 next })) (from ! (stop !)) (init ! 14 refl (tt, record { fits = byte_fits room.1 next })) $
           assigns ! (bin ! (load ! (from ! (fld ! refl (stop !))) (look_in ! 28 (sub ! 0 refl (whole !)))) (load ! (from ! (stop !)) (look ! 14 refl)) tt) (from ! (stop !)) (init ! 12 refl (tt, tt)) $
-          rewrite ! 12 (λ (p : ℕ). ‵ (fat full_share ty_ptr l₉ 0 (vptr b p))) (sym (place_is_lem 8 o (suc j.0))) refl $
+          rewrite ! 12 (λ (p : ℕ). ‵ (fat full_share ty_ptr l₉ 0 (vptr b p))) (sym (place_is 8 o (suc j.0))) refl $
           elem_out ! T.the_row (Is T.the_row) (shows 𝓛 T.the_row) (LL.vals T.the_type T'.the_laws) (LL.tells T.the_type T'.the_laws) full_share (shift ys j.0) (suc j.0) none b o from_place (λ g.
           assigns ! (of_opd ! (load ! (from ! (hop ! (look ! 14 refl) (stop !))) (look_raw ! 0 refl))) (from ! (stop !)) (init ! 12 refl ((LL.lawful T.the_type T'.the_laws 𝓛).typed taken _ g).0) $
           elem_back ! T.the_row full_share (shift ys j.0) (suc j.0) none (val taken ∷ []) b o from_place $
@@ -165,7 +165,7 @@ module _ {M : Type 1} {𝓤 : Ura M} (𝓛 : Logic 𝓤) (at_mem : Memory → SP
           rewrite ! 8 (λ (m : ℕ). ‵ (fat full_share word l₁₁ 0 (vint w64 m))) (one_less j.0) refl $
           assigns ! (bin ! (load ! (from ! (stop !)) (look ! 8 refl)) (lit ! tt) (record { fits = byte_fits room.1 (lower next) })) (from ! (stop !)) (init ! 6 refl (tt, record { fits = byte_fits room.1 (lower next) })) $
           assigns ! (bin ! (load ! (from ! (fld ! refl (stop !))) (look_in ! 28 (sub ! 0 refl (whole !)))) (load ! (from ! (stop !)) (look ! 6 refl)) tt) (from ! (stop !)) (init ! 4 refl (tt, tt)) $
-          rewrite ! 4 (λ (p : ℕ). ‵ (fat full_share ty_ptr l₁₃ 0 (vptr b p))) (sym (place_is_lem 8 o j.0)) refl $
+          rewrite ! 4 (λ (p : ℕ). ‵ (fat full_share ty_ptr l₁₃ 0 (vptr b p))) (sym (place_is 8 o j.0)) refl $
           elem_out ! T.the_row (Is T.the_row) (shows 𝓛 T.the_row) (LL.vals T.the_type T'.the_laws) (LL.tells T.the_type T'.the_laws) full_share (shift ys j.0) j.0 none b o to-place (λ _.
           assigns ! (of_opd ! (load ! (from ! (stop !)) (look ! 12 refl))) (from ! (hop ! (look ! 6 refl) (stop !))) (store_raw ! 0 refl ((LL.lawful T.the_type T'.the_laws 𝓛).typed taken _ g).0) $
           move ! (1 ∷ []) $ drop ! $ owned ! T.the_row (Is T.the_row) (LL.makes T.the_type T'.the_plain 𝓛) taken _ g $ move ! (1 ∷ 0 ∷ []) $ elem_put ! T.the_row full_share (shift ys j.0) j.0 taken (val taken ∷ []) b o to-place $

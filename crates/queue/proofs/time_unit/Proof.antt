@@ -21,7 +21,7 @@ use types.Logic.{Logic, sem}
 use contract.Monad.{Fun, fact}
 use contract.Running.{tables, tables_of}
 use types.Kit.{Item, ‵, raw, ◌⊛◌, ⋆, some, later, Sq, runs, at_ret, ◌$◌, ◌∵◌, !, qed, by, move, keep, drop, use1, use2, use3, split, join, pick, rewrite, fsplit, fjoin, feq_l, suffices, frame, await, done}
-use types.Run.{look, init, store, store_raw, forget, stop, hop, fld, from, load, lit, of_opd, bin, addr, and_then, no_more_lem, assigns, assigns_last, land, land_last, first, branches, skips, returns, enter, alloc1, alloc0, params1, pass1, pass0, free1, free0, exec}
+use types.Run.{look, init, store, store_raw, forget, stop, hop, fld, from, load, lit, of_opd, bin, addr, and_then, no_more, assigns, assigns_last, land, land_last, first, branches, skips, returns, enter, alloc1, alloc0, params1, pass1, pass0, free1, free0, exec}
 use types.Part.{agg, whole, sub, look_in}
 use types.Tokens.{lft_new, lft_end}
 use sound.WpLaws.{FmC, fm_of, WpFn-mono}
@@ -252,11 +252,11 @@ module _ {M : Type 1} {𝓤 : Ura M} (𝓛 : Logic 𝓤) (at_mem : Memory → SP
           first ! $ branches ! (load ! (from ! (stop !)) (look ! 8 refl))
           (λ less. let gone = pass_removes 32 u bank ys i r e (ltb→lt r.count i less) in
           assigns ! (addr ! (from ! (fld ! refl (hop ! (look_in ! 24 (sub ! 0 refl (whole !))) (stop !))))) (from ! (stop !)) (init ! 4 refl (tt, tt)) $
-          assigns ! (agg ! (and_then ! (load ! (from ! (stop !)) (look ! 4 refl)) (and_then ! (load ! (from ! (fld ! refl (stop !))) (look_in ! 24 (sub ! 1 refl (whole !)))) (no_more_lem !)))) (from ! (stop !)) (init ! 2 refl (tt, (tt, (record { fits = room.0 }, tt)))) $
+          assigns ! (agg ! (and_then ! (load ! (from ! (stop !)) (look ! 4 refl)) (and_then ! (load ! (from ! (fld ! refl (stop !))) (look_in ! 24 (sub ! 1 refl (whole !)))) (no_more !)))) (from ! (stop !)) (init ! 2 refl (tt, (tt, (record { fits = room.0 }, tt)))) $
           lft_new ! tt (λ ν. move ! (1 ∷ 2 ∷ []) $
           use2 𝓛 (later (some (λ (δ : GName). ‵ ((MutSlice (named 0) (ν ∷ []) T.the_row).own_val (x δ ys) (s ∷ [])) ⊛ ‵ (LentAgain T.the_row κ (ν ∷ []) q γ b o δ ys)))) (lends_again T.the_row κ (ν ∷ []) q γ b o 𝓛 (named 0) (named 0) ys) $ await ! tt $ pick ! (λ δ. split ! $
           move ! (2 ∷ 0 ∷ []) $ use2 𝓛 (raw ((Removing 𝓛 at_mem run).pre (to-remove ν δ))) (goes-remove ν δ (gone.some, gone.most)) $
-          calls_at_last ! fm (Removing 𝓛 at_mem run) known-removing (to-remove ν δ) (and_then ! (load ! (from ! (stop !)) (look ! 2 refl)) (and_then ! (load ! (from ! (stop !)) (look ! 22 refl)) (no_more_lem !))) (λ v.
+          calls_at_last ! fm (Removing 𝓛 at_mem run) known-removing (to-remove ν δ) (and_then ! (load ! (from ! (stop !)) (look ! 2 refl)) (and_then ! (load ! (from ! (stop !)) (look ! 22 refl)) (no_more !))) (λ v.
           use1 𝓛 (later (some (λ (t : Waiting). ((‵ (flft (ν ∷ []) full_share) ⊛ ‵ ftrue) ⊛ ‵ ((T.the_row).own_val t (v ∷ []))) ⊛ raw (ensured 𝓛 removing.ended (removing.clauses 𝓛 at_mem run) (ν ∷ [], tt) (x δ ys, (i, tt)) tt t)))) (id⊢ 𝓤 _) $ await ! tt $ pick ! (λ t.
           split ! $ move ! (1 ∷ []) $ use1 𝓛 (some (λ (zs : List Waiting × (Unit {0} × Unit {0})). ‵ (lasts removing.ended (ν ∷ [], tt) (x δ ys, (i, tt)) zs) ⊛ raw (fact 𝓤 (Removed t zs.0)))) (id⊢ 𝓤 _) $ pick ! (λ zs.
           split ! $ move ! (1 ∷ []) $ heard ! (Removed t zs.0) (λ d. fsplit ! $ fsplit ! $ move ! (1 ∷ []) $ feq_l ! (λ l.
@@ -282,7 +282,7 @@ module _ {M : Type 1} {𝓤 : Ura M} (𝓛 : Logic 𝓤) (at_mem : Memory → SP
       answers is_seen =
           assigns ! (of_opd ! (load ! (from ! (fld ! refl (stop !))) (look_in ! 24 (sub ! 1 refl (whole !))))) (from ! (stop !)) (store ! 14 refl (tt, record { fits = room.0 })) $
           nothing ! $ use1 𝓛 (raw ((Passing 𝓛 at_mem run).pre to-passing)) (goes-passing (LL.owed S.the_type S'.the_laws seen _ is_seen).1.0) $
-          calls_at ! fm (Passing 𝓛 at_mem run) known-passing to-passing (and_then ! (lit ! tt) (and_then ! (load ! (from ! (stop !)) (look ! 29 refl)) (and_then ! (load ! (from ! (stop !)) (look ! 27 refl)) (and_then ! (load ! (from ! (stop !)) (look ! 15 refl)) (and_then ! (load ! (from ! (stop !)) (look ! 23 refl)) (and_then ! (load ! (from ! (fld ! refl (stop !))) (look_in ! 19 (sub ! 1 refl (whole !)))) (and_then ! (load ! (from ! (fld ! refl (stop !))) (look_in ! 19 (sub ! 0 refl (whole !)))) (no_more_lem !)))))))) (λ v.
+          calls_at ! fm (Passing 𝓛 at_mem run) known-passing to-passing (and_then ! (lit ! tt) (and_then ! (load ! (from ! (stop !)) (look ! 29 refl)) (and_then ! (load ! (from ! (stop !)) (look ! 27 refl)) (and_then ! (load ! (from ! (stop !)) (look ! 15 refl)) (and_then ! (load ! (from ! (stop !)) (look ! 23 refl)) (and_then ! (load ! (from ! (fld ! refl (stop !))) (look_in ! 19 (sub ! 1 refl (whole !)))) (and_then ! (load ! (from ! (fld ! refl (stop !))) (look_in ! 19 (sub ! 0 refl (whole !)))) (no_more !)))))))) (λ v.
           use1 𝓛 (later (some (λ (r : Pass). (‵ ftrue ⊛ ‵ ((R.the_row).own_val r (v ∷ []))) ⊛ raw (ensured 𝓛 passing.ended (passing.clauses 𝓛 at_mem run) tt (32, (u, (bank, (length ys, (i, (seen.first, (seen.fit, tt))))))) tt r)))) (id⊢ 𝓤 _) $ await ! tt $ pick ! (λ r.
           split ! $ move ! (1 ∷ []) $ use1 𝓛 (raw (fact 𝓤 (PassedOn r))) (passed_on r) $ heard ! (PassedOn r) (λ said. split ! $ drop ! $
           peeks ! R.the_row (Is R.the_row) (shows 𝓛 R.the_row) r (v ∷ []) (λ is.
@@ -296,12 +296,12 @@ module _ {M : Type 1} {𝓤 : Ura M} (𝓛 : Logic 𝓤) (at_mem : Memory → SP
           (runs C Λ En steps.t-3 (at_ret En Post))
       looks-over m-fits u-fits =
           assigns ! (addr ! (from ! (fld ! refl (hop ! (look_in ! 24 (sub ! 0 refl (whole !))) (stop !))))) (from ! (stop !)) (init ! 12 refl (tt, tt)) $
-          assigns ! (agg ! (and_then ! (load ! (from ! (stop !)) (look ! 12 refl)) (and_then ! (load ! (from ! (fld ! refl (stop !))) (look_in ! 24 (sub ! 1 refl (whole !)))) (no_more_lem !)))) (from ! (stop !)) (init ! 10 refl (tt, (tt, (record { fits = room.0 }, tt)))) $
+          assigns ! (agg ! (and_then ! (load ! (from ! (stop !)) (look ! 12 refl)) (and_then ! (load ! (from ! (fld ! refl (stop !))) (look_in ! 24 (sub ! 1 refl (whole !)))) (no_more !)))) (from ! (stop !)) (init ! 10 refl (tt, (tt, (record { fits = room.0 }, tt)))) $
           lft_new ! tt (λ ν. move ! (1 ∷ 2 ∷ []) $
           use2 𝓛 (later (some (λ (δ : GName). ‵ ((MutSlice (named 0) (ν ∷ []) T.the_row).own_val (x δ ys) (s ∷ [])) ⊛ ‵ (LentAgain T.the_row κ (ν ∷ []) q γ b o δ ys)))) (lends_again T.the_row κ (ν ∷ []) q γ b o 𝓛 (named 0) (named 0) ys) $ await ! tt $ pick ! (λ δ. split ! $
           move ! (2 ∷ 0 ∷ []) $ use2 𝓛 (raw ((Over 𝓛 at_mem run).pre (to-over ν δ))) (goes_over ν δ m-fits u-fits) $
           -- [what `look_over` asks; what is kept of the loan; _14; …]
-          calls_at ! fm (Over 𝓛 at_mem run) Known-over (to-over ν δ) (and_then ! (load ! (from ! (stop !)) (look ! 10 refl)) (and_then ! (load ! (from ! (stop !)) (look ! 20 refl)) (and_then ! (load ! (from ! (fld ! refl (stop !))) (look_in ! 28 (sub ! 0 refl (whole !)))) (no_more_lem !)))) (λ v.
+          calls_at ! fm (Over 𝓛 at_mem run) Known-over (to-over ν δ) (and_then ! (load ! (from ! (stop !)) (look ! 10 refl)) (and_then ! (load ! (from ! (stop !)) (look ! 20 refl)) (and_then ! (load ! (from ! (fld ! refl (stop !))) (look_in ! 28 (sub ! 0 refl (whole !)))) (no_more !)))) (λ v.
           use1 𝓛 (later (some (λ (r : Seen). ((‵ (flft (ν ∷ []) full_share) ⊛ ‵ ftrue) ⊛ ‵ ((S.the_row).own_val r (v ∷ []))) ⊛ raw (ensured 𝓛 over.ended (over.clauses 𝓛 at_mem run) (ν ∷ [], tt) (x δ ys, (m, (u.functions, tt))) tt r)))) (id⊢ 𝓤 _) $ await ! tt $ pick ! (λ r.
           split ! $ move ! (1 ∷ []) $ use1 𝓛 (some (λ (zs : List Waiting × (Unit {0} × (Unit {0} × Unit {0}))). ‵ (lasts over.ended (ν ∷ [], tt) (x δ ys, (m, (u.functions, tt))) zs) ⊛ raw (fact 𝓤 (Overseen r zs.0)))) (id⊢ 𝓤 _) $ pick ! (λ zs.
           split ! $ move ! (1 ∷ []) $ heard ! (Overseen r zs.0) (λ e. fsplit ! $ fsplit ! $ move ! (1 ∷ []) $ feq_l ! (λ l.
@@ -325,7 +325,7 @@ module _ {M : Type 1} {𝓤 : Ura M} (𝓛 : Logic 𝓤) (at_mem : Memory → SP
         move ! (30 ∷ 31 ∷ []) $
         assigns ! (of_opd ! (load ! (from ! (fld ! refl (stop !))) (look_in ! 24 (sub ! 1 refl (whole !))))) (from ! (stop !)) (init ! 14 refl (tt, record { fits = room.0 })) $
         nothing ! $ use1 𝓛 (raw ((Shown 𝓛 at_mem run).pre to-shown)) goes-shown $
-        calls_at ! fm (Shown 𝓛 at_mem run) known-shown to-shown (and_then ! (lit ! tt) (and_then ! (load ! (from ! (stop !)) (look ! 15 refl)) (and_then ! (load ! (from ! (stop !)) (look ! 23 refl)) (no_more_lem !)))) (λ v.
+        calls_at ! fm (Shown 𝓛 at_mem run) known-shown to-shown (and_then ! (lit ! tt) (and_then ! (load ! (from ! (stop !)) (look ! 15 refl)) (and_then ! (load ! (from ! (stop !)) (look ! 23 refl)) (no_more !)))) (λ v.
         use1 𝓛 (later (some (λ (r : ℕ). (‵ ftrue ⊛ ‵ (usize.own_val r (v ∷ []))) ⊛ raw (ensured 𝓛 shown.ended (shown.clauses 𝓛 at_mem run) tt (32, (length ys, (i, tt))) tt r)))) (id⊢ 𝓤 _) $ await ! tt $ pick ! (λ r.
         split ! $ move ! (1 ∷ []) $ use1 𝓛 (raw (fact 𝓤 (Showed r))) (showed r) $ heard ! (Showed r) (λ said. split ! $ drop ! $
         peeks ! usize (Is usize) (shows 𝓛 usize) r (v ∷ []) (λ is.

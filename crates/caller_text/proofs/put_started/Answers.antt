@@ -1,0 +1,9 @@
+-- `caller_text::put_started` meets its contract. Assumes nothing.
+use Rattle.session.proofs.LineLaws.{line_length_lem, line_put}
+use Rattle.caller_text.proofs.put_started.Goals as goal
+
+pub slice_bounds-put-end : goal.slice_bounds-put-end
+slice_bounds-put-end c = line_length_lem c.write_started-end.ensures
+
+pub returns : goal.returns
+returns c = line_put c.args.out.now c.write_started-end.ensures (c.put.ensures.value, c.put.ensures.out_after)

@@ -1,0 +1,31 @@
+-- `chart::rows::spaces_before` meets its contract. Assumes nothing.
+use Prim.Native.Nat.{◌/◌}
+use mathlib.Core.Logic.{⊎_elim}
+use mathlib.Core.Path.{sym, subst}
+use native.Mathlib.Omega.{arith}
+use borrow.Author.Rules.{rules}
+use Rattle.text.proofs.DecimalLaws.{decimal_length}
+use Rattle.chart.proofs.DigitLaws.{Counted, counted_start, counted_space, counted_digit, counted_few, counted_end}
+use Rattle.chart.proofs.rows.spaces_before.Goals as goal
+
+pub loop-room-init : goal.loop-room-init
+loop-room-init c = (counted_start _ _ c.requires (search rules), search rules)
+
+pub overflow_add-spaces : goal.overflow_add-spaces
+overflow_add-spaces c = omega (arith, counted_few _ _ _ _ _ c.loop-room.invariant.0, decimal_length c.args.most 10 (omega arith) (omega (arith, c.loop-room.invariant.1)))
+
+pub loop-room-smaller : goal.loop-room-smaller
+loop-room-smaller c = omega arith
+
+pub loop-room-preserved : goal.loop-room-preserved
+loop-room-preserved c =
+    let a = c.args in (
+      ⊎_elim
+          (λ w. subst (λ k. Counted a.number a.most (c.loop-room.rest / 10) (c.loop-room.room / 10) k) (sym w.1) (counted_space _ _ _ _ _ c.loop-room.invariant.0 c.loop-room-test.true w.0.taken))
+          (λ w. subst (λ k. Counted a.number a.most (c.loop-room.rest / 10) (c.loop-room.room / 10) k) (sym w.1) (counted_digit _ _ _ _ _ c.loop-room.invariant.0 c.loop-room-test.true w.0.left))
+          c.if-rest-lt10.branch,
+      c.loop-room.invariant.1,
+    )
+
+pub returns : goal.returns
+returns c = counted_end _ _ _ _ _ c.loop-room.invariant.0 (omega (arith, c.loop-room-test.false))

@@ -1,0 +1,25 @@
+-- `controller::register_of` meets its contract: the tag is the number of the arm that was taken, or none of them. Assumes nothing.
+use borrow.Author.Tests.{ne_eqb}
+use Rattle.controller.specs.Bank.{register}
+use Rattle.controller.proofs.register_of.Goals as goal
+
+pub returns-in-1 : goal.returns-in-1
+unfolding register
+returns-in-1 c = rw c.in-1.is
+
+pub returns-in-2 : goal.returns-in-2
+unfolding register
+returns-in-2 c = rw c.in-2.is
+
+pub returns-in-3 : goal.returns-in-3
+unfolding register
+returns-in-3 c = rw c.in-3.is
+
+pub returns-in-4 : goal.returns-in-4
+unfolding register
+returns-in-4 c = rw c.in-4.is
+
+pub returns-in_default : goal.returns-in_default
+unfolding register
+returns-in_default c =
+    simp (ne_eqb _ _ c.in_default.rest.0.0.0.1, ne_eqb _ _ c.in_default.rest.0.0.1, ne_eqb _ _ c.in_default.rest.0.1, ne_eqb _ _ c.in_default.rest.1)

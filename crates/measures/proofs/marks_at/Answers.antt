@@ -1,0 +1,39 @@
+-- `measures::marks_at` meets its contract. The loop's invariant: the marks of the columns passed are counted. Assumes nothing.
+use Prim.Native.Nat.{◌+◌}
+use mathlib.Core.Path.{◌≡◌, refl, sym, ap, ◌∙◌}
+use mathlib.Core.Logic.{⊎_elim}
+use native.Mathlib.Omega.{arith}
+use borrow.Author.Rules.{rules}
+use Rattle.words.specs.Below.{count_below}
+use Rattle.words.specs.Bits.{is_set}
+use lib.ListN.{get_or}
+use Rattle.words.proofs.BelowLaws.{count_most}
+use Rattle.measures.specs.Inner.{marks_at}
+use Rattle.measures.proofs.NumberLaws.{marks_before, marks_one, marks_zero}
+use Rattle.measures.proofs.marks_at.Goals as goal
+
+pub loop-column-init : goal.loop-column-init
+unfolding count_below
+loop-column-init c = (search rules, refl)
+
+pub overflow_add-marks : goal.overflow_add-marks
+overflow_add-marks c =
+    let a = c.args in
+    omega (arith, c.loop-column.invariant.1, count_most c.loop-column.column (λ k. is_set (get_or a.columns k 0) a.bit))
+
+pub loop-column-preserved : goal.loop-column-preserved
+loop-column-preserved c =
+    let more : c.if-has_mark.marks ≡ marks_before c.args.columns c.args.bit (c.loop-column.column + 1) = let a = c.args in
+    ⊎_elim
+    (λ w.
+    w.1 ∙ ap (λ n. n + 1) c.loop-column.invariant.1 ∙ marks_one a.columns a.bit c.loop-column.column (sym c.has_mark.ensures ∙ w.0.taken))
+    (λ w. w.1 ∙ c.loop-column.invariant.1 ∙ marks_zero a.columns a.bit c.loop-column.column (sym c.has_mark.ensures ∙ w.0.left))
+    c.if-has_mark.branch in
+    (search rules, more)
+
+pub returns : goal.returns
+unfolding marks_at
+returns c =
+    let a = c.args in
+    let e : c.loop-column.column ≡ 32 = omega (arith, c.loop-column-test.false) in
+    c.loop-column.invariant.1 ∙ ap (marks_before a.columns a.bit) e

@@ -1,0 +1,7 @@
+-- `unit::number_in` meets its contract. Assumes nothing.
+use mathlib.Core.Path.{sym, ap, ◌∙◌}
+use Rattle.unit.specs.Numbers.{number_in}
+use Rattle.unit.proofs.number_in.Goals as goal
+
+pub returns-in-Refused : goal.returns-in-Refused
+returns-in-Refused c = c.number.ensures ∙ sym (ap number_in c.in-Refused.is)
