@@ -1,7 +1,6 @@
 -- `measures::marks_at` meets its contract. The loop's invariant: the marks of the columns passed are counted. Assumes nothing.
 use Prim.Native.Nat.{◌+◌}
 use mathlib.Core.Path.{◌≡◌, refl, sym, ap, ◌∙◌}
-use mathlib.Core.Logic.{⊎_elim}
 use native.Mathlib.Omega.{arith}
 use borrow.Author.Rules.{rules}
 use Rattle.words.specs.Below.{count_below}
@@ -11,6 +10,7 @@ use Rattle.words.proofs.BelowLaws.{count_most}
 use Rattle.measures.specs.Inner.{marks_at}
 use Rattle.measures.proofs.NumberLaws.{marks_before, marks_one, marks_zero}
 use Rattle.measures.proofs.marks_at.Goals as goal
+use Rattle.measures.proofs.marks_at.Goals.{then-has_mark, else-has_mark}
 
 pub loop-column-init : goal.loop-column-init
 unfolding count_below
@@ -24,11 +24,10 @@ overflow_add-marks c =
 pub loop-column-preserved : goal.loop-column-preserved
 loop-column-preserved c =
     let more : c.if-has_mark.marks ≡ marks_before c.args.columns c.args.bit (c.loop-column.column + 1) = let a = c.args in
-    ⊎_elim
-    (λ w.
-    w.1 ∙ ap (λ n. n + 1) c.loop-column.invariant.1 ∙ marks_one a.columns a.bit c.loop-column.column (sym c.has_mark.ensures ∙ w.0.taken))
-    (λ w. w.1 ∙ c.loop-column.invariant.1 ∙ marks_zero a.columns a.bit c.loop-column.column (sym c.has_mark.ensures ∙ w.0.left))
-    c.if-has_mark.branch in
+    elim c.if-has_mark.branch [
+        then-has_mark w ↦ w.marks-is ∙ ap (λ n. n + 1) c.loop-column.invariant.1 ∙ marks_one a.columns a.bit c.loop-column.column (sym c.has_mark.ensures ∙ w.if-has_mark.true)
+        | else-has_mark w ↦ w.marks-is ∙ c.loop-column.invariant.1 ∙ marks_zero a.columns a.bit c.loop-column.column (sym c.has_mark.ensures ∙ w.if-has_mark.false)
+    ] in
     (search rules, more)
 
 pub returns : goal.returns

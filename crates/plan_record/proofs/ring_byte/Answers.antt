@@ -1,9 +1,9 @@
 -- `plan_record::ring_byte` meets its contract. The loop's invariant: the bits passed are made. Assumes nothing.
 use mathlib.Core.Path.{◌∙◌, sym}
-use mathlib.Core.Logic.{⊎_elim}
 use native.Mathlib.Omega.{arith}
 use Rattle.plan_record.proofs.TurnLaws.{turn_first, turn_start, turn_tick, turn_inside, turn_small, turn_byte, turn_reached}
 use Rattle.plan_record.proofs.ring_byte.Goals as goal
+use Rattle.plan_record.proofs.ring_byte.Goals.{then-starts_here, else-starts_here}
 
 pub loop-bit-init : goal.loop-bit-init
 loop-bit-init c = (c.requires.0, turn_first _ _ _ _ c.requires.1)
@@ -32,10 +32,10 @@ pub loop-bit-preserved : goal.loop-bit-preserved
 loop-bit-preserved c =
     (
       c.loop-bit.invariant.0,
-      ⊎_elim
-          (λ w. turn_start _ _ c.loop-bit.bit _ c.loop-bit.passed c.loop-bit.start c.loop-bit.invariant.1 (omega arith) _ _ _ (sym c.starts_here.ensures ∙ w.0.taken) w.2 w.3 w.4)
-          (λ w. turn_tick _ _ c.loop-bit.bit _ c.loop-bit.passed c.loop-bit.start c.loop-bit.invariant.1 (omega arith) _ _ _ (sym c.starts_here.ensures ∙ w.0.left) (w.2 ∙ w.1.ensures) w.3 w.4)
-          c.if-starts_here.branch,
+      elim c.if-starts_here.branch [
+        then-starts_here w ↦ turn_start _ _ c.loop-bit.bit _ c.loop-bit.passed c.loop-bit.start c.loop-bit.invariant.1 (omega arith) _ _ _ (sym c.starts_here.ensures ∙ w.if-starts_here.true) w.byte-is w.passed-is w.start-is
+        | else-starts_here w ↦ turn_tick _ _ c.loop-bit.bit _ c.loop-bit.passed c.loop-bit.start c.loop-bit.invariant.1 (omega arith) _ _ _ (sym c.starts_here.ensures ∙ w.if-starts_here.false) (w.byte-is ∙ w.set-byte.ensures) w.passed-is w.start-is
+    ],
     )
 
 pub overflow_cast-made : goal.overflow_cast-made

@@ -13,10 +13,10 @@ loop-n-init c =
     (search rules, playing_start c.fresh-fresh.result.unit a.calls.now a.out.now a.work.now)
 
 pub overflow_mul-at : goal.overflow_mul-at
-overflow_mul-at c = omega (arith, c.well-formed)
+overflow_mul-at c = omega (arith, c.well_formed)
 
 pub overflow_add-end : goal.overflow_add-end
-overflow_add-end c = omega (arith, c.well-formed)
+overflow_add-end c = omega (arith, c.well_formed)
 
 pub loop-n-preserved : goal.loop-n-preserved
 loop-n-preserved c =

@@ -2,13 +2,13 @@
 use borrow.Author.Rules.{rules}
 use Prim.Native.Nat.{◌*◌, ◌≤◌}
 use mathlib.Core.Path.{◌≡◌, sym, ap, ◌∙◌}
-use mathlib.Core.Logic.{⊎_elim}
 use native.Mathlib.Omega.{arith}
 use native.Mathlib.Nat.{mul-le-mul}
 use Rattle.words.specs.Bits.{set_bit}
 use Rattle.table_numbers.specs.Inner.{column_word}
 use Rattle.table_numbers.proofs.FillLaws.{column_start, column_set, column_unset, column_small}
 use Rattle.table_numbers.proofs.column_word.Goals as goal
+use Rattle.table_numbers.proofs.column_word.Goals.{then-test, else-test}
 
 pub loop-i-init : goal.loop-i-init
 loop-i-init c = let a = c.args in (search rules, column_start a.columns a.number a.column)
@@ -28,10 +28,10 @@ loop-i-preserved c =
     let a = c.args in
     let t = sym c.test.ensures in (
       search rules,
-      ⊎_elim
-          (λ w. w.2 ∙ w.1.ensures ∙ ap (λ m. set_bit m c.loop-i.i) c.loop-i.invariant.1 ∙ column_set a.columns a.number a.column c.loop-i.i (omega arith) (t ∙ w.0.taken))
-          (λ w. w.1 ∙ c.loop-i.invariant.1 ∙ column_unset a.columns a.number a.column c.loop-i.i (t ∙ w.0.left))
-          c.if-test.branch,
+      elim c.if-test.branch [
+        then-test w ↦ w.marks-is ∙ w.set-marks.ensures ∙ ap (λ m. set_bit m c.loop-i.i) c.loop-i.invariant.1 ∙ column_set a.columns a.number a.column c.loop-i.i (omega arith) (t ∙ w.if-test.true)
+        | else-test w ↦ w.marks-is ∙ c.loop-i.invariant.1 ∙ column_unset a.columns a.number a.column c.loop-i.i (t ∙ w.if-test.false)
+    ],
     )
 
 pub overflow_cast-result : goal.overflow_cast-result

@@ -1,7 +1,6 @@
 -- `unit_writer::segment_word` meets its contract. The loop's invariant: the bits of the columns passed are noted. Assumes nothing.
 use Prim.Native.Nat.{◌+◌}
 use mathlib.Core.Path.{◌≡◌, refl, sym, ap, ◌∙◌}
-use mathlib.Core.Logic.{⊎_elim}
 use native.Mathlib.Omega.{arith}
 use borrow.Author.Rules.{rules}
 use Rattle.words.specs.Bits.{set_bit}
@@ -9,6 +8,7 @@ use Rattle.words.specs.Below.{word_below}
 use Rattle.words.proofs.BelowLaws.{word_one, word_none}
 use Rattle.unit_file.specs.InnerWrite.{column_mark}
 use Rattle.unit_writer.proofs.segment_word.Goals as goal
+use Rattle.unit_writer.proofs.segment_word.Goals.{then-has_mark, else-has_mark}
 
 pub loop-column-init : goal.loop-column-init
 unfolding word_below
@@ -18,10 +18,10 @@ pub loop-column-preserved : goal.loop-column-preserved
 loop-column-preserved c =
     let more : c.if-has_mark.word ≡ word_below (c.loop-column.column + 1) (column_mark c.args.columns c.args.segment) = let a = c.args in
     let f = column_mark a.columns a.segment in
-    ⊎_elim
-    (λ w. w.2 ∙ w.1.ensures ∙ ap (λ v. set_bit v c.loop-column.column) c.loop-column.invariant.1 ∙ word_one c.loop-column.column f c.loop-column-test.true (sym c.has_mark.ensures ∙ w.0.taken))
-    (λ w. w.1 ∙ c.loop-column.invariant.1 ∙ word_none c.loop-column.column f (sym c.has_mark.ensures ∙ w.0.left))
-    c.if-has_mark.branch in
+    elim c.if-has_mark.branch [
+        then-has_mark w ↦ w.word-is ∙ w.set-word.ensures ∙ ap (λ v. set_bit v c.loop-column.column) c.loop-column.invariant.1 ∙ word_one c.loop-column.column f c.loop-column-test.true (sym c.has_mark.ensures ∙ w.if-has_mark.true)
+        | else-has_mark w ↦ w.word-is ∙ c.loop-column.invariant.1 ∙ word_none c.loop-column.column f (sym c.has_mark.ensures ∙ w.if-has_mark.false)
+    ] in
     (search rules, more)
 
 pub returns : goal.returns

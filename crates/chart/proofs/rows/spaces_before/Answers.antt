@@ -1,12 +1,12 @@
 -- `chart::rows::spaces_before` meets its contract. Assumes nothing.
 use Prim.Native.Nat.{◌/◌}
-use mathlib.Core.Logic.{⊎_elim}
 use mathlib.Core.Path.{sym, subst}
 use native.Mathlib.Omega.{arith}
 use borrow.Author.Rules.{rules}
 use Rattle.text.proofs.DecimalLaws.{decimal_length}
 use Rattle.chart.proofs.DigitLaws.{Counted, counted_start, counted_space, counted_digit, counted_few, counted_end}
 use Rattle.chart.proofs.rows.spaces_before.Goals as goal
+use Rattle.chart.proofs.rows.spaces_before.Goals.{then-rest-lt10, else-rest-lt10}
 
 pub loop-room-init : goal.loop-room-init
 loop-room-init c = (counted_start _ _ c.requires (search rules), search rules)
@@ -20,10 +20,10 @@ loop-room-smaller c = omega arith
 pub loop-room-preserved : goal.loop-room-preserved
 loop-room-preserved c =
     let a = c.args in (
-      ⊎_elim
-          (λ w. subst (λ k. Counted a.number a.most (c.loop-room.rest / 10) (c.loop-room.room / 10) k) (sym w.1) (counted_space _ _ _ _ _ c.loop-room.invariant.0 c.loop-room-test.true w.0.taken))
-          (λ w. subst (λ k. Counted a.number a.most (c.loop-room.rest / 10) (c.loop-room.room / 10) k) (sym w.1) (counted_digit _ _ _ _ _ c.loop-room.invariant.0 c.loop-room-test.true w.0.left))
-          c.if-rest-lt10.branch,
+      elim c.if-rest-lt10.branch [
+        then-rest-lt10 w ↦ subst (λ k. Counted a.number a.most (c.loop-room.rest / 10) (c.loop-room.room / 10) k) (sym w.spaces-is) (counted_space _ _ _ _ _ c.loop-room.invariant.0 c.loop-room-test.true w.if-rest-lt10.true)
+        | else-rest-lt10 w ↦ subst (λ k. Counted a.number a.most (c.loop-room.rest / 10) (c.loop-room.room / 10) k) (sym w.spaces-is) (counted_digit _ _ _ _ _ c.loop-room.invariant.0 c.loop-room-test.true w.if-rest-lt10.false)
+    ],
       c.loop-room.invariant.1,
     )
 

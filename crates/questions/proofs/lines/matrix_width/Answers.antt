@@ -1,6 +1,5 @@
 -- `questions::lines::matrix_width` meets its contract. The loop's invariant: the greatest width of the rows passed is kept. Assumes nothing.
 use mathlib.Core.Path.{◌≡◌, refl, ap, ◌∙◌}
-use mathlib.Core.Logic.{⊎_elim}
 use Prim.Native.Nat.{◌+◌}
 use native.Mathlib.Omega.{arith}
 use Rattle.words.specs.Below.{max_below}
@@ -9,6 +8,7 @@ use Rattle.questions.specs.Replies.{matrix_width}
 use Rattle.questions.proofs.WidthLaws.{row_width, widest_kept, widest_new}
 use borrow.Author.Rules.{rules}
 use Rattle.questions.proofs.lines.matrix_width.Goals as goal
+use Rattle.questions.proofs.lines.matrix_width.Goals.{then-widest-columns, else-widest-columns}
 
 pub loop-tag-init : goal.loop-tag-init
 unfolding max_below
@@ -17,10 +17,10 @@ loop-tag-init c = (search rules, refl)
 pub loop-tag-preserved : goal.loop-tag-preserved
 loop-tag-preserved c =
     let more : c.if-widest-columns.widest ≡ max_below (c.loop-tag.tag + 1) (row_width (marked c.args.u) c.args.r.0) = let a = c.args in
-    ⊎_elim
-    (λ b. b.1 ∙ c.row_width-columns.ensures ∙ widest_new (marked a.u) a.r.0 c.loop-tag.tag (omega (arith, c.loop-tag.invariant.1, c.row_width-columns.ensures, b.0.taken)))
-    (λ b. b.1 ∙ c.loop-tag.invariant.1 ∙ widest_kept (marked a.u) a.r.0 c.loop-tag.tag (omega (arith, c.loop-tag.invariant.1, c.row_width-columns.ensures, b.0.left)))
-    c.if-widest-columns.branch in
+    elim c.if-widest-columns.branch [
+        then-widest-columns b ↦ b.widest-is ∙ c.row_width-columns.ensures ∙ widest_new (marked a.u) a.r.0 c.loop-tag.tag (omega (arith, c.loop-tag.invariant.1, c.row_width-columns.ensures, b.if-widest-columns.true))
+        | else-widest-columns b ↦ b.widest-is ∙ c.loop-tag.invariant.1 ∙ widest_kept (marked a.u) a.r.0 c.loop-tag.tag (omega (arith, c.loop-tag.invariant.1, c.row_width-columns.ensures, b.if-widest-columns.false))
+    ] in
     (search rules, more)
 
 pub returns : goal.returns

@@ -2,7 +2,6 @@
 use borrow.Author.Rules.{rules}
 use Prim.Native.Nat.{ℕ, ◌+◌, ◌-◌, ◌*◌, ◌≤◌, ◌<◌}
 use mathlib.Core.Path.{◌≡◌, sym, ap, ◌∙◌}
-use mathlib.Core.Logic.{⊎_elim}
 use native.Mathlib.Omega.{arith}
 use lib.ListN.{length}
 use Rattle.words.specs.Bits.{is_set, set_bit}
@@ -10,6 +9,7 @@ use Rattle.unit_file.specs.Read.{segments_in}
 use Rattle.unit_file.proofs.PlaceLaws.{word_inside}
 use Rattle.unit_file.proofs.ColumnLaws.{column_up_to, column_start, column_set, column_unset, column_small, column_end}
 use Rattle.unit_file.proofs.reader.column_word.Goals as goal
+use Rattle.unit_file.proofs.reader.column_word.Goals.{then-test, else-test}
 
 pub loop-i-init : goal.loop-i-init
 loop-i-init c = (search rules, column_start c.args.file.now c.table_at-first.result c.args.column)
@@ -30,10 +30,10 @@ loop-i-preserved c =
     let k = c.args.column in
     let t = sym (ap (λ w. is_set w (k - 1)) c.word_at-word.ensures) ∙ sym c.test.ensures in (
       search rules,
-      ⊎_elim
-          (λ w. w.2 ∙ w.1.ensures ∙ ap (λ m. set_bit m c.loop-i.i) c.loop-i.invariant.1 ∙ column_set f c.table_at-first.result k c.loop-i.i (omega arith) (t ∙ w.0.taken))
-          (λ w. w.1 ∙ c.loop-i.invariant.1 ∙ column_unset f c.table_at-first.result k c.loop-i.i (t ∙ w.0.left))
-          c.if-test.branch,
+      elim c.if-test.branch [
+        then-test w ↦ w.marks-is ∙ w.set-marks.ensures ∙ ap (λ m. set_bit m c.loop-i.i) c.loop-i.invariant.1 ∙ column_set f c.table_at-first.result k c.loop-i.i (omega arith) (t ∙ w.if-test.true)
+        | else-test w ↦ w.marks-is ∙ c.loop-i.invariant.1 ∙ column_unset f c.table_at-first.result k c.loop-i.i (t ∙ w.if-test.false)
+    ],
     )
 
 pub overflow_cast-result : goal.overflow_cast-result

@@ -14,7 +14,7 @@ returns-then-top-word c =
     let top-is : (let n = columns_in c.args.file.now in (1 * 2 ^ n) % 2 ^ 64 ≡ 2 ^ n) = shifted_one (columns_in c.args.file.now) 64 (omega (arith, c.requires.counts.columns32)) in
     let c = c in
     let t = top-is in
-    sym (beyond_found c.args.file.now c.requires.counts c.loop-i.i c.loop-i-test.true (omega (arith, c.word_at-word.type-inv)) (omega (arith, c.if-top-word.true)))
+    sym (beyond_found c.args.file.now c.requires.counts c.loop-i.i c.loop-i-test.true (omega (arith, c.word_at-word.type_inv)) (omega (arith, c.if-top-word.true)))
 
 pub loop-i-preserved : goal.loop-i-preserved
 loop-i-preserved c =
