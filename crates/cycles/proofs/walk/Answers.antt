@@ -24,7 +24,7 @@ bounds-work-at c = omega (arith, walk_place c.loop-work.invariant, walk_room c.l
 
 pub take_step-at-requires : goal.take_step-at-requires
 take_step-at-requires c =
-    subst (λ n. Ready c.loop-work.work n c.loop-work.at c.loop-work.step) (sym c.width_of_lem.ensures) (walk_ready c.loop-work.invariant c.loop-work-test.true)
+    subst (λ n. Ready c.loop-work.work n c.loop-work.at c.loop-work.step) (sym c.width_of-columns.ensures) (walk_ready c.loop-work.invariant c.loop-work-test.true)
 
 pub overflow_add-step : goal.overflow_add-step
 overflow_add-step c =
@@ -36,7 +36,7 @@ loop-work-smaller c =
 
 pub loop-work-preserved : goal.loop-work-preserved
 loop-work-preserved c =
-    walk_more c.loop-work.invariant c.loop-work-test.true c.width_of_lem.ensures c.take_step-at.ensures
+    walk_more c.loop-work.invariant c.loop-work-test.true c.width_of-columns.ensures c.take_step-at.ensures
 
 pub overflow_add-first : goal.overflow_add-first
 overflow_add-first c = omega (arith, walk_place c.loop-work.invariant)

@@ -6,7 +6,7 @@ use Rattle.diagram.proofs.explore.Goals as goal
 
 pub loop-at-init : goal.loop-at-init
 loop-at-init c =
-    explore_start _ _ _ c.width_of_lem.ensures c.ranges.vector.fits c.requires
+    explore_start _ _ _ c.width_of-columns.ensures c.ranges.vector.fits c.requires
 
 pub follow-count-requires : goal.follow-count-requires
 follow-count-requires c = explore_ready c.loop-at.invariant c.loop-at-test.true

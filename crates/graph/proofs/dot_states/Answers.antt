@@ -39,10 +39,8 @@ pub put_diagram-end-requires : goal.put_diagram-end-requires
 put_diagram-end-requires c =
     let handed : Handed c.args.u c.args.tag.0 c.in-Value.number c.states-counted.new.out = dot_handed c.args.u c.args.tag.0 c.pre.0 c.states-counted.ensures.0 c.states-counted.ensures.1 c.in-Value.is in
     let planned : length (take c.cycle_length-length.result c.args.u.plan.latencies) ≡ c.cycle_length-length.result = length-take-le _ _ (omega (arith, latencies-long c, c.cycle_length-length.ensures, plan_few c.args.u c.args.tag.0 c.pre.0)) in
-    let c.states-counted = c in
-    let c = c.states-counted in
     let few = plan_few c.args.u c.args.tag.0 c.pre.0 in
-    (handed_listing (handed.states-counted), omega (arith, few, c.cycle_length-length.ensures, planned), c.pre.1)
+    (handed_listing handed, omega (arith, few, c.cycle_length-length.ensures, planned), c.pre.1)
 
 pub overflow_cast-result : goal.overflow_cast-result
 overflow_cast-result c = omega (arith, c.put_diagram-end.ensures.few)
@@ -50,6 +48,5 @@ overflow_cast-result c = omega (arith, c.put_diagram-end.ensures.few)
 pub returns : goal.returns
 returns c =
     let handed : Handed c.args.u c.args.tag.0 c.in-Value.number c.states-counted.new.out = dot_handed c.args.u c.args.tag.0 c.pre.0 c.states-counted.ensures.0 c.states-counted.ensures.1 c.in-Value.is in
-    let c.states-counted = c in
-    let a = c.states-counted.args in
-    dot_drawn a.u a.tag.0 c.states-counted.pre.0 a.out.now c.states-counted.pre.1 (handed.states-counted.before.before.before.before.states) c.states-counted.before.before.before.before.before.before.before.cycle-length.ensures c.states-counted.before.before.put-diagram.ensures
+    let a = c.args in
+    dot_drawn a.u a.tag.0 c.pre.0 a.out.now c.pre.1 handed c.cycle_length-length.ensures c.put_diagram-end.ensures

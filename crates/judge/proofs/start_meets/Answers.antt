@@ -36,28 +36,23 @@ returns-then-interval-gt32 c =
 
 pub overflow_sub-interval : goal.overflow_sub-interval
 overflow_sub-interval c =
-    let grown : (let a = c.args in c.loop-step.step + 1 ≤ c.loop-step.interval + latency a.cycle.now (a.start + c.loop-step.step)) = let c.loop-step = c.loop-step in
-    omega (arith, c.loop-step.invariant.0, latency_least 1 _ (good_cycle_lem _ c.requires.0) (c.args.start + c.loop-step.step)) in
+    let grown : (let a = c.args in c.loop-step.step + 1 ≤ c.loop-step.interval + latency a.cycle.now (a.start + c.loop-step.step)) = omega (arith, c.loop-step.invariant.0, latency_least 1 _ (good_cycle_lem _ c.requires.0) (c.args.start + c.loop-step.step)) in
     omega (arith, grown)
 
 pub returns-then-test : goal.returns-then-test
 returns-then-test c =
-    let grown : (let a = c.args in c.loop-step.step + 1 ≤ c.loop-step.interval + latency a.cycle.now (a.start + c.loop-step.step)) = let c.loop-step = c.loop-step in
-    omega (arith, c.loop-step.invariant.0, latency_least 1 _ (good_cycle_lem _ c.requires.0) (c.args.start + c.loop-step.step)) in
-    let c.loop-step = c.loop-step in
+    let grown : (let a = c.args in c.loop-step.step + 1 ≤ c.loop-step.interval + latency a.cycle.now (a.start + c.loop-step.step)) = omega (arith, c.loop-step.invariant.0, latency_least 1 _ (good_cycle_lem _ c.requires.0) (c.args.start + c.loop-step.step)) in
     sym (passed_hit _ _ _ c.loop-step.step c.loop-step.interval c.loop-step.invariant.4 (omega (arith, grown, c.if-interval-gt32.false)) (sym c.test.ensures ∙ c.if-test.true))
 
 pub loop-step-smaller : goal.loop-step-smaller
 loop-step-smaller c =
-    let grown : (let a = c.args in c.loop-step.step + 1 ≤ c.loop-step.interval + latency a.cycle.now (a.start + c.loop-step.step)) = let c.loop-step = c.loop-step in
-    omega (arith, c.loop-step.invariant.0, latency_least 1 _ (good_cycle_lem _ c.requires.0) (c.args.start + c.loop-step.step)) in
+    let grown : (let a = c.args in c.loop-step.step + 1 ≤ c.loop-step.interval + latency a.cycle.now (a.start + c.loop-step.step)) = omega (arith, c.loop-step.invariant.0, latency_least 1 _ (good_cycle_lem _ c.requires.0) (c.args.start + c.loop-step.step)) in
     omega (arith, grown, c.if-interval-gt32.false)
 
 pub loop-step-preserved : goal.loop-step-preserved
 loop-step-preserved c =
-    let grown : (let a = c.args in c.loop-step.step + 1 ≤ c.loop-step.interval + latency a.cycle.now (a.start + c.loop-step.step)) = let c.loop-step = c.loop-step in
-    omega (arith, c.loop-step.invariant.0, latency_least 1 _ (good_cycle_lem _ c.requires.0) (c.args.start + c.loop-step.step)) in
-    let c.loop-step = c.loop-step in (
+    let grown : (let a = c.args in c.loop-step.step + 1 ≤ c.loop-step.interval + latency a.cycle.now (a.start + c.loop-step.step)) = omega (arith, c.loop-step.invariant.0, latency_least 1 _ (good_cycle_lem _ c.requires.0) (c.args.start + c.loop-step.step)) in
+    (
       grown,
       c.if-interval-gt32.false,
       c.loop-step.invariant.2,

@@ -18,7 +18,7 @@ returns-then-nodes-eq0 c =
 
 pub search_listed-requires : goal.search_listed-requires
 search_listed-requires c =
-    listing-counted _ _ _ _ c.if-work-lt2048.false c.if-vector-ge2147483648.false c.enlist-nodes.ensures c.if-nodes-eq0.false _ c.width_of_lem.ensures
+    listing-counted _ _ _ _ c.if-work-lt2048.false c.if-vector-ge2147483648.false c.enlist-nodes.ensures c.if-nodes-eq0.false _ c.width_of.ensures
 
 pub shape_of-work : goal.shape_of-work
 shape_of-work c =
@@ -26,5 +26,5 @@ shape_of-work c =
 
 pub returns : goal.returns
 returns c =
-    searched-found _ _ _ _ c.if-work-lt2048.false c.if-vector-ge2147483648.false c.enlist-nodes.ensures c.if-nodes-eq0.false _ c.width_of_lem.ensures
+    searched-found _ _ _ _ c.if-work-lt2048.false c.if-vector-ge2147483648.false c.enlist-nodes.ensures c.if-nodes-eq0.false _ c.width_of.ensures
     _ _ c.search_listed.ensures

@@ -29,7 +29,7 @@ slice_bounds-write_ring-end c = (held c.args.plan c.requires.plan).holds.count
 pub write_ring-requires : goal.write_ring-requires
 write_ring-requires c =
     let r = ring_room c.args.plan (length c.args.out.now) c.requires.plan c.requires.fits in
-    (r.0, omega (arith, r.1, c.put-2.auto.0, c.put.auto.0), (held c.args.plan c.requires.plan).cycle)
+    (r.0, omega (arith, r.1, c.put-2.auto.out, c.put.auto.out), (held c.args.plan c.requires.plan).cycle)
 
 pub returns : goal.returns
 returns c =

@@ -37,14 +37,14 @@ write_offsets-requires c =
     let passed : sound_of c.args.u ≡ true = on c.if-not-sound.false-raw c.sound.ensures in
     let counts : Counts c.args.u.functions c.args.u.segments = sound_counts c.args.u passed in
     let n = mid_len 4 (length c.write_header.new.out) c.write_header.new.out (omega arith) in
-    record { counts = counts; functions_in_bounds = omega (arith, n, c.write_header.auto.0, c.if-out-size.false, c.table_start-size.ensures) }
+    record { counts = counts; functions_in_bounds = omega (arith, n, c.write_header.auto.out, c.if-out-size.false, c.table_start-size.ensures) }
 
 pub write_tables-requires : goal.write_tables-requires
 write_tables-requires c =
     let passed : sound_of c.args.u ≡ true = on c.if-not-sound.false-raw c.sound.ensures in
     let counts : Counts c.args.u.functions c.args.u.segments = sound_counts c.args.u passed in
     let n : length (put_mid 4 (length c.write_header.new.out - 4) c.write_header.new.out c.write_offsets.new.out) ≡ length c.write_header.new.out = search rules in
-    record { counts = counts; segments_in_bounds = omega (arith, c.write_header.auto.0, c.if-out-size.false, c.table_start-size.ensures) }
+    record { counts = counts; segments_in_bounds = omega (arith, c.write_header.auto.out, c.if-out-size.false, c.table_start-size.ensures) }
 
 pub overflow_cast-result : goal.overflow_cast-result
 overflow_cast-result c =
@@ -59,6 +59,6 @@ returns c =
     let passed : sound_of c.args.u ≡ true = on c.if-not-sound.false-raw c.sound.ensures in
     let a = c.args in
     let w = written a.u a.out.now c.write_header.new.out c.write_offsets.new.out c.write_tables.new.out
-    (omega (arith, c.write_header.auto.0, c.if-out-size.false, c.table_start-size.ensures)) c.write_header.ensures c.write_offsets.ensures c.write_tables.ensures in
+    (omega (arith, c.write_header.auto.out, c.if-out-size.false, c.table_start-size.ensures)) c.write_header.ensures c.write_offsets.ensures c.write_tables.ensures in
     let facts = ends_written a.u a.out.now c.table_start-size.result c.write_tables.new.out passed c.table_start-size.ensures c.if-out-size.false w in
     record { value = facts.0; out_after = facts.1 }

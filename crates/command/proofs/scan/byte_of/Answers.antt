@@ -5,7 +5,7 @@ use Rattle.command.proofs.NumberLaws.{number_told_lem, other_told}
 use Rattle.command.proofs.scan.byte_of.Goals as goal
 
 pub returns-in_default : goal.returns-in_default
-returns-in_default c = ap narrow (other_told _ (sym c.in_default.is ∙ c.number_of_lem.ensures)).1
+returns-in_default c = ap narrow (other_told _ (sym c.in_default.is ∙ c.number_of.ensures)).1
 
 pub returns : goal.returns
-returns c = c.byte.ensures ∙ ap narrow (number_told_lem _ _ (sym c.in-Number.is ∙ c.number_of_lem.ensures)).1
+returns c = c.byte.ensures ∙ ap narrow (number_told_lem _ _ (sym c.in-Number.is ∙ c.number_of.ensures)).1

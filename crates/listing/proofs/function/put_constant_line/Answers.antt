@@ -8,4 +8,4 @@ use Rattle.listing.proofs.function.put_constant_line.Goals as goal
 pub returns : goal.returns
 unfolding constant_answer
 returns c =
-    number_line_lem (ascii "constant ") (value_answering _ c.requires.0 c.constant.ensures c.value_of_lem.ensures) c.put_line.ensures
+    number_line_lem (ascii "constant ") (value_answering _ c.requires.0 c.constant.ensures c.value_of-constant.ensures) c.put_line.ensures

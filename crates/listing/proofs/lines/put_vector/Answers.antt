@@ -14,8 +14,8 @@ use Rattle.listing.proofs.lines.put_vector.Goals as goal
 pub returns : goal.returns
 returns c =
     let a = c.args in
-    let e : c.width_of_lem.result ≡ width a.vector = c.width_of_lem.ensures in
-    let few : length (vector_text c.width_of_lem.result a.vector) ≤ 32 =
-    vector_most c.width_of_lem.result a.vector 32 (omega arith) (omega (arith, span_most 32 (is_set a.vector)))
+    let e : c.width_of.result ≡ width a.vector = c.width_of.ensures in
+    let few : length (vector_text c.width_of.result a.vector) ≤ 32 =
+    vector_most c.width_of.result a.vector 32 (omega arith) (omega (arith, span_most 32 (is_set a.vector)))
     in
     put_as (put_one 32 _ (c.put_columns.ensures.value, c.put_columns.ensures.out_after) few (omega arith)) (ap (λ k. vector_text k a.vector) e) (omega arith)

@@ -6,4 +6,4 @@ use Rattle.loops.proofs.ruling.rules_of.Goals as goal
 -- src/ruling.rt:114:1
 pub returns : goal.returns
 returns c =
-    ruled _ _ _ c.requires.0 c.requires.1 c.rows_of_lem.ensures c.tags_of-copied.ensures refl c.widest-width.ensures
+    ruled _ _ _ c.requires.0 c.requires.1 c.rows_of-rows.ensures c.tags_of-copied.ensures refl c.widest-width.ensures

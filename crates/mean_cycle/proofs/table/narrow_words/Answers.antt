@@ -18,7 +18,7 @@ width_of-requires c = tt {0}
 
 pub returns-then-width-width_of : goal.returns-then-width-width_of
 returns-then-width-width_of c =
-    says_no (narrow_not c.args.work.now _ _ _ _ c.loop-v-test.true c.width_of_lem.ensures c.if-width-width_of.true)
+    says_no (narrow_not c.args.work.now _ _ _ _ c.loop-v-test.true c.width_of.ensures c.if-width-width_of.true)
 
 pub overflow_add-v : goal.overflow_add-v
 overflow_add-v c = omega arith
@@ -30,7 +30,7 @@ pub loop-v-preserved : goal.loop-v-preserved
 loop-v-preserved c =
     (
       narrow_more c.args.work.now _ _ _ c.loop-v.invariant.0
-          (omega (arith, c.shared_slice_known-in-loop-v-1.given c.loop-v.v)) c.width_of_lem.ensures c.if-width-width_of.false,
+          (omega (arith, c.shared_slice_known-in-loop-v-1.given c.loop-v.v)) c.width_of.ensures c.if-width-width_of.false,
       omega arith,
     )
 

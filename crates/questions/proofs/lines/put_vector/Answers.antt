@@ -7,7 +7,7 @@ use Rattle.questions.proofs.lines.put_vector.Goals as goal
 
 pub put_columns-requires : goal.put_columns-requires
 put_columns-requires c =
-    (omega arith, omega (arith, c.width_of_lem.ensures, width_le c.in-Value.vector), c.requires)
+    (omega arith, omega (arith, c.width_of-columns.ensures, width_le c.in-Value.vector), c.requires)
 
 pub returns-in-Refused : goal.returns-in-Refused
 returns-in-Refused c =
@@ -15,4 +15,4 @@ returns-in-Refused c =
 
 pub returns-in-Value : goal.returns-in-Value
 returns-in-Value c =
-    wrote_as c.put_columns.ensures (vector_shown _ _ c.vector-asked.ensures c.in-Value.is c.width_of_lem.ensures)
+    wrote_as c.put_columns.ensures (vector_shown _ _ c.vector-asked.ensures c.in-Value.is c.width_of-columns.ensures)

@@ -7,4 +7,4 @@ use Rattle.questions.proofs.lines.row_width.Goals as goal
 
 pub returns : goal.returns
 returns c =
-    c.width_of_lem.ensures ∙ ap width (c.row_of-row.ensures ∙ ap₂ row_of_columns c.columns_of-later.ensures c.columns_of-earlier.ensures ∙ row_columns _ _ _)
+    c.width_of.ensures ∙ ap width (c.row_of-row.ensures ∙ ap₂ row_of_columns c.columns_of-later.ensures c.columns_of-earlier.ensures ∙ row_columns _ _ _)
