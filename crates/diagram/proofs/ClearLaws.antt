@@ -55,6 +55,6 @@ clear_indexed h r = record {
   head_in_lem = λ b l p. absurd (omega (arith, r.empty b l));
   head_last = λ b l j m o. absurd (not-suc-le-zero o);
   link_low = λ i l. absurd (not-suc-le-zero l);
-  link_in_lem = λ i l. absurd (not-suc-le-zero l);
+  link_same = λ i l. absurd (not-suc-le-zero l);
   link_last = λ i l. absurd (not-suc-le-zero l);
 }

@@ -80,7 +80,7 @@ module _ (w : List ℕ) (k : ℕ) (index : Indexed w k) (x : ℕ) where
             let same : bucket (state_in w (at - 1)) ≡ bucket x = b (omega arith) in
             let h = index.link_low (at - 1) (omega arith) in
             rw (along_more f w k x at (omega arith) s (omega arith))
-            (more (link_in w (at - 1)) (omega arith) (omega arith) (λ pos. index.link_in (at - 1) (omega arith) pos ∙ same)
+            (more (link_in w (at - 1)) (omega arith) (omega arith) (λ pos. index.link_same (at - 1) (omega arith) pos ∙ same)
             (below same (λ e. s (ap (state_in w) e ∙ here)) (dec_lt i (link_in w (at - 1)))))
           where
             below : bucket (state_in w (at - 1)) ≡ bucket x → (at - 1 ≡ i → ⊥) → Dec (i < link_in w (at - 1)) → i < link_in w (at - 1)
@@ -128,11 +128,11 @@ index_kept {w} {w'} k size same h = record {
       h.head_last b l j (subst (λ (x : ℕ). x ≤ j) (same (256 + b) (omega arith)) m) o
       (ap bucket (sym (same j (omega (arith, h.few)))) ∙ e);
   link_low = λ i l. subst (λ (x : ℕ). x ≤ i) (sym (same (512 + i) (omega (arith, h.few)))) (h.link_low i l);
-  link_in_lem = λ i l m.
+  link_same = λ i l m.
       let e = same (512 + i) (omega (arith, h.few)) in
       let r : 0 < link_in w i = omega arith in
       ap bucket (ap (λ (x : ℕ). state_in w' (x - 1)) e ∙ same (link_in w i - 1) (omega (arith, h.link_low i l, h.few)))
-      ∙ h.link_in i l r
+      ∙ h.link_same i l r
       ∙ ap bucket (sym (same i (omega (arith, h.few))));
   link_last = λ i l j m o e.
       h.link_last i l j (subst (λ (x : ℕ). x ≤ j) (same (512 + i) (omega (arith, h.few))) m) o

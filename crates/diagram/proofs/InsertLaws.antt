@@ -130,9 +130,9 @@ module _ (w : List ℕ) (k x b : ℕ) (e : b ≡ bucket x) (few : k < 256) (old 
       go newest = omega (arith, link_new w k x b room few low, old.head_low b low)
       go (older {i = i} o) = omega (arith, link_old w k x b room few low i o, old.link_low i o)
 
-  link_in_lem : (i : ℕ) → i < k + 1 → 0 < link_in (inserted w k x b) i
+  link_same : (i : ℕ) → i < k + 1 → 0 < link_in (inserted w k x b) i
       → bucket (state_in (inserted w k x b) (link_in (inserted w k x b) i - 1)) ≡ bucket (state_in (inserted w k x b) i)
-  link_in_lem i h = go (recent k i h)
+  link_same i h = go (recent k i h)
     where
       go : {i : ℕ} → Recent k i → 0 < link_in (inserted w k x b) i
           → bucket (state_in (inserted w k x b) (link_in (inserted w k x b) i - 1)) ≡ bucket (state_in (inserted w k x b) i)
@@ -146,7 +146,7 @@ module _ (w : List ℕ) (k x b : ℕ) (e : b ≡ bucket x) (few : k < 256) (old 
           let at : link_in (inserted w k x b) i ≡ link_in w i = link_old w k x b room few low i o in
           ap (λ j. bucket (state_in (inserted w k x b) (j - 1))) at
           ∙ bucket_old (link_in w i - 1) (omega (arith, old.link_low i o))
-          ∙ old.link_in i o (omega arith)
+          ∙ old.link_same i o (omega arith)
           ∙ sym (bucket_old i o)
 
   link_last : (i : ℕ) → i < k + 1 → (j : ℕ) → link_in (inserted w k x b) i ≤ j → j < i
@@ -168,7 +168,7 @@ module _ (w : List ℕ) (k x b : ℕ) (e : b ≡ bucket x) (few : k < 256) (old 
     head_in_lem = head_in_lem;
     head_last = head_last;
     link_low = link_low;
-    link_in_lem = link_in_lem;
+    link_same = link_same;
     link_last = link_last;
   }
 
