@@ -41,6 +41,6 @@ ring_matches-requires c =
 pub returns : goal.returns
 returns c =
     ring_decides _ _ _ _ c.field_at-count.ensures.value c.field_at-sum.ensures.value c.if-ring_at-count.false _ c.cycle_sum-adds.ensures c.if-adds-eq0.false _
-    (record { c.field_at-count.ensures = (c.field_at-count.ensures.low, c.field_at-count.ensures.high); c.field_at-sum.ensures = (c.field_at-sum.ensures.low, c.field_at-sum.ensures.high); list_at = (c.field_at-list_at.ensures.low, c.field_at-list_at.ensures.high); ring_at = (c.field_at-ring_at.ensures.low, c.field_at-ring_at.ensures.high) })
+    (record { count = (c.field_at-count.ensures.low, c.field_at-count.ensures.high); sum = (c.field_at-sum.ensures.low, c.field_at-sum.ensures.high); list_at = (c.field_at-list_at.ensures.low, c.field_at-list_at.ensures.high); ring_at = (c.field_at-ring_at.ensures.low, c.field_at-ring_at.ensures.high) })
     c.if-bytes-lt8.false (sym c.field_at-list_at.ensures.value ∙ c.if-list_at-ne8.false) (sym c.field_at-ring_at.ensures.value) c.if-bytes-ring_at.false
     c.if-adds-sum.false c.if-bytes-ring_at-2.false c.ring_matches.ensures
