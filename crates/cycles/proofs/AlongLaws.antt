@@ -43,12 +43,12 @@ module _ {g n cv : ℕ} where
   pub walk_take : {s e : ℕ} {l : List ℕ} (r : ℕ) → Walk g n cv s l e → Walk g n cv s (take r l) (run cv s (take r l))
   walk_take zero w = stay
   walk_take (suc r) stay = stay
-  walk_take (suc r) (step p w) = step p (walk_take r w)
+  walk_take {s = s} (suc r) (step {t = t} p w) = step p (walk_take {s = next cv s t} r w)
 
   pub walk_drop : {s e : ℕ} {l : List ℕ} (r : ℕ) → Walk g n cv s l e → Walk g n cv (run cv s (take r l)) (drop r l) e
   walk_drop zero w = w
   walk_drop (suc r) stay = stay
-  walk_drop (suc r) (step p w) = walk_drop r w
+  walk_drop {s = s} (suc r) (step {t = t} p w) = walk_drop {s = next cv s t} r w
 
   pub reach_on : {s e : ℕ} {l : List ℕ} → Reachable g n cv s → Walk g n cv s l e → Reachable g n cv e
   reach_on {l = l} r w = record { along = r.along ++ l; walk = walk_join r.walk w }

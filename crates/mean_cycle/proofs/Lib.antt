@@ -12,4 +12,4 @@ pub mod FirstCycle
 pub mod Bounds
 pub mod Cycles
 pub mod Tables
-pub mod Answers
+pub mod AnswerLaws

@@ -29,7 +29,7 @@ search_listed-requires c =
       some = omega (arith, c.if-nodes-lt1.false);
       few = omega (arith, c.if-nodes-gt256.false);
       room = omega (arith, c.if-work-lt9984.false);
-      c = omega (arith, c.if-width-gt31.false);
+      slim = omega (arith, c.if-width-gt31.false);
       narrow = c.narrow_words.ensures.right (not-false _ c.if-not-narrow_words.false-raw);
       targets = c.targets_inside.ensures.right (not-false _ c.if-not-targets_inside.false-raw);
     }
@@ -41,7 +41,7 @@ returns c =
       some = omega (arith, c.if-nodes-lt1.false);
       few = omega (arith, c.if-nodes-gt256.false);
       room = omega (arith, c.if-work-lt9984.false);
-      c = omega (arith, c.if-width-gt31.false);
+      slim = omega (arith, c.if-width-gt31.false);
       narrow = c.narrow_words.ensures.right (not-false _ c.if-not-narrow_words.false-raw);
       targets = c.targets_inside.ensures.right (not-false _ c.if-not-targets_inside.false-raw);
     }

@@ -11,8 +11,8 @@ returns-then-not-is_record c = list_refused _ (off c.if-not-is_record.true-raw c
 pub field_at-requires : goal.field_at-requires
 field_at-requires c = omega (arith, (fits _ (on c.if-not-is_record.false-raw c.is_record.ensures)).long)
 
-pub slice_bounds-result-end : goal.slice_bounds-result-end
-slice_bounds-result-end c = omega (arith, c.field_at.ensures.value, (fits _ (on c.if-not-is_record.false c.is_record.ensures)).inside)
+pub slice_bounds-result-end-2 : goal.slice_bounds-result-end-2
+slice_bounds-result-end-2 c = omega (arith, c.field_at.ensures.value, (fits _ (on c.if-not-is_record.false-raw c.is_record.ensures)).inside)
 
 pub returns : goal.returns
 returns c = list_shown _ c.field_at.result (on c.if-not-is_record.false-raw c.is_record.ensures) c.field_at.ensures.value

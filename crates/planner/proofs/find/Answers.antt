@@ -11,7 +11,6 @@ pub returns-then-work-lt16000 : goal.returns-then-work-lt16000
 returns-then-work-lt16000 c =
     let known : Vector c.args.u c.args.tag.0 c.in-Value.word = let a = c.args in
     vector_value a.u a.tag.0 c.in-Value.word (sym c.vector-vector.ensures ∙ c.in-Value.is) in
-    let c = c in
     let a = c.args in
     sought_short a.u a.tag.0 c.in-Value.word a.work.now c.refused-then-work-lt16000.result.answer c.refused-then-work-lt16000.result.plan known c.if-work-lt16000.true c.refused-then-work-lt16000.ensures
 
@@ -22,7 +21,6 @@ plan_of-plan-requires c =
     let answered : Searched 1 c.in-Value.word c.args.work.now c.least_mean_cycle-best.new.work (Found c.in-Found.cycle) = subst (λ (r : Answer). Searched 1 c.in-Value.word
     c.args.work.now c.least_mean_cycle-best.new.work r)
     c.in-Found.is c.least_mean_cycle-best.ensures in
-    let c = c in
     let a = c.args in
     standing a.u a.tag.0 c.in-Value.word a.work.now known c.if-work-lt16000.false c.least_mean_cycle-best.new.work c.in-Found.cycle answered
 
@@ -36,7 +34,6 @@ pub returns-in-No : goal.returns-in-No
 returns-in-No c =
     let known : Vector c.args.u c.args.tag.0 c.in-Value.word = let a = c.args in
     vector_value a.u a.tag.0 c.in-Value.word (sym c.vector-vector.ensures ∙ c.in-Value.is) in
-    let c = c in
     let a = c.args in
     sought_many a.u a.tag.0 c.in-Value.word a.work.now known c.if-work-lt16000.false c.least_mean_cycle-best.new.work c.refused-in-No.result.answer c.refused-in-No.result.plan
     (subst (Searched 1 c.in-Value.word a.work.now c.least_mean_cycle-best.new.work) c.in-No.is c.least_mean_cycle-best.ensures) c.refused-in-No.ensures
@@ -48,7 +45,6 @@ returns-in-Found c =
     let answered : Searched 1 c.in-Value.word c.args.work.now c.least_mean_cycle-best.new.work (Found c.in-Found.cycle) = subst (λ (r : Answer). Searched 1 c.in-Value.word
     c.args.work.now c.least_mean_cycle-best.new.work r)
     c.in-Found.is c.least_mean_cycle-best.ensures in
-    let c = c in
     let a = c.args in
     sought_found a.u a.tag.0 c.in-Value.word a.work.now known c.if-work-lt16000.false c.least_mean_cycle-best.new.work c.in-Found.cycle answered
     c.plan_of-plan.result c.plan_of-plan.ensures

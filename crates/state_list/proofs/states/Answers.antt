@@ -9,7 +9,6 @@ pub returns-then-out-lt256 : goal.returns-then-out-lt256
 returns-then-out-lt256 c =
     let known : Vector c.args.u c.args.tag.0 c.in-Value.word = let a = c.args in
     vector_value a.u a.tag.0 c.in-Value.word (sym c.vector-vector.ensures ∙ c.in-Value.is) in
-    let c = c in
     let a = c.args in
     ends_short a.u a.tag.0 c.in-Value.word a.out.now known c.if-out-lt256.true
 
@@ -22,7 +21,6 @@ pub returns-then-count-eq0 : goal.returns-then-count-eq0
 returns-then-count-eq0 c =
     let known : Vector c.args.u c.args.tag.0 c.in-Value.word = let a = c.args in
     vector_value a.u a.tag.0 c.in-Value.word (sym c.vector-vector.ensures ∙ c.in-Value.is) in
-    let c = c in
     let a = c.args in
     let r = ends_many a.u a.tag.0 c.in-Value.word a.out.now known c.if-out-lt256.false
     (enlist_many 768 1 c.in-Value.word c.enlist-count.result (omega arith) c.enlist-count.ensures.answer c.if-count-eq0.true) in
@@ -41,7 +39,6 @@ pub returns-else-count-eq0 : goal.returns-else-count-eq0
 returns-else-count-eq0 c =
     let known : Vector c.args.u c.args.tag.0 c.in-Value.word = let a = c.args in
     vector_value a.u a.tag.0 c.in-Value.word (sym c.vector-vector.ensures ∙ c.in-Value.is) in
-    let c = c in
     let a = c.args in
     let f = enlist_few 768 1 c.in-Value.word c.enlist-count.result c.enlist-count.ensures.answer c.if-count-eq0.false in
     let r = ends_listed a.u a.tag.0 c.in-Value.word c.enlist-count.result a.out.now c.enlist-count.new.work known c.if-out-lt256.false f

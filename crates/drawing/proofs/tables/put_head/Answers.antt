@@ -1,4 +1,5 @@
 -- `drawing::tables::put_head` meets its contract. Assumes nothing.
+use mathlib.Core.List.{[]}
 use Prim.Native.Nat.{◌*◌}
 use native.Mathlib.Omega.{arith}
 use Rattle.text.proofs.BoundedLaws.{put_one, put_more, put_word, put_as, put_room}

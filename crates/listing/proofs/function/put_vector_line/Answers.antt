@@ -21,5 +21,4 @@ unfolding vector_answer
 returns c =
     let vector-is : c.value_of-vector.result ≡ vector_word (marked c.args.u) c.args.tag.0 = value_answering _ c.requires.0 c.vector.ensures c.value_of-vector.ensures in
     let word : Put 7 c.args.out.now c.args.at (ascii "vector ") c.put-after_word.new.out c.put-after_word.result = put_one 7 (ascii "vector ") (c.put-after_word.ensures.value, c.put-after_word.ensures.out_after) (omega arith) (omega (arith, c.requires.1)) in
-    let c = c in
     vector_line_lem _ _ vector-is word c.put_vector-after_vector.ensures (c.put.ensures.value, c.put.ensures.out_after) c.requires.1

@@ -10,7 +10,7 @@ overflow_cast-up c = omega (arith, c.slice_known-2-1.given (768 + c.args.v))
 
 pub overflow_add-up-2 : goal.overflow_add-up-2
 overflow_add-up-2 c =
-    let h = ready_held c.requires.ready c.requires.v_lt_nodes in
+    let h = ready_held c.requires.ready c.requires.v_lt_nodes.0 in
     omega (arith, c.slice_known-2-1.given (768 + c.args.v))
 
 pub overflow_mul-cost : goal.overflow_mul-cost
@@ -30,7 +30,7 @@ returns-then-up-down c =
 
 pub climb-k-requires : goal.climb-k-requires
 climb-k-requires c =
-    record { nodes_bound = (ready_few c.requires.ready, (c.requires.ready.listing.room, c.requires.v_lt_nodes)); ends = tree_ends c.requires.tree _ c.requires.v_lt_nodes }
+    record { nodes_bound = (ready_few c.requires.ready, (c.requires.ready.listing.room, c.requires.v_lt_nodes.0)); ends = tree_ends c.requires.tree _ c.requires.v_lt_nodes.0 }
 
 pub trace-s-requires : goal.trace-s-requires
 trace-s-requires c =
@@ -39,7 +39,7 @@ trace-s-requires c =
       x = c.target-x.result;
       few = ready_few c.requires.ready;
       room = c.requires.ready.listing.room;
-      here = c.requires.v_lt_nodes;
+      here = c.requires.v_lt_nodes.0;
       low = c.target-x.ensures.high;
       short = c.if-k-nodes.true;
       path = c.climb-k.ensures.met c.if-k-nodes.true;
@@ -53,13 +53,13 @@ returns-then-k-nodes c =
     c.requires.tree
     c.target-x.ensures
     (c.climb-k.ensures.met c.if-k-nodes.true)
-    (tree_ends c.requires.tree _ c.requires.v_lt_nodes)
+    (tree_ends c.requires.tree _ c.requires.v_lt_nodes.0)
     c.trace-s.ensures
     c.if-up-down.false
 
 pub relink-requires : goal.relink-requires
 relink-requires c =
-    omega (arith, gain_fits c.requires.ready c.requires.tree c.requires.v_lt_nodes, ready_few c.requires.ready, c.requires.ready.listing.room, c.target-x.ensures.leaves, c.target-x.ensures.enters, c.target-x.ensures.high)
+    omega (arith, gain_fits c.requires.ready c.requires.tree c.requires.v_lt_nodes.0, ready_few c.requires.ready, c.requires.ready.listing.room, c.target-x.ensures.leaves, c.target-x.ensures.enters, c.target-x.ensures.high)
 
 pub returns : goal.returns
 returns c =
