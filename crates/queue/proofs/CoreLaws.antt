@@ -1,5 +1,5 @@
 -- What the tries by value say. Assumes nothing.
-use Prim.Native.Nat.{ℕ, ◌-◌}
+use Prim.Native.Nat.{ℕ}
 use mathlib.Core.Path.{◌≡◌, ap, ◌∙◌, sym}
 use mathlib.Core.Bool.{false, cond}
 use native.Mathlib.Omega.{arith}
@@ -16,7 +16,6 @@ use Rattle.controller.specs.Bank.{granted, event_answer}
 use Rattle.controller.proofs.StepLaws.{start_answered, start_accepted}
 use Rattle.queue.specs.declared.Waiting.{Waiting}
 use Rattle.queue.specs.declared.Passed.{Passed}
-use Rattle.queue.specs.declared.Passed.TheVariants as Passed
 use Rattle.queue.specs.Line.{tag_of}
 use Rattle.queue.specs.Inner.{oldest_by, Startable}
 

@@ -3,6 +3,6 @@ pub mod LineLaws
 pub mod CoreLaws
 pub mod Slot
 pub mod Shift
-pub mod Again
 pub mod ShownLaws
 pub mod ValueLaws
+pub mod LentLaws

@@ -18,7 +18,6 @@ use Rattle.controller.specs.declared.Bank.{Bank}
 use Rattle.queue.specs.declared.Waiting.{Waiting}
 use Rattle.queue.specs.declared.Arrival.{Arrival}
 use Rattle.queue.specs.declared.Passed.{Passed}
-use Rattle.queue.specs.declared.Passed.TheVariants as Passed
 use Rattle.queue.specs.declared.Pass.{Pass}
 use Rattle.queue.specs.Line.{no_record, tags_inside, forward}
 use Rattle.queue.specs.Calls.{arrival_by, unit_by, arrival_answer, count_then, list_then, arrival_of, arrival_list, unit_answer, oldest, passed_then, passed_of, fewer, list_after, pass_of, pass_list}

@@ -4,7 +4,6 @@ use Rattle.std.specs.Prelude.{ℕ, ◌+◌, ◌-◌, Bool, cond, List, [], ◌�
 use Rattle.unit.specs.declared.FunctionUnit.{FunctionUnit}
 use Rattle.unit.specs.declared.Refusal.TheVariants.{NotSound, NoSuchTag, ShortOutput, TooManyWait}
 use Rattle.unit.specs.declared.Answer.{Answer}
-use Rattle.unit.specs.declared.Answer.TheVariants as Answer
 use Rattle.unit.specs.Unit.{inside, sound_of}
 use Rattle.unit.specs.Calls.{check}
 use Rattle.controller.specs.declared.Bank.{Bank}
@@ -13,7 +12,6 @@ use Rattle.controller.specs.Bank.{granted, step_of}
 use Rattle.queue.specs.declared.Waiting.{Waiting}
 use Rattle.queue.specs.declared.Arrival.{Arrival}
 use Rattle.queue.specs.declared.Passed.{Passed}
-use Rattle.queue.specs.declared.Passed.TheVariants as Passed
 use Rattle.queue.specs.declared.Pass.{Pass}
 use Rattle.queue.specs.declared.Queue.{Queue}
 use Rattle.queue.specs.declared.Joined.{Joined}

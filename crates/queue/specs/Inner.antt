@@ -1,17 +1,14 @@
 -- What the private functions find, from the length of the list, the tags that wait and the oldest record. No public contract cites this file.
 use Rattle.std.specs.Prelude.{ℕ, ◌≤◌, ◌≡◌, Bool, true, cond, ◌&&◌, List, leb, eqb, get_or}
 use Rattle.unit.specs.declared.FunctionUnit.{FunctionUnit}
-use Rattle.unit.specs.declared.Refusal.{Refusal}
 use Rattle.unit.specs.declared.Refusal.TheVariants.{NotSound, ShortOutput}
 use Rattle.unit.specs.declared.Answer.{Answer}
-use Rattle.unit.specs.declared.Answer.TheVariants as Answer
 use Rattle.unit.specs.Unit.{inside, sound_of}
 use Rattle.unit.specs.Calls.{check}
 use Rattle.controller.specs.declared.Bank.{Bank}
 use Rattle.controller.specs.Bank.{granted}
 use Rattle.queue.specs.declared.Waiting.{Waiting}
 use Rattle.queue.specs.declared.Passed.{Passed}
-use Rattle.queue.specs.declared.Passed.TheVariants as Passed
 use Rattle.queue.specs.declared.Pass.{Pass}
 use Rattle.queue.specs.declared.Arrival.{Arrival}
 use Rattle.queue.specs.declared.Seen.{Seen}

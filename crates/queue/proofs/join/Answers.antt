@@ -12,9 +12,6 @@ bounds-records-count c =
     let a = c.args in
     place a.u a.queue c.look_through-s.ensures.1 _ _ c.shown-n.ensures c.look_through-s.ensures.0 a.offered _ c.arriving-after.ensures c.if-count-more.true
 
-pub offset_bounds-records-count : goal.offset_bounds-records-count
-offset_bounds-records-count c = omega (arith, array-set-from-records c)
-
 pub returns-then-count-more : goal.returns-then-count-more
 returns-then-count-more c =
     let a = c.args in

@@ -22,7 +22,7 @@ tried-requires c =
     let e = sym c.check_unit-answer.ensures ∙ c.in-Done.is in
     record {
       sound = (unit_by_lem a.room a.u a.length a.count a.fit e).sound;
-      c.if-count-eq0.false = omega arith;
+      some = omega arith;
       tag = c.requires e (omega arith);
     }
 

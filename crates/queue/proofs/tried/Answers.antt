@@ -4,7 +4,6 @@ use Prim.Native.Nat.{◌-◌}
 use Rattle.controller.specs.Bank.{step_of}
 use Rattle.controller.specs.declared.Stepped.{Stepped}
 use Rattle.queue.specs.declared.Passed.{Passed}
-use Rattle.queue.specs.declared.Passed.TheVariants as Passed
 use Rattle.queue.specs.Inner.{pass_by}
 use Rattle.queue.proofs.CoreLaws.{tried_granted, tried_refused}
 use Rattle.queue.proofs.tried.Goals as goal
