@@ -47,8 +47,4 @@ pub returns : goal.returns
 returns c =
     let a = c.args in
     let e : c.loop-i.i ≡ a.units = le_antisymm c.loop-i.invariant.3.inside c.loop-i-test.false in
-    let facts = (
-      c.loop-i.invariant.2 ∙ ap (λ k. busy k (cells_in a.out.now a.from a.marks a.columns a.segment)) e,
-      filled_all _ _ _ _ c.loop-i.i c.loop-i.out c.loop-i.invariant.3 c.loop-i-test.false,
-    ) in
-    record { value = facts.0; out_after = facts.1 }
+    record { value = c.loop-i.invariant.2 ∙ ap (λ k. busy k (cells_in a.out.now a.from a.marks a.columns a.segment)) e; out_after = filled_all _ _ _ _ c.loop-i.i c.loop-i.out c.loop-i.invariant.3 c.loop-i-test.false }

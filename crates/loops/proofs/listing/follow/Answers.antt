@@ -36,14 +36,7 @@ loop-latency-init c =
 pub turn-found-requires : goal.turn-found-requires
 turn-found-requires c =
     let i = c.loop-latency.invariant in
-    let facts = (
-      c.requires.sane,
-      (
-        (subst (λ (x : State). x.position < 8) (sym c.get-s.ensures) (c.requires.listable.stocked _ c.requires.listable.inside), (i.some, c.loop-latency-test.true)),
-        ((omega (arith, c.requires.listable.inside, i.grown), (i.few, omega (arith, i.size, length-set c.args.work.now c.args.at c.mask-word.result, c.requires.listable.room))), c.mask-word.ensures),
-      ),
-    ) in
-    record { sane = facts.0; position_bound = facts.1.0; at_lt_count = facts.1.1.0; word_value = facts.1.1.1 }
+    record { sane = c.requires.sane; position_bound = (subst (λ (x : State). x.position < 8) (sym c.get-s.ensures) (c.requires.listable.stocked _ c.requires.listable.inside), (i.some, c.loop-latency-test.true)); at_lt_count = (omega (arith, c.requires.listable.inside, i.grown), (i.few, omega (arith, i.size, length-set c.args.work.now c.args.at c.mask-word.result, c.requires.listable.room))); word_value = c.mask-word.ensures }
 
 -- src/listing.rt:137:13
 pub shape_of-work-then-found-gt256 : goal.shape_of-work-then-found-gt256

@@ -10,8 +10,7 @@ loop-v-init c = sweep_start c.requires.ready c.requires.tree
 pub visit-s-requires : goal.visit-s-requires
 visit-s-requires c =
     let i = c.loop-v.invariant in
-    let facts = (i.ready, (i.tree, c.loop-v-test.true)) in
-    record { ready = facts.0; tree = facts.1.0; v_lt_nodes = facts.1.1 }
+    record { ready = i.ready; tree = i.tree; v_lt_nodes = c.loop-v-test.true }
 
 pub shape_of-work-then-found : goal.shape_of-work-then-found
 shape_of-work-then-found c = (sweep_found c.loop-v.invariant c.visit-s.ensures c.if-found.true).frame.size

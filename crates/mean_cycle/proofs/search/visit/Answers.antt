@@ -68,8 +68,7 @@ returns-then-up-count c = visit_stop c.loop-t.invariant.0 c.loop-t-test.true c.i
 pub step-s-requires : goal.step-s-requires
 step-s-requires c =
     let i = c.loop-t.invariant in
-    let facts = (i.0.ready, (i.0.tree, (c.requires.v_lt_nodes, visit_permits i.0 c.requires.v_lt_nodes (i.1 c.loop-t-test.true)))) in
-    record { ready = facts.0; tree = facts.1.0; v_lt_nodes = facts.1.1 }
+    record { ready = i.0.ready; tree = i.0.tree; v_lt_nodes = (c.requires.v_lt_nodes, visit_permits i.0 c.requires.v_lt_nodes (i.1 c.loop-t-test.true)) }
 
 pub shape_of-work-then-found : goal.shape_of-work-then-found
 shape_of-work-then-found c = (visit_found c.loop-t.invariant.0 c.step-s.ensures c.if-found.true).frame.size
