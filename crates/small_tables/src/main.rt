@@ -2,7 +2,6 @@
 // tenth of a second, so that there is no progress to tell. The program stops at the first line that can't be written.
 #![tactic(auto)]
 
-
 // Writes the front of an area.
 fn print_front(area: &[u8], length: usize) -> bool {
     if length <= area.len() {

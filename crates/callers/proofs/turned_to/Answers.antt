@@ -52,5 +52,5 @@ returns c =
     c.idled.ensures
     ∙ ap (on_by a.u a.bank a.callers a.turn a.records.list a.counts.each c.turn_now-caller.result)
     (nothing_starts a.bank a.records.list a.counts.each c.turn_now-caller.result (sym c.has_work.ensures ∙ c.if-has_work.false))
-    ∙ ap (λ (c.turn_now-caller.result : ℕ). on_by a.u a.bank a.callers a.turn a.records.list a.counts.each c.turn_now-caller.result (oldest a.bank (waiting_of a.records.list a.counts.each c.turn_now-caller.result)))
+    ∙ ap (λ (k : ℕ). on_by a.u a.bank a.callers a.turn a.records.list a.counts.each k (oldest a.bank (waiting_of a.records.list a.counts.each k)))
     c.turn_now-caller.ensures

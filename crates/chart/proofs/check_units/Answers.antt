@@ -18,12 +18,11 @@ pub loop-i-smaller : goal.loop-i-smaller
 loop-i-smaller c = omega arith
 
 pub loop-i-preserved : goal.loop-i-preserved
-loop-i-preserved c =
-    (
-      omega (arith, c.loop-i-test.true),
-      at_next _ _ _ _ c.loop-i.i c.loop-i.invariant.1 c.step-next.result c.step-next.ensures,
-      units_accepted _ _ 0 _ _ c.loop-i.i c.loop-i.invariant.1 c.loop-i.invariant.2 c.step-next.result c.step-next.ensures c.in_default.is,
-    )
+loop-i-preserved c = (
+  omega (arith, c.loop-i-test.true),
+  at_next _ _ _ _ c.loop-i.i c.loop-i.invariant.1 c.step-next.result c.step-next.ensures,
+  units_accepted _ _ 0 _ _ c.loop-i.i c.loop-i.invariant.1 c.loop-i.invariant.2 c.step-next.result c.step-next.ensures c.in_default.is,
+)
 
 pub returns : goal.returns
 returns c = let a = c.args in sym (ap (units_answer a.u a.plan) (le_antisymm c.loop-i-test.false c.loop-i.invariant.0) ∙ c.loop-i.invariant.2)

@@ -20,9 +20,9 @@ pub loop-latency-preserved : goal.loop-latency-preserved
 loop-latency-preserved c =
     let more : c.if-common-latency-ne0.row ≡ row_before (nonzero c.common_segments-common.result) (c.loop-latency.latency + 1) = let f = nonzero c.common_segments-common.result in
     elim c.if-common-latency-ne0.branch [
-        then-common-latency-ne0 w ↦ w.row-is ∙ w.set-row.ensures ∙ ap (λ v. set_bit v (c.loop-latency.latency - 1)) c.loop-latency.invariant.2
-    ∙ row_one f c.loop-latency.latency c.loop-latency.invariant.0 (omega (arith, c.loop-latency-test.true)) (ap not (ne_eqb _ 0 w.if-common-latency-ne0.true))
-        | else-common-latency-ne0 w ↦ w.row-is ∙ c.loop-latency.invariant.2 ∙ row_zero f c.loop-latency.latency c.loop-latency.invariant.0 (ap not (eq-eqb _ 0 w.if-common-latency-ne0.false))
+      | then-common-latency-ne0 w ↦ w.row-is ∙ w.set-row.ensures ∙ ap (λ v. set_bit v (c.loop-latency.latency - 1)) c.loop-latency.invariant.2
+          ∙ row_one f c.loop-latency.latency c.loop-latency.invariant.0 (omega (arith, c.loop-latency-test.true)) (ap not (ne_eqb _ 0 w.if-common-latency-ne0.true))
+      | else-common-latency-ne0 w ↦ w.row-is ∙ c.loop-latency.invariant.2 ∙ row_zero f c.loop-latency.latency c.loop-latency.invariant.0 (ap not (eq-eqb _ 0 w.if-common-latency-ne0.false))
     ] in
     (search rules, search rules, more)
 

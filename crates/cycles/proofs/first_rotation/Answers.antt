@@ -25,8 +25,8 @@ pub loop-rotation-preserved : goal.loop-rotation-preserved
 loop-rotation-preserved c =
     let s = c.args.cycle.now in
     elim c.if-not-comes_first.branch [
-        then-not-comes_first w ↦ subst (λ x. Leading s x (c.loop-rotation.rotation + 1)) (sym w.first-is) (lead_change c.loop-rotation.invariant c.loop-rotation-test.true (off w.if-not-comes_first.true-raw c.comes_first.ensures))
-        | else-not-comes_first w ↦ subst (λ x. Leading s x (c.loop-rotation.rotation + 1)) (sym w.first-is) (lead_keep c.loop-rotation.invariant (on w.if-not-comes_first.false-raw c.comes_first.ensures))
+      | then-not-comes_first w ↦ subst (λ x. Leading s x (c.loop-rotation.rotation + 1)) (sym w.first-is) (lead_change c.loop-rotation.invariant c.loop-rotation-test.true (off w.if-not-comes_first.true-raw c.comes_first.ensures))
+      | else-not-comes_first w ↦ subst (λ x. Leading s x (c.loop-rotation.rotation + 1)) (sym w.first-is) (lead_keep c.loop-rotation.invariant (on w.if-not-comes_first.false-raw c.comes_first.ensures))
     ]
 
 pub returns : goal.returns

@@ -11,13 +11,12 @@ use Rattle.delays.proofs.MoveLaws.{fresh_is, unit_none, unit_more}
 use Rattle.delays.proofs.moved_unit.Goals as goal
 
 pub loop-i-init : goal.loop-i-init
-loop-i-init c =
-    (
-      omega arith,
-      c.requires,
-      ap (λ (o : Outcome). o.unit) c.fresh-made.ensures ∙ fresh_is c.args.segments c.args.width
-          ∙ unit_none c.args.columns c.args.spots c.args.latency c.args.count c.args.segments c.args.width c.requires,
-    )
+loop-i-init c = (
+  omega arith,
+  c.requires,
+  ap (λ (o : Outcome). o.unit) c.fresh-made.ensures ∙ fresh_is c.args.segments c.args.width
+      ∙ unit_none c.args.columns c.args.spots c.args.latency c.args.count c.args.segments c.args.width c.requires,
+)
 
 pub overflow_cast-spots : goal.overflow_cast-spots
 overflow_cast-spots c = omega (arith, c.loop-i.invariant.1.within c.loop-i.i c.loop-i-test.true, c.loop-i.invariant.1.width32)

@@ -14,11 +14,10 @@ pub is_taken-requires : goal.is_taken-requires
 is_taken-requires c = (c.loop-tries.invariant.0.inside, c.loop-tries.invariant.0.least)
 
 pub returns-then-not-is_taken : goal.returns-then-not-is_taken
-returns-then-not-is_taken c =
-    (
-      tried_found _ _ _ _ c.loop-tries.place c.loop-tries.tries c.loop-tries.invariant.1 (λ h. off c.if-not-is_taken.true-raw c.is_taken.ensures),
-      omega (arith, c.loop-tries.invariant.1.spot, c.loop-tries.invariant.0.low, c.loop-tries.invariant.0.most, c.loop-tries-test.true),
-    )
+returns-then-not-is_taken c = (
+  tried_found _ _ _ _ c.loop-tries.place c.loop-tries.tries c.loop-tries.invariant.1 (λ h. off c.if-not-is_taken.true-raw c.is_taken.ensures),
+  omega (arith, c.loop-tries.invariant.1.spot, c.loop-tries.invariant.0.low, c.loop-tries.invariant.0.most, c.loop-tries-test.true),
+)
 
 pub overflow_add-place : goal.overflow_add-place
 overflow_add-place c = omega (arith, c.loop-tries.invariant.1.spot, c.loop-tries.invariant.0.low, c.loop-tries.invariant.0.inside, c.loop-tries.invariant.0.most, c.loop-tries-test.true)
@@ -34,8 +33,7 @@ loop-tries-preserved c =
     (c.loop-tries.invariant.0, tried_more _ _ _ _ c.loop-tries.place c.loop-tries.tries c.loop-tries.invariant.1 c.loop-tries-test.true (on c.if-not-is_taken.false-raw c.is_taken.ensures))
 
 pub returns : goal.returns
-returns c =
-    (
-      tried_found _ _ _ _ c.loop-tries.place c.loop-tries.tries c.loop-tries.invariant.1 (λ h. absurd (omega (arith, c.loop-tries-test.false))),
-      omega (arith, c.loop-tries.invariant.1.spot, c.loop-tries.invariant.1.few, c.loop-tries.invariant.0.low, c.loop-tries.invariant.0.most),
-    )
+returns c = (
+  tried_found _ _ _ _ c.loop-tries.place c.loop-tries.tries c.loop-tries.invariant.1 (λ h. absurd (omega (arith, c.loop-tries-test.false))),
+  omega (arith, c.loop-tries.invariant.1.spot, c.loop-tries.invariant.1.few, c.loop-tries.invariant.0.low, c.loop-tries.invariant.0.most),
+)

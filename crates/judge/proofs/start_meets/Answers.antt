@@ -51,8 +51,7 @@ loop-step-smaller c =
 
 pub loop-step-preserved : goal.loop-step-preserved
 loop-step-preserved c =
-    let grown : (let a = c.args in c.loop-step.step + 1 ≤ c.loop-step.interval + latency a.cycle.now (a.start + c.loop-step.step)) = omega (arith, c.loop-step.invariant.0, latency_least 1 _ (good_cycle_lem _ c.requires.0) (c.args.start + c.loop-step.step)) in
-    (
+    let grown : (let a = c.args in c.loop-step.step + 1 ≤ c.loop-step.interval + latency a.cycle.now (a.start + c.loop-step.step)) = omega (arith, c.loop-step.invariant.0, latency_least 1 _ (good_cycle_lem _ c.requires.0) (c.args.start + c.loop-step.step)) in (
       grown,
       c.if-interval-gt32.false,
       c.loop-step.invariant.2,

@@ -25,8 +25,8 @@ pub loop-column-preserved : goal.loop-column-preserved
 loop-column-preserved c =
     let more : c.if-has_mark.marks ≡ marks_before c.args.columns c.args.bit (c.loop-column.column + 1) = let a = c.args in
     elim c.if-has_mark.branch [
-        then-has_mark w ↦ w.marks-is ∙ ap (λ n. n + 1) c.loop-column.invariant.1 ∙ marks_one a.columns a.bit c.loop-column.column (sym c.has_mark.ensures ∙ w.if-has_mark.true)
-        | else-has_mark w ↦ w.marks-is ∙ c.loop-column.invariant.1 ∙ marks_zero a.columns a.bit c.loop-column.column (sym c.has_mark.ensures ∙ w.if-has_mark.false)
+      | then-has_mark w ↦ w.marks-is ∙ ap (λ n. n + 1) c.loop-column.invariant.1 ∙ marks_one a.columns a.bit c.loop-column.column (sym c.has_mark.ensures ∙ w.if-has_mark.true)
+      | else-has_mark w ↦ w.marks-is ∙ c.loop-column.invariant.1 ∙ marks_zero a.columns a.bit c.loop-column.column (sym c.has_mark.ensures ∙ w.if-has_mark.false)
     ] in
     (search rules, more)
 

@@ -17,8 +17,8 @@ pub loop-bit-preserved : goal.loop-bit-preserved
 loop-bit-preserved c =
     let more : c.if-most-marks.most ≡ max_below (c.loop-bit.bit + 1) (marks_at c.args.columns) = let a = c.args in
     elim c.if-most-marks.branch [
-        then-most-marks w ↦ w.most-is ∙ c.marks_at-marks.ensures ∙ most_new a.columns c.loop-bit.bit (omega (arith, c.loop-bit.invariant.1, w.if-most-marks.true))
-        | else-most-marks w ↦ w.most-is ∙ c.loop-bit.invariant.1 ∙ most_kept a.columns c.loop-bit.bit (omega (arith, c.loop-bit.invariant.1, w.if-most-marks.false))
+      | then-most-marks w ↦ w.most-is ∙ c.marks_at-marks.ensures ∙ most_new a.columns c.loop-bit.bit (omega (arith, c.loop-bit.invariant.1, w.if-most-marks.true))
+      | else-most-marks w ↦ w.most-is ∙ c.loop-bit.invariant.1 ∙ most_kept a.columns c.loop-bit.bit (omega (arith, c.loop-bit.invariant.1, w.if-most-marks.false))
     ] in
     (search rules, more)
 

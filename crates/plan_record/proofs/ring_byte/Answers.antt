@@ -29,14 +29,13 @@ overflow_add-passed c =
     omega arith
 
 pub loop-bit-preserved : goal.loop-bit-preserved
-loop-bit-preserved c =
-    (
-      c.loop-bit.invariant.0,
-      elim c.if-starts_here.branch [
-        then-starts_here w ↦ turn_start _ _ c.loop-bit.bit _ c.loop-bit.passed c.loop-bit.start c.loop-bit.invariant.1 (omega arith) _ _ _ (sym c.starts_here.ensures ∙ w.if-starts_here.true) w.byte-is w.passed-is w.start-is
-        | else-starts_here w ↦ turn_tick _ _ c.loop-bit.bit _ c.loop-bit.passed c.loop-bit.start c.loop-bit.invariant.1 (omega arith) _ _ _ (sym c.starts_here.ensures ∙ w.if-starts_here.false) (w.byte-is ∙ w.set-byte.ensures) w.passed-is w.start-is
-    ],
-    )
+loop-bit-preserved c = (
+  c.loop-bit.invariant.0,
+  elim c.if-starts_here.branch [
+    | then-starts_here w ↦ turn_start _ _ c.loop-bit.bit _ c.loop-bit.passed c.loop-bit.start c.loop-bit.invariant.1 (omega arith) _ _ _ (sym c.starts_here.ensures ∙ w.if-starts_here.true) w.byte-is w.passed-is w.start-is
+    | else-starts_here w ↦ turn_tick _ _ c.loop-bit.bit _ c.loop-bit.passed c.loop-bit.start c.loop-bit.invariant.1 (omega arith) _ _ _ (sym c.starts_here.ensures ∙ w.if-starts_here.false) (w.byte-is ∙ w.set-byte.ensures) w.passed-is w.start-is
+  ],
+)
 
 pub overflow_cast-made : goal.overflow_cast-made
 overflow_cast-made c = let h = turn_small _ _ c.loop-bit.bit _ _ _ c.loop-bit.invariant.1 c.loop-bit-test.false in omega arith

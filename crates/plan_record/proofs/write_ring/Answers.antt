@@ -26,8 +26,7 @@ bounds-out-at c = omega (arith, c.loop-j.invariant.2, c.loop-j.invariant.3)
 
 pub loop-j-preserved : goal.loop-j-preserved
 loop-j-preserved c =
-    let a = c.args in
-    (
+    let a = c.args in (
       omega arith,
       c.loop-j.invariant.1,
       c.loop-j.invariant.2,

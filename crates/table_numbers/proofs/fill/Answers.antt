@@ -16,14 +16,13 @@ loop-column-init c =
     (search rules, search rules, ap (λ (o : Outcome). o.unit) c.fresh-made.ensures ∙ unit_start c.requires c.args.number)
 
 pub loop-column-preserved : goal.loop-column-preserved
-loop-column-preserved c =
-    (
-      search rules,
-      search rules,
-      ap (λ (o : Outcome). o.unit) c.with_column-given.ensures
-          ∙ ap₂ (λ (u : FunctionUnit) (w : ℕ). (column_of u 1 c.loop-column.column w).unit) c.loop-column.invariant.2 c.column_word-word.ensures
-          ∙ unit_more c.requires c.args.number c.loop-column.column c.loop-column.invariant.0 (omega arith),
-    )
+loop-column-preserved c = (
+  search rules,
+  search rules,
+  ap (λ (o : Outcome). o.unit) c.with_column-given.ensures
+      ∙ ap₂ (λ (u : FunctionUnit) (w : ℕ). (column_of u 1 c.loop-column.column w).unit) c.loop-column.invariant.2 c.column_word-word.ensures
+      ∙ unit_more c.requires c.args.number c.loop-column.column c.loop-column.invariant.0 (omega arith),
+)
 
 pub returns : goal.returns
 returns c =

@@ -19,8 +19,8 @@ loop-column-preserved c =
     let more : c.if-has_mark.word ≡ word_below (c.loop-column.column + 1) (column_mark c.args.columns c.args.segment) = let a = c.args in
     let f = column_mark a.columns a.segment in
     elim c.if-has_mark.branch [
-        then-has_mark w ↦ w.word-is ∙ w.set-word.ensures ∙ ap (λ v. set_bit v c.loop-column.column) c.loop-column.invariant.1 ∙ word_one c.loop-column.column f c.loop-column-test.true (sym c.has_mark.ensures ∙ w.if-has_mark.true)
-        | else-has_mark w ↦ w.word-is ∙ c.loop-column.invariant.1 ∙ word_none c.loop-column.column f (sym c.has_mark.ensures ∙ w.if-has_mark.false)
+      | then-has_mark w ↦ w.word-is ∙ w.set-word.ensures ∙ ap (λ v. set_bit v c.loop-column.column) c.loop-column.invariant.1 ∙ word_one c.loop-column.column f c.loop-column-test.true (sym c.has_mark.ensures ∙ w.if-has_mark.true)
+      | else-has_mark w ↦ w.word-is ∙ c.loop-column.invariant.1 ∙ word_none c.loop-column.column f (sym c.has_mark.ensures ∙ w.if-has_mark.false)
     ] in
     (search rules, more)
 

@@ -23,13 +23,12 @@ pub loop-i-smaller : goal.loop-i-smaller
 loop-i-smaller c = omega arith
 
 pub loop-i-preserved : goal.loop-i-preserved
-loop-i-preserved c =
-    (
-      c.loop-i.invariant.0,
-      at_next _ _ _ _ c.loop-i.i c.loop-i.invariant.1 c.step-next.result c.step-next.ensures,
-      tasks_next _ _ _ _ c.loop-i.i c.loop-i.invariant.1 c.step-next.result c.step-next.ensures c.loop-i.tasks c.loop-i.invariant.2,
-      filled_more _ _ _ _ c.loop-i.i _ c.loop-i.out c.loop-i.invariant.3 (omega arith) (start_next _ _ _ _ c.loop-i.i c.loop-i.invariant.1 c.step-next.result c.step-next.ensures c.loop-i.tasks _ c.loop-i.invariant.2 c.start_cell.ensures),
-    )
+loop-i-preserved c = (
+  c.loop-i.invariant.0,
+  at_next _ _ _ _ c.loop-i.i c.loop-i.invariant.1 c.step-next.result c.step-next.ensures,
+  tasks_next _ _ _ _ c.loop-i.i c.loop-i.invariant.1 c.step-next.result c.step-next.ensures c.loop-i.tasks c.loop-i.invariant.2,
+  filled_more _ _ _ _ c.loop-i.i _ c.loop-i.out c.loop-i.invariant.3 (omega arith) (start_next _ _ _ _ c.loop-i.i c.loop-i.invariant.1 c.step-next.result c.step-next.ensures c.loop-i.tasks _ c.loop-i.invariant.2 c.start_cell.ensures),
+)
 
 pub overflow_add-result : goal.overflow_add-result
 overflow_add-result c = omega (arith, c.loop-i.invariant.3.room)

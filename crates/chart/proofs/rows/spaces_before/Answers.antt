@@ -21,9 +21,9 @@ pub loop-room-preserved : goal.loop-room-preserved
 loop-room-preserved c =
     let a = c.args in (
       elim c.if-rest-lt10.branch [
-        then-rest-lt10 w ↦ subst (λ k. Counted a.number a.most (c.loop-room.rest / 10) (c.loop-room.room / 10) k) (sym w.spaces-is) (counted_space _ _ _ _ _ c.loop-room.invariant.0 c.loop-room-test.true w.if-rest-lt10.true)
+        | then-rest-lt10 w ↦ subst (λ k. Counted a.number a.most (c.loop-room.rest / 10) (c.loop-room.room / 10) k) (sym w.spaces-is) (counted_space _ _ _ _ _ c.loop-room.invariant.0 c.loop-room-test.true w.if-rest-lt10.true)
         | else-rest-lt10 w ↦ subst (λ k. Counted a.number a.most (c.loop-room.rest / 10) (c.loop-room.room / 10) k) (sym w.spaces-is) (counted_digit _ _ _ _ _ c.loop-room.invariant.0 c.loop-room-test.true w.if-rest-lt10.false)
-    ],
+      ],
       c.loop-room.invariant.1,
     )
 

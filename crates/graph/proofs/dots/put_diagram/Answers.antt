@@ -25,8 +25,7 @@ put_states-after_states-requires c =
     let head-put : (let a = (c).args in Put 30 a.out.now 0 (ascii "digraph function_" ++ decimal a.tag ++ ascii " {\n") c.put-after_head.new.out c.put-after_head.result) = let s = c in
     let p = put_one 17 _ (c.put-after_word.ensures.value, c.put-after_word.ensures.out_after) (omega arith) (omega (arith, s.pre.2)) in
     let d = decimal_length s.args.tag 10 (omega arith) (omega arith) in
-    put_word 3 _ (put_word 10 _ p (c.put_number-after_tag.ensures.value, c.put_number-after_tag.ensures.out_after) d (omega (arith, s.pre.2))) (c.put-after_head.ensures.value, c.put-after_head.ensures.out_after) (omega arith) (omega (arith, s.pre.2)) in
-    (
+    put_word 3 _ (put_word 10 _ p (c.put_number-after_tag.ensures.value, c.put_number-after_tag.ensures.out_after) d (omega (arith, s.pre.2))) (c.put-after_head.ensures.value, c.put-after_head.ensures.out_after) (omega arith) (omega (arith, s.pre.2)) in (
       record { narrow = width_narrow _ _ c.width_of-columns.ensures; turn = c.turn_states-on.ensures },
       listing_small c.pre.0 c.width_of-columns.ensures,
       put_room (3531 * length c.args.states.now) head-put (omega (arith, c.pre.0.few, c.pre.2)),

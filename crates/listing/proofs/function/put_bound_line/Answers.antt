@@ -22,6 +22,7 @@ put_line-requires c =
 
 pub returns : goal.returns
 unfolding bound_answer
+
 unfolding upper_answer
 returns c =
     let bound-is : c.value_of-bound.result ≡ bound_of (marked c.args.u) c.args.tag.0 = value_answering _ c.requires.0 c.bound.ensures c.value_of-bound.ensures in

@@ -20,12 +20,15 @@ loop-at-init c = explore_begin c.args.work.now c.put.new.work c.started-first.re
 pub follow-count-requires : goal.follow-count-requires
 follow-count-requires c =
     let i = c.loop-at.invariant in
-    record { sane = c.requires.sane; listable = record {
+    record {
+      sane = c.requires.sane;
+      listable = record {
         inside = c.loop-at-test.true;
         few = i.few;
         room = omega (arith, i.size, begin_size c.args.work.now c.put.new.work c.started-first.result c.put.ensures, c.requires.in_bounds);
         stocked = i.stocked;
-      } }
+      };
+    }
 
 -- src/listing.rt:163:13
 pub shape_of-work-then-count-gt256 : goal.shape_of-work-then-count-gt256

@@ -7,7 +7,7 @@ use Rattle.collision.specs.Vector.{collides}
 use Rattle.loops.proofs.ruling.widest.Given as goal
 
 abbrev pub invariant-loop-q : goal.invariant-loop-q
-invariant-loop-q l = (l.best ≡ max_below l.q (λ l.q. max_below 5 (λ r. span_below 32 (λ k. collides (marked l.u) l.q r (k + 1))))) × (l.q ≤ 5)
+invariant-loop-q l = (l.best ≡ max_below l.q (λ q. max_below 5 (λ r. span_below 32 (λ k. collides (marked l.u) q r (k + 1))))) × (l.q ≤ 5)
 
 abbrev pub decreases-loop-q : goal.decreases-loop-q
 decreases-loop-q l = 5 - l.q

@@ -27,11 +27,10 @@ pub next_latency-t-requires : goal.next_latency-t-requires
 next_latency-t-requires c = omega arith
 
 pub loop-t-init : goal.loop-t-init
-loop-t-init c =
-    (
-      visit_next 0 _ (visit_start _ c.requires.ready c.requires.tree) c.requires.ready.listing c.requires.v_lt_nodes refl (omega arith) c.next_latency-t.ensures,
-      λ le. next_permits 0 c.requires.ready.listing c.requires.v_lt_nodes c.next_latency-t.ensures le,
-    )
+loop-t-init c = (
+  visit_next 0 _ (visit_start _ c.requires.ready c.requires.tree) c.requires.ready.listing c.requires.v_lt_nodes refl (omega arith) c.next_latency-t.ensures,
+  λ le. next_permits 0 c.requires.ready.listing c.requires.v_lt_nodes c.next_latency-t.ensures le,
+)
 
 pub overflow_add-up : goal.overflow_add-up
 overflow_add-up c =

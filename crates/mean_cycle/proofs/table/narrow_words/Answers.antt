@@ -27,12 +27,11 @@ pub loop-v-smaller : goal.loop-v-smaller
 loop-v-smaller c = omega arith
 
 pub loop-v-preserved : goal.loop-v-preserved
-loop-v-preserved c =
-    (
-      narrow_more c.args.work.now _ _ _ c.loop-v.invariant.0
-          (omega (arith, c.shared_slice_known-in-loop-v-1.given c.loop-v.v)) c.width_of.ensures c.if-width-width_of.false,
-      omega arith,
-    )
+loop-v-preserved c = (
+  narrow_more c.args.work.now _ _ _ c.loop-v.invariant.0
+      (omega (arith, c.shared_slice_known-in-loop-v-1.given c.loop-v.v)) c.width_of.ensures c.if-width-width_of.false,
+  omega arith,
+)
 
 pub returns : goal.returns
 returns c = says_yes (λ v l. c.loop-v.invariant.0 v (omega arith))

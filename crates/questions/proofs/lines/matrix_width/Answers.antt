@@ -18,8 +18,8 @@ pub loop-tag-preserved : goal.loop-tag-preserved
 loop-tag-preserved c =
     let more : c.if-widest-columns.widest ≡ max_below (c.loop-tag.tag + 1) (row_width (marked c.args.u) c.args.r.0) = let a = c.args in
     elim c.if-widest-columns.branch [
-        then-widest-columns b ↦ b.widest-is ∙ c.row_width-columns.ensures ∙ widest_new (marked a.u) a.r.0 c.loop-tag.tag (omega (arith, c.loop-tag.invariant.1, c.row_width-columns.ensures, b.if-widest-columns.true))
-        | else-widest-columns b ↦ b.widest-is ∙ c.loop-tag.invariant.1 ∙ widest_kept (marked a.u) a.r.0 c.loop-tag.tag (omega (arith, c.loop-tag.invariant.1, c.row_width-columns.ensures, b.if-widest-columns.false))
+      | then-widest-columns b ↦ b.widest-is ∙ c.row_width-columns.ensures ∙ widest_new (marked a.u) a.r.0 c.loop-tag.tag (omega (arith, c.loop-tag.invariant.1, c.row_width-columns.ensures, b.if-widest-columns.true))
+      | else-widest-columns b ↦ b.widest-is ∙ c.loop-tag.invariant.1 ∙ widest_kept (marked a.u) a.r.0 c.loop-tag.tag (omega (arith, c.loop-tag.invariant.1, c.row_width-columns.ensures, b.if-widest-columns.false))
     ] in
     (search rules, more)
 

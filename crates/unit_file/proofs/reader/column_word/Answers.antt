@@ -31,9 +31,9 @@ loop-i-preserved c =
     let t = sym (ap (λ w. is_set w (k - 1)) c.word_at-word.ensures) ∙ sym c.test.ensures in (
       search rules,
       elim c.if-test.branch [
-        then-test w ↦ w.marks-is ∙ w.set-marks.ensures ∙ ap (λ m. set_bit m c.loop-i.i) c.loop-i.invariant.1 ∙ column_set f c.table_at-first.result k c.loop-i.i (omega arith) (t ∙ w.if-test.true)
+        | then-test w ↦ w.marks-is ∙ w.set-marks.ensures ∙ ap (λ m. set_bit m c.loop-i.i) c.loop-i.invariant.1 ∙ column_set f c.table_at-first.result k c.loop-i.i (omega arith) (t ∙ w.if-test.true)
         | else-test w ↦ w.marks-is ∙ c.loop-i.invariant.1 ∙ column_unset f c.table_at-first.result k c.loop-i.i (t ∙ w.if-test.false)
-    ],
+      ],
     )
 
 pub overflow_cast-result : goal.overflow_cast-result

@@ -14,8 +14,7 @@ use Rattle.unit_file.proofs.reader.fill_function.Goals as goal
 pub loop-column-preserved : goal.loop-column-preserved
 loop-column-preserved c =
     let f = c.args.file.now in
-    let k = c.args.tag in
-    (
+    let k = c.args.tag in (
       search rules,
       search rules,
       ap (λ (o : Outcome). o.unit) c.with_column-given.ensures
