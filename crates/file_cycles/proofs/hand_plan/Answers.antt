@@ -3,7 +3,6 @@ use mathlib.Core.Path.{sym}
 use Prim.Native.Nat.{◌≤◌}
 use lib.ListN.{length}
 use lib.Seq.{length-take-le}
-use Rattle.unit.specs.declared.Plan.{Plan}
 use Rattle.file_cycles.proofs.SearchLaws.{plan_refused, plan_handed}
 use Rattle.file_cycles.proofs.hand_plan.Goals as goal
 
@@ -12,17 +11,14 @@ returns-in_default c =
     let facts = plan_refused _ c.args.plan _ _ _ c.in_default.is c.number_in.ensures in
     record { value = facts.0; out_after = facts.1.0; count_after = facts.1.1.0; sum_after = facts.1.1.1 }
 
-abbrev plan : goal.In-Done → Plan
-plan c = c.before.before.before.args.plan
-
 pub slice_bounds-latencies-end : goal.slice_bounds-latencies-end
 slice_bounds-latencies-end c =
-    let inside : (plan c).count ≤ length (plan c).latencies = c.requires c.in-Done.is in
+    let inside : c.args.plan.count ≤ length c.args.plan.latencies = c.requires c.in-Done.is in
     inside
 
 pub slice_bounds-put-end : goal.slice_bounds-put-end
 slice_bounds-put-end c =
-    let inside : (plan c).count ≤ length (plan c).latencies = c.requires c.in-Done.is in
+    let inside : c.args.plan.count ≤ length c.args.plan.latencies = c.requires c.in-Done.is in
     sym (length-take-le _ _ inside)
 
 pub returns : goal.returns
