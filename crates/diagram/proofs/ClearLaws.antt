@@ -52,9 +52,9 @@ clear_indexed h r = record {
   room = omega arith;
   few = omega arith;
   head_low = λ b l. omega (arith, r.empty b l);
-  head_in_lem = λ b l p. absurd (omega (arith, r.empty b l));
+  head_bucket = λ b l p. absurd (omega (arith, r.empty b l));
   head_last = λ b l j m o. absurd (not-suc-le-zero o);
   link_low = λ i l. absurd (not-suc-le-zero l);
-  link_same = λ i l. absurd (not-suc-le-zero l);
+  link_bucket = λ i l. absurd (not-suc-le-zero l);
   link_last = λ i l. absurd (not-suc-le-zero l);
 }

@@ -80,7 +80,7 @@ module _ (w : List ℕ) (k : ℕ) (index : Indexed w k) (x : ℕ) where
             let same : bucket (state_in w (at - 1)) ≡ bucket x = b (omega arith) in
             let h = index.link_low (at - 1) (omega arith) in
             rw (along_more f w k x at (omega arith) s (omega arith))
-            (more (link_in w (at - 1)) (omega arith) (omega arith) (λ pos. index.link_same (at - 1) (omega arith) pos ∙ same)
+            (more (link_in w (at - 1)) (omega arith) (omega arith) (λ pos. index.link_bucket (at - 1) (omega arith) pos ∙ same)
             (below same (λ e. s (ap (state_in w) e ∙ here)) (dec_lt i (link_in w (at - 1)))))
           where
             below : bucket (state_in w (at - 1)) ≡ bucket x → (at - 1 ≡ i → ⊥) → Dec (i < link_in w (at - 1)) → i < link_in w (at - 1)
@@ -92,7 +92,7 @@ module _ (w : List ℕ) (k : ℕ) (index : Indexed w k) (x : ℕ) where
         let h = index.head_low (bucket x) (bucket_lt x) in
         let few = index.few in
         rw same_place
-        (along_some 257 (head_in w (bucket x)) (omega arith) h (index.head_in_lem (bucket x) (bucket_lt x)) (below (dec_lt i (head_in w (bucket x)))))
+        (along_some 257 (head_in w (bucket x)) (omega arith) h (index.head_bucket (bucket x) (bucket_lt x)) (below (dec_lt i (head_in w (bucket x)))))
       where
         below : Dec (i < head_in w (bucket x)) → i < head_in w (bucket x)
         below (yes h) = h
@@ -120,19 +120,19 @@ index_kept {w} {w'} k size same h = record {
   room = omega (arith, size, h.room);
   few = h.few;
   head_low = λ b l. subst (λ (x : ℕ). x ≤ k) (sym (same (256 + b) (omega arith))) (h.head_low b l);
-  head_in_lem = λ b l m.
+  head_bucket = λ b l m.
       let e = same (256 + b) (omega arith) in
       let r : 0 < head_in w b = omega arith in
-      ap bucket (ap (λ (x : ℕ). state_in w' (x - 1)) e ∙ same (head_in w b - 1) (omega (arith, h.head_low b l, h.few))) ∙ h.head_in_lem b l r;
+      ap bucket (ap (λ (x : ℕ). state_in w' (x - 1)) e ∙ same (head_in w b - 1) (omega (arith, h.head_low b l, h.few))) ∙ h.head_bucket b l r;
   head_last = λ b l j m o e.
       h.head_last b l j (subst (λ (x : ℕ). x ≤ j) (same (256 + b) (omega arith)) m) o
       (ap bucket (sym (same j (omega (arith, h.few)))) ∙ e);
   link_low = λ i l. subst (λ (x : ℕ). x ≤ i) (sym (same (512 + i) (omega (arith, h.few)))) (h.link_low i l);
-  link_same = λ i l m.
+  link_bucket = λ i l m.
       let e = same (512 + i) (omega (arith, h.few)) in
       let r : 0 < link_in w i = omega arith in
       ap bucket (ap (λ (x : ℕ). state_in w' (x - 1)) e ∙ same (link_in w i - 1) (omega (arith, h.link_low i l, h.few)))
-      ∙ h.link_same i l r
+      ∙ h.link_bucket i l r
       ∙ ap bucket (sym (same i (omega (arith, h.few))));
   link_last = λ i l j m o e.
       h.link_last i l j (subst (λ (x : ℕ). x ≤ j) (same (512 + i) (omega (arith, h.few))) m) o

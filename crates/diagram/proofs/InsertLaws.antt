@@ -99,9 +99,9 @@ module _ (w : List ℕ) (k x b : ℕ) (e : b ≡ bucket x) (few : k < 256) (old 
       go (yes s) = rw s (omega (arith, head_new w k x b room few low))
       go (no s) = omega (arith, head_old w k x b room few low c h s, old.head_low c h)
 
-  head_in_lem : (c : ℕ) → c < 256 → 0 < head_in (inserted w k x b) c
+  head_bucket : (c : ℕ) → c < 256 → 0 < head_in (inserted w k x b) c
       → bucket (state_in (inserted w k x b) (head_in (inserted w k x b) c - 1)) ≡ c
-  head_in_lem c h = go (ℕ_discrete c b)
+  head_bucket c h = go (ℕ_discrete c b)
     where
       go : Dec (c ≡ b) → 0 < head_in (inserted w k x b) c → bucket (state_in (inserted w k x b) (head_in (inserted w k x b) c - 1)) ≡ c
       go (yes s) p =
@@ -111,7 +111,7 @@ module _ (w : List ℕ) (k x b : ℕ) (e : b ≡ bucket x) (few : k < 256) (old 
           let at : head_in (inserted w k x b) c ≡ head_in w c = head_old w k x b room few low c h s in
           ap (λ i. bucket (state_in (inserted w k x b) (i - 1))) at
           ∙ bucket_old (head_in w c - 1) (omega (arith, old.head_low c h))
-          ∙ old.head_in_lem c h (omega arith)
+          ∙ old.head_bucket c h (omega arith)
 
   head_last : (c : ℕ) → c < 256 → (j : ℕ) → head_in (inserted w k x b) c ≤ j → j < k + 1 → bucket (state_in (inserted w k x b) j) ≡ c → ⊥
   head_last c h j l m q = go (recent k j m) l q (ℕ_discrete c b)
@@ -130,9 +130,9 @@ module _ (w : List ℕ) (k x b : ℕ) (e : b ≡ bucket x) (few : k < 256) (old 
       go newest = omega (arith, link_new w k x b room few low, old.head_low b low)
       go (older {i = i} o) = omega (arith, link_old w k x b room few low i o, old.link_low i o)
 
-  link_same : (i : ℕ) → i < k + 1 → 0 < link_in (inserted w k x b) i
+  link_bucket : (i : ℕ) → i < k + 1 → 0 < link_in (inserted w k x b) i
       → bucket (state_in (inserted w k x b) (link_in (inserted w k x b) i - 1)) ≡ bucket (state_in (inserted w k x b) i)
-  link_same i h = go (recent k i h)
+  link_bucket i h = go (recent k i h)
     where
       go : {i : ℕ} → Recent k i → 0 < link_in (inserted w k x b) i
           → bucket (state_in (inserted w k x b) (link_in (inserted w k x b) i - 1)) ≡ bucket (state_in (inserted w k x b) i)
@@ -140,13 +140,13 @@ module _ (w : List ℕ) (k x b : ℕ) (e : b ≡ bucket x) (few : k < 256) (old 
           let at : link_in (inserted w k x b) k ≡ head_in w b = link_new w k x b room few low in
           ap (λ i. bucket (state_in (inserted w k x b) (i - 1))) at
           ∙ bucket_old (head_in w b - 1) (omega (arith, old.head_low b low))
-          ∙ old.head_in_lem b low (omega arith)
+          ∙ old.head_bucket b low (omega arith)
           ∙ sym bucket_new
       go (older {i = i} o) p =
           let at : link_in (inserted w k x b) i ≡ link_in w i = link_old w k x b room few low i o in
           ap (λ j. bucket (state_in (inserted w k x b) (j - 1))) at
           ∙ bucket_old (link_in w i - 1) (omega (arith, old.link_low i o))
-          ∙ old.link_same i o (omega arith)
+          ∙ old.link_bucket i o (omega arith)
           ∙ sym (bucket_old i o)
 
   link_last : (i : ℕ) → i < k + 1 → (j : ℕ) → link_in (inserted w k x b) i ≤ j → j < i
@@ -165,10 +165,10 @@ module _ (w : List ℕ) (k x b : ℕ) (e : b ≡ bucket x) (few : k < 256) (old 
     room = omega (arith, inserted_size w k x b room few low, room);
     few = omega arith;
     head_low = head_low;
-    head_in_lem = head_in_lem;
+    head_bucket = head_bucket;
     head_last = head_last;
     link_low = link_low;
-    link_same = link_same;
+    link_bucket = link_bucket;
     link_last = link_last;
   }
 

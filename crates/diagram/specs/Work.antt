@@ -36,10 +36,10 @@ pub record Indexed (w : List ℕ) (k : ℕ) : Type 0 where
   pub room : 768 ≤ length w
   pub few : k ≤ 256
   pub head_low : (b : ℕ) → b < 256 → head_in w b ≤ k
-  pub head_in_lem : (b : ℕ) → b < 256 → 0 < head_in w b → bucket (state_in w (head_in w b - 1)) ≡ b
+  pub head_bucket : (b : ℕ) → b < 256 → 0 < head_in w b → bucket (state_in w (head_in w b - 1)) ≡ b
   pub head_last : (b : ℕ) → b < 256 → (j : ℕ) → head_in w b ≤ j → j < k → bucket (state_in w j) ≡ b → ⊥
   pub link_low : (i : ℕ) → i < k → link_in w i ≤ i
-  pub link_same : (i : ℕ) → i < k → 0 < link_in w i → bucket (state_in w (link_in w i - 1)) ≡ bucket (state_in w i)
+  pub link_bucket : (i : ℕ) → i < k → 0 < link_in w i → bucket (state_in w (link_in w i - 1)) ≡ bucket (state_in w i)
   pub link_last : (i : ℕ) → i < k → (j : ℕ) → link_in w i ≤ j → j < i → bucket (state_in w j) ≡ bucket (state_in w i) → ⊥
 
 -- how many states the diagram of cv has, or 0 for more than 256 or for too few working words
