@@ -18,7 +18,6 @@ use Rattle.unit.proofs.Laws.{within, inside_of}
 use Rattle.controller.specs.declared.Bank.{Bank}
 use Rattle.queue.specs.declared.Waiting.{Waiting}
 use Rattle.queue.specs.declared.Passed.{Passed}
-use Rattle.queue.specs.declared.Passed.TheVariants as Passed
 use Rattle.queue.specs.Line.{tags_inside}
 use Rattle.queue.specs.Calls.{arrival_answer, oldest, passed_then}
 use Rattle.callers.specs.Turn.{each_caller}

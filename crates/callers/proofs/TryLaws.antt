@@ -19,7 +19,6 @@ use Rattle.controller.specs.Bank.{granted, event_answer}
 use Rattle.controller.proofs.StepLaws.{start_answered, start_accepted}
 use Rattle.queue.specs.declared.Waiting.{Waiting}
 use Rattle.queue.specs.declared.Passed.{Passed}
-use Rattle.queue.specs.declared.Passed.TheVariants as Passed
 use Rattle.queue.specs.Line.{no_record, tag_of, tags_inside}
 use Rattle.queue.specs.Calls.{oldest}
 use Rattle.queue.proofs.LineLaws.{tags_first}
@@ -110,7 +109,7 @@ pub any_turn : (u : FunctionUnit) (b : Bank) (C t v : ℕ) (list : List Waiting)
     → on_by u b C t list counts i (oldest b line) ≡ on_by u b C v list counts i (oldest b line)
 unfolding oldest
 any_turn u b C t v list counts i [] = refl
-any_turn u b C t v list counts i (w ∷ line) = go (granted b w.tag)
+any_turn u b C t v list counts i (w ∷ _) = go (granted b w.tag)
   where
     go : (g : Bool) → on_by u b C t list counts i (cond g (Passed.Started w) Passed.Idle) ≡ on_by u b C v list counts i (cond g (Passed.Started w) Passed.Idle)
     go true = refl

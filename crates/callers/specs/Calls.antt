@@ -4,18 +4,15 @@ use Rattle.std.specs.Prelude.{ℕ, Bool, ◌&&◌, List, leb, length, replicate}
 use Rattle.unit.specs.declared.FunctionUnit.{FunctionUnit}
 use Rattle.unit.specs.declared.Refusal.TheVariants.{NotSound, NoSuchTag, ShortOutput, TooManyWait, NoSuchCaller}
 use Rattle.unit.specs.declared.Answer.{Answer}
-use Rattle.unit.specs.declared.Answer.TheVariants as Answer
 use Rattle.unit.specs.Unit.{inside, sound_of}
 use Rattle.unit.specs.Calls.{check}
 use Rattle.controller.specs.declared.Bank.{Bank}
 use Rattle.queue.specs.declared.Waiting.{Waiting}
 use Rattle.queue.specs.declared.Arrival.{Arrival}
 use Rattle.queue.specs.declared.Passed.{Passed}
-use Rattle.queue.specs.declared.Passed.TheVariants as Passed
 use Rattle.queue.specs.Line.{no_record, tags_inside}
 use Rattle.queue.specs.Calls.{arrival_answer, count_then, list_then, oldest, passed_then, bank_then, fewer, list_after}
 use Rattle.callers.specs.declared.Served.{Served}
-use Rattle.callers.specs.declared.Served.TheVariants as Served
 use Rattle.callers.specs.declared.Turned.{Turned}
 use Rattle.callers.specs.declared.Shared.{Shared}
 use Rattle.callers.specs.declared.Called.{Called}

@@ -16,7 +16,6 @@ use Rattle.unit.proofs.Laws.{within, inside_of}
 use Rattle.controller.specs.declared.Bank.{Bank}
 use Rattle.queue.specs.declared.Waiting.{Waiting}
 use Rattle.queue.specs.declared.Passed.{Passed}
-use Rattle.queue.specs.declared.Passed.TheVariants as Passed
 use Rattle.queue.specs.Line.{no_record, forward}
 use Rattle.queue.specs.Calls.{count_then, list_then, oldest, passed_then}
 use Rattle.queue.proofs.LineLaws.{forward_length}

@@ -15,17 +15,17 @@ use Rattle.callers.specs.Queues.{room, place_of, count_of}
 use Rattle.callers.proofs.EachLaws.{Upto, upto_none, upto_more, each_upto, each_false, each_at}
 use Rattle.callers.proofs.all_fit.Goals as goal
 
-abbrev fitsAt : ℕ → List Waiting → List ℕ → ℕ → Bool
-fitsAt f list counts i = tags_inside f (take (count_of counts i) (drop (place_of i) list))
+abbrev fits_at : ℕ → List Waiting → List ℕ → ℕ → Bool
+fits_at f list counts i = tags_inside f (take (count_of counts i) (drop (place_of i) list))
 
 -- the caller at a place
-same_place : (f : ℕ) (list : List Waiting) (counts : List ℕ) (p : ℕ) {b : Bool} → tags_inside f (take (get_or counts p 0) (drop (8 * p) list)) ≡ b → fitsAt f list counts (p + 1) ≡ b
+same_place : (f : ℕ) (list : List Waiting) (counts : List ℕ) (p : ℕ) {b : Bool} → tags_inside f (take (get_or counts p 0) (drop (8 * p) list)) ≡ b → fits_at f list counts (p + 1) ≡ b
 same_place f list counts p e =
     let s : p + 1 - 1 ≡ p = omega arith in
     ap (λ (k : ℕ). tags_inside f (take (get_or counts k 0) (drop (8 * k) list))) s ∙ e
 
 pub loop-place-init : goal.loop-place-init
-loop-place-init c = (upto_none (fitsAt c.args.functions c.args.list c.args.counts), search rules)
+loop-place-init c = (upto_none (fits_at c.args.functions c.args.list c.args.counts), search rules)
 
 pub bounds-counts-place : goal.bounds-counts-place
 bounds-counts-place c = omega (arith, c.loop-place-test.true, c.requires.few)
@@ -41,13 +41,13 @@ fits_from-requires c =
 pub returns-then-not-fits_from : goal.returns-then-not-fits_from
 returns-then-not-fits_from c =
     let a = c.args in
-    sym (each_false a.callers (fitsAt a.functions a.list a.counts) c.loop-place.place c.loop-place-test.true
+    sym (each_false a.callers (fits_at a.functions a.list a.counts) c.loop-place.place c.loop-place-test.true
     (same_place a.functions a.list a.counts c.loop-place.place (sym c.fits_from.ensures ∙ not-true _ c.if-not-fits_from.true-raw)))
 
 pub loop-place-preserved : goal.loop-place-preserved
 loop-place-preserved c =
     let a = c.args in (
-      upto_more (fitsAt a.functions a.list a.counts) c.loop-place.place c.loop-place.invariant.0
+      upto_more (fits_at a.functions a.list a.counts) c.loop-place.place c.loop-place.invariant.0
           (same_place a.functions a.list a.counts c.loop-place.place (sym c.fits_from.ensures ∙ not-false _ c.if-not-fits_from.false-raw)),
       search rules,
     )
@@ -56,4 +56,4 @@ pub returns : goal.returns
 returns c =
     let a = c.args in
     let e : c.loop-place.place ≡ a.callers = omega (arith, c.loop-place-test.false, c.loop-place.invariant.1) in
-    sym (each_upto a.callers (fitsAt a.functions a.list a.counts) (subst (Upto (fitsAt a.functions a.list a.counts)) e c.loop-place.invariant.0))
+    sym (each_upto a.callers (fits_at a.functions a.list a.counts) (subst (Upto (fits_at a.functions a.list a.counts)) e c.loop-place.invariant.0))

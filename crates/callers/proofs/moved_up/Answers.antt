@@ -16,9 +16,9 @@ use Rattle.callers.proofs.moved_up.Goals as goal
 abbrev moved : List Waiting → ℕ → ℕ → List Waiting
 moved list from j = take from list ++ shift (drop from list) j
 
-moved-step : (list : List Waiting) (from j : ℕ) → from + suc j < length list
+moved_step : (list : List Waiting) (from j : ℕ) → from + suc j < length list
     → set (moved list from j) (from + suc j - 1) (get_or (moved list from j) (from + suc j) no_record) ≡ moved list from (suc j)
-moved-step list from j h =
+moved_step list from j h =
     let front : length (take from list) ≡ from = length-take-le from list (omega arith) in
     let place : from + suc j - 1 ≡ length (take from list) + j = omega (arith, front) in
     let next : from + suc j ≡ length (take from list) + suc j = omega (arith, front) in
@@ -40,7 +40,7 @@ loop-i-preserved c =
     let h : a.from + suc (c.loop-i.i - 1) < length a.list = omega (arith, n, c.loop-i-test.true, c.requires.1, c.loop-i.invariant.1) in (
       ap (λ (x : List Waiting). set x (a.from + c.loop-i.i - 1) (get_or x (a.from + c.loop-i.i) no_record)) c.loop-i.invariant.0
           ∙ ap (λ (k : ℕ). set (moved a.list a.from (c.loop-i.i - 1)) (a.from + k - 1) (get_or (moved a.list a.from (c.loop-i.i - 1)) (a.from + k) no_record)) (sym s)
-          ∙ moved-step a.list a.from (c.loop-i.i - 1) h
+          ∙ moved_step a.list a.from (c.loop-i.i - 1) h
           ∙ ap (moved a.list a.from) (sym e),
       search rules,
       search rules,

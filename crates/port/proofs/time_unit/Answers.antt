@@ -1,0 +1,23 @@
+-- `port::time_unit` meets its contract: the records are copied out, the call is made on them, and they are copied back. Assumes nothing.
+use Prim.Native.Nat.{ℕ}
+use mathlib.Core.Path.{ap, ap₂, ◌∙◌}
+use mathlib.Core.List.{List}
+use lib.ListN.{length}
+use Rattle.queue.specs.declared.Waiting.{Waiting}
+use Rattle.callers.specs.Parts.{unit_in, unit_on_by}
+use Rattle.port.specs.Inner.{loaded_of, stored_of}
+use Rattle.port.proofs.LentLaws.{unit_lent}
+use Rattle.port.proofs.time_unit.Goals as goal
+
+pub returns : goal.returns
+returns c =
+    let a = c.args in
+    let ys = a.list.now in
+    let same = c.load-records.ensures.1 in
+    let held = c.load-records.ensures.0 ∙ ap (loaded_of ys) c.reach-n.ensures in
+    let lent = unit_lent a.u a.bank a.callers a.turn ys a.counts.each c.passing-after.result
+    (c.passing-after.ensures
+    ∙ ap₂ (λ (k : ℕ) (l : List Waiting). unit_on_by a.u a.bank a.callers a.turn l a.counts.each (unit_in a.u a.callers a.turn k l a.counts.each)) (ap length same) held) in (
+      lent.0,
+      c.store.ensures ∙ ap₂ (λ (l : List Waiting) (k : ℕ). stored_of l c.passing-after.result.records.list k) same c.reach-n.ensures ∙ lent.1,
+    )
