@@ -12,6 +12,11 @@ slice_bounds-latencies-end c =
     let finds : Found c.args.u c.args.tag.0 c.search-found.result.unit = search_finds (replicate 16000 0) refl c.requires.0 c.search-found.ensures in
     (search_stands finds).room
 
+pub slice_bounds-put_cycle-end-2 : goal.slice_bounds-put_cycle-end-2
+slice_bounds-put_cycle-end-2 c =
+    let finds : Found c.args.u c.args.tag.0 c.search-found.result.unit = search_finds (replicate 16000 0) refl c.requires.0 c.search-found.ensures in
+    standing_part (search_stands finds)
+
 pub put_cycle-requires : goal.put_cycle-requires
 put_cycle-requires c =
     let finds : Found c.args.u c.args.tag.0 c.search-found.result.unit = search_finds (replicate 16000 0) refl c.requires.0 c.search-found.ensures in

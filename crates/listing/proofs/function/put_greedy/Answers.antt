@@ -17,6 +17,11 @@ slice_bounds-cycle-end c =
     let stands : Standing (greedy_of 1 (marked c.args.u) c.args.tag.0) c.in-Cycle.counted.count c.in-Cycle.counted.sum c.greedy-found.new.out = greedy_stands c.requires.0 (replicate 256 0) refl c.greedy-found.ensures.0 c.greedy-found.ensures.1 c.in-Cycle.is in
     stands.room
 
+pub slice_bounds-put_cycle-end-2 : goal.slice_bounds-put_cycle-end-2
+slice_bounds-put_cycle-end-2 c =
+    let stands : Standing (greedy_of 1 (marked c.args.u) c.args.tag.0) c.in-Cycle.counted.count c.in-Cycle.counted.sum c.greedy-found.new.out = greedy_stands c.requires.0 (replicate 256 0) refl c.greedy-found.ensures.0 c.greedy-found.ensures.1 c.in-Cycle.is in
+    standing_part stands
+
 pub put_cycle-requires : goal.put_cycle-requires
 put_cycle-requires c =
     let stands : Standing (greedy_of 1 (marked c.args.u) c.args.tag.0) c.in-Cycle.counted.count c.in-Cycle.counted.sum c.greedy-found.new.out = greedy_stands c.requires.0 (replicate 256 0) refl c.greedy-found.ensures.0 c.greedy-found.ensures.1 c.in-Cycle.is in
