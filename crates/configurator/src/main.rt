@@ -1,38 +1,66 @@
 // The configurator: reads a unit file from standard input, however long, and prints its listing.
 #![tactic(auto)]
 
-use listing::Listed;
+ghost use Rattle.std.specs.Prelude.{◌≤◌, length};
 
-// Reads some of what is left of the input, and answers whether there was any.
-fn skip_some() -> bool {
-    let mut space = io::large_buffer();
-    0 < libc::read(0, &mut space)
+use listing::Listed;
+use std::io::{Input, Print, Read};
+
+// Reads some of the input, and answers how many bytes of the buffer it filled: 0 at the end of the input, or where it can't be read.
+fn read_some(input: &mut impl Read, buffer: &mut [u8]) -> usize
+    ensures { result ≤ length buffer.new }
+{
+    input.read(buffer).unwrap_or(0)
 }
 
-// What is left of the input is read and not used, so that whoever writes it is not cut off. A proved loop has to end, so it counts its
-// turns down from a number that no run uses up.
-fn skip_rest() {
-    let mut turns = u64::MAX;
-    while turns > 0 && skip_some() {
-        turns -= 1;
+// Reads until the buffer is full, or there is no more input, and answers how many bytes stand at the buffer's front.
+fn read_full(input: &mut impl Read, buffer: &mut [u8]) -> usize
+    ensures { result ≤ length buffer.new }
+{
+    let mut done = 0;
+    while done < buffer.len() {
+        let count = read_some(input, &mut buffer[done..]);
+        if count == 0 {
+            break;
+        }
+        done += count;
+    }
+    done
+}
+
+// Reads some of what is left of the input, and answers whether there was any.
+fn skip_some(input: &mut impl Read) -> bool {
+    let mut space = [0u8; 65536];
+    0 < read_some(input, &mut space)
+}
+
+// What is left of the input is read and not used, so that whoever writes it is not cut off. A proved loop has to end, so it takes no more turns
+// than a number that no run uses up.
+fn skip_rest(input: &mut impl Read) {
+    for _ in 0..u64::MAX {
+        if !skip_some(input) {
+            break;
+        }
     }
 }
 
-fn print_text(area: &[u8], length: usize) {
+// Where the output can't be written, there is nobody to tell.
+fn print_text(rt: &impl Print, area: &[u8], length: usize) {
     if length <= area.len() {
-        io::write_all(1, &area[..length]);
+        let _ = rt.write_all(&area[..length]);
     }
 }
 
 // No unit file has more than 268 bytes, and the answer to a longer one depends on its first 269 alone (`read_cut`, crate unit_file).
-fn main() {
+fn main(rt: HostRuntime) {
+    let mut input = rt.reader();
     let mut file = [0u8; 512];
-    let count = io::read_full(0, &mut file);
-    skip_rest();
+    let count = read_full(&mut input, &mut file);
+    skip_rest(&mut input);
     let mut area = [0u8; listing::AREA];
     let listed = listing::list_file(&file[..count], &mut area);
     match listed {
-        Listed::Length(length) => print_text(&area, length as usize),
+        Listed::Length(length) => print_text(&rt, &area, length as usize),
         Listed::Refused(_) => {}
     }
 }

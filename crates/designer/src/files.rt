@@ -1,6 +1,10 @@
-// Files by name: units and plan records.
-ghost use Rattle.libc.specs.Io.{Ended};
+// Files by name: units and plan records. A name of the system's may be any bytes, but std takes text alone, so a name that is no UTF-8 names no file here.
+ghost use Rattle.std.specs.Prelude.{◌≤◌, length};
 
+use std::fs;
+use std::fs::{File, OpenFile, OpenOptions};
+use std::io::{ErrorKind, Print, Read, Seek, SeekFrom, Write};
+use std::rt::Files;
 use unit::{FunctionUnit, Tag};
 use unit_file::Written;
 
@@ -11,148 +15,179 @@ pub enum Found {
     Nothing,
 }
 
-// Reads the front of a file. A folder can be opened and not read, and is no file.
-fn read_front(from: i32, file: &mut [u8]) -> Found {
-    let got = libc::read(from, file);
-    if got < 0 {
-        return Found::Nothing;
+// Reads some bytes, and answers how many stand at the buffer's front: 0 at the end, or where nothing can be read.
+pub fn read_some(from: &mut impl Read, buffer: &mut [u8]) -> usize
+    ensures { result ≤ length buffer.new }
+{
+    from.read(buffer).unwrap_or(0)
+}
+
+// Reads until the buffer is full, or nothing more can be read, and answers how many bytes stand at the buffer's front.
+fn read_full(from: &mut impl Read, buffer: &mut [u8]) -> usize
+    ensures { result ≤ length buffer.new }
+{
+    let mut done = 0;
+    while done < buffer.len() {
+        let count = read_some(from, &mut buffer[done..]);
+        if count == 0 {
+            break;
+        }
+        done += count;
     }
-    let first = io::count(got, file);
-    let more = io::read_full(from, &mut file[first..]);
-    Found::Bytes(first + more)
+    done
+}
+
+// Reads the front of a file. A folder can be opened and not read, and is no file.
+fn read_front(from: &mut impl Read, file: &mut [u8]) -> Found {
+    match from.read(file) {
+        Ok(first) => {
+            let more = read_full(from, &mut file[first..]);
+            Found::Bytes(first + more)
+        }
+        Err(_) => Found::Nothing,
+    }
 }
 
 // Reads the front of the file of a name.
-pub fn load(name: &[u8], file: &mut [u8]) -> Found {
-    let from = os::open_read(name);
-    if from < 0 {
+pub fn load(rt: &impl Files, name: &[u8], file: &mut [u8]) -> Found {
+    let Ok(path) = str::from_utf8(name) else {
         return Found::Nothing;
+    };
+    match File::open(rt, path) {
+        Ok(mut from) => read_front(&mut from, file),
+        Err(_) => Found::Nothing,
     }
-    let found = read_front(from, file);
-    libc::close(from);
-    found
 }
 
-// Writes bytes to a file that was opened, closes it, and answers whether all of them stand there.
-fn fill(to: i32, bytes: &[u8]) -> bool {
-    let is_written = io::write_all(to, bytes);
-    let closed = libc::close(to);
-    if closed < 0 {
-        return false;
+// Whether what was written to a file stands there. A file system may tell only now that it does not. Devices and pipes have nothing to tell.
+fn is_kept(file: &impl OpenFile) -> bool {
+    match file.sync_all() {
+        Ok(()) => true,
+        Err(why) => why.kind() == ErrorKind::InvalidInput,
     }
-    is_written
+}
+
+// Writes bytes to a file that was opened, and answers whether all of them stand there.
+fn fill(to: &mut (impl Write + OpenFile), bytes: &[u8]) -> bool {
+    if to.write_all(bytes).is_ok() {
+        return is_kept(to);
+    }
+    false
 }
 
 // Writes bytes to the file of a name, in place.
-fn overwrite(name: &[u8], bytes: &[u8]) -> bool {
-    let to = os::open_overwrite(name);
-    if to < 0 {
-        return false;
+fn overwrite(rt: &impl Files, path: &str, bytes: &[u8]) -> bool {
+    match File::create(rt, path) {
+        Ok(mut to) => fill(&mut to, bytes),
+        Err(_) => false,
     }
-    fill(to, bytes)
 }
 
 // Writes bytes beside a file, under the name `part`, and gives them the file's name once they stand there whole. What was there before stays until
 // then.
-fn replace(name: &[u8], part: &[u8], bytes: &[u8]) -> bool {
-    if overwrite(part, bytes) {
-        if 0 <= os::rename(part, name) {
+fn replace(rt: &impl Files, path: &str, part: &str, bytes: &[u8]) -> bool {
+    if overwrite(rt, part, bytes) {
+        if fs::rename(rt, part, path).is_ok() {
             return true;
         }
     }
-    os::unlink(part);
+    let _ = fs::remove_file(rt, part);
     false
 }
 
-// A name as C reads it.
-fn ended(name: &[u8]) -> [u8; 4096]
-    ensures { Ended result }
-{
-    let mut path = io::buffer();
-    text::put(&mut path, 0, name);
-    path[4095] = 0;
-    path
-}
-
 // Whether a name is a link.
-fn is_link(name: &[u8]) -> bool {
-    let path = ended(name);
-    let mut target = [0u8; 1];
-    let got = libc::readlink(&path, &mut target);
-    0 <= got
+fn is_link(rt: &impl Files, path: &str) -> bool {
+    match fs::symlink_metadata(rt, path) {
+        Ok(about) => about.is_symlink(),
+        Err(_) => false,
+    }
 }
 
 // Whether a file that was opened is a plain one: its length can be set, here to what it is.
-fn is_plain(file: i32) -> bool {
-    let length = libc::lseek(file, 0, libc::SEEK_END);
-    if length < 0 {
-        return false;
+fn is_plain(file: &mut (impl Seek + OpenFile)) -> bool {
+    match file.seek(SeekFrom::End(0)) {
+        Ok(length) => file.set_len(length).is_ok(),
+        Err(_) => false,
     }
-    0 <= libc::ftruncate(file, length)
 }
 
 // Whether the file of a name is plain, or missing. A link, a device and a pipe are not.
-fn is_replaceable(name: &[u8]) -> bool {
-    if is_link(name) {
+fn is_replaceable(rt: &impl Files, path: &str) -> bool {
+    if is_link(rt, path) {
         return false;
     }
-    let file = os::open_update(name);
-    if file < 0 {
-        return os::errno() == libc::ENOENT;
+    match OpenOptions::new().read(true).write(true).open(rt, path) {
+        Ok(mut file) => is_plain(&mut file),
+        Err(why) => why.kind() == ErrorKind::NotFound,
     }
-    let is_one = is_plain(file);
-    libc::close(file);
-    is_one
 }
 
-// Writes the front of an area to a file, and answers whether it stands there. Links and devices are written in place.
-fn store(name: &[u8], area: &[u8], length: usize) -> bool {
-    if area.len() < length {
-        return false;
-    }
-    if !is_replaceable(name) {
-        return overwrite(name, &area[..length]);
-    }
+// Writes bytes to a plain file of a name, or to a new one.
+fn store_beside(rt: &impl Files, path: &str, bytes: &[u8]) -> bool {
     let mut part = [0u8; 4200];
-    let name_end = text::put(&mut part, 0, name);
-    let end = text::put(&mut part, name_end, b".part");
+    let path_end = text::put(&mut part, 0, path.as_bytes());
+    let end = text::put(&mut part, path_end, b".part");
     if part.len() < end {
         return false;
     }
-    replace(name, &part[..end], &area[..length])
+    match str::from_utf8(&part[..end]) {
+        Ok(part) => replace(rt, path, part, bytes),
+        Err(_) => false,
+    }
+}
+
+// Writes the front of an area to a file, and answers whether it stands there. Links and devices are written in place.
+fn store(rt: &impl Files, name: &[u8], area: &[u8], length: usize) -> bool {
+    if area.len() < length {
+        return false;
+    }
+    let Ok(path) = str::from_utf8(name) else {
+        return false;
+    };
+    if is_replaceable(rt, path) {
+        store_beside(rt, path, &area[..length])
+    } else {
+        overwrite(rt, path, &area[..length])
+    }
 }
 
 // Writes what a writer put into an area to a file, and answers whether the answer was said.
-fn keep(name: &[u8], area: &[u8], written: Written) -> bool {
+fn keep(rt: &(impl Files + Print), name: &[u8], area: &[u8], written: Written) -> bool {
     match written {
-        Written::Refused(why) => crate::say_refusal(why),
+        Written::Refused(why) => crate::say_refusal(rt, why),
         Written::Length(length) => {
-            if store(name, area, length as usize) {
-                io::write_all(1, b"ok\n")
+            if store(rt, name, area, length as usize) {
+                crate::say(rt, b"ok\n")
             } else {
-                io::write_all(1, b"not written\n")
+                crate::say(rt, b"not written\n")
             }
         }
     }
 }
 
 // Writes a unit's file.
-pub fn save(u: FunctionUnit, name: &[u8]) -> bool {
+pub fn save(rt: &(impl Files + Print), u: FunctionUnit, name: &[u8]) -> bool {
     let mut area = [0u8; 512];
     let written = unit_writer::write(u, &mut area);
-    keep(name, &area, written)
+    keep(rt, name, &area, written)
 }
 
 // Writes the file of the unit with delays.
-pub fn save_delays(u: FunctionUnit, tag: Tag, latency: u8, name: &[u8]) -> bool {
+pub fn save_delays(
+    rt: &(impl Files + Print),
+    u: FunctionUnit,
+    tag: Tag,
+    latency: u8,
+    name: &[u8],
+) -> bool {
     let mut area = [0u8; 512];
     let written = delay_text::write(u, tag, latency, &mut area);
-    keep(name, &area, written)
+    keep(rt, name, &area, written)
 }
 
 // Writes the record of a function's plan. There is room for every record (`NoLonger`, crate plan_record).
-pub fn save_record(u: FunctionUnit, tag: Tag, name: &[u8]) -> bool {
+pub fn save_record(rt: &(impl Files + Print), u: FunctionUnit, tag: Tag, name: &[u8]) -> bool {
     let mut area = plan_record::area();
     let written = record_text::write_plan(u, tag, &mut area);
-    keep(name, &area, written)
+    keep(rt, name, &area, written)
 }

@@ -14,33 +14,39 @@ use drawing::Drawn;
 use files::Found;
 use listing::Listed;
 use session::{Reply, Session};
+use std::io::{Input, Print, Read};
+use std::rt::Files;
 use unit::{Answer, FunctionUnit, Refusal, Tag};
 
 // Answers. Each function that says one tells whether it could be written.
 
-fn say_front(area: &[u8], length: usize) -> bool {
+fn say(rt: &impl Print, words: &[u8]) -> bool {
+    rt.write_all(words).is_ok()
+}
+
+fn say_front(rt: &impl Print, area: &[u8], length: usize) -> bool {
     if length <= area.len() {
-        return io::write_all(1, &area[..length]);
+        return say(rt, &area[..length]);
     }
     false
 }
 
-fn say_refusal(why: Refusal) -> bool {
+fn say_refusal(rt: &impl Print, why: Refusal) -> bool {
     let mut area = [0u8; 64];
     let end = session::put_answer(&mut area, Answer::Refused(why));
-    say_front(&area, end)
+    say_front(rt, &area, end)
 }
 
-fn say_trouble(number: u32, trouble: Trouble) -> bool {
+fn say_trouble(rt: &impl Print, number: u32, trouble: Trouble) -> bool {
     let mut area = [0u8; 80];
     let end = command_text::put_trouble(&mut area, 0, number, trouble);
-    say_front(&area, end)
+    say_front(rt, &area, end)
 }
 
-fn say_drawn(drawn: Drawn, area: &[u8]) -> bool {
+fn say_drawn(rt: &impl Print, drawn: Drawn, area: &[u8]) -> bool {
     match drawn {
-        Drawn::Length(length) => say_front(area, length as usize),
-        Drawn::Refused(why) => say_refusal(why),
+        Drawn::Length(length) => say_front(rt, area, length as usize),
+        Drawn::Refused(why) => say_refusal(rt, why),
     }
 }
 
@@ -53,19 +59,19 @@ fn list_area() -> [u8; listing::AREA]
     [0; listing::AREA]
 }
 
-fn list(u: FunctionUnit) -> bool {
+fn list(rt: &impl Print, u: FunctionUnit) -> bool {
     let mut area = list_area();
     let listed = listing::list_unit(u, &mut area);
     match listed {
-        Listed::Length(length) => say_front(&area, length as usize),
-        Listed::Refused(why) => say_refusal(why),
+        Listed::Length(length) => say_front(rt, &area, length as usize),
+        Listed::Refused(why) => say_refusal(rt, why),
     }
 }
 
-fn draw_table(u: FunctionUnit, tag: Tag) -> bool {
+fn draw_table(rt: &impl Print, u: FunctionUnit, tag: Tag) -> bool {
     let mut area = [0u8; drawing::TABLE];
     let drawn = drawing::table(u, tag, &mut area);
-    say_drawn(drawn, &area)
+    say_drawn(rt, drawn, &area)
 }
 
 fn dot_area() -> [u8; graph::DOT]
@@ -74,54 +80,66 @@ fn dot_area() -> [u8; graph::DOT]
     [0; graph::DOT]
 }
 
-fn draw_diagram(u: FunctionUnit, tag: Tag) -> bool {
+fn draw_diagram(rt: &impl Print, u: FunctionUnit, tag: Tag) -> bool {
     let mut area = dot_area();
     let drawn = graph::dot(u, tag, &mut area);
-    say_drawn(drawn, &area)
+    say_drawn(rt, drawn, &area)
 }
 
-fn tell_loop(u: FunctionUnit, line: &[u8]) -> bool {
-    let mut area = io::buffer();
+fn tell_loop(rt: &impl Print, u: FunctionUnit, line: &[u8]) -> bool {
+    let mut area = [0u8; 4096];
     let end = loop_text::answer(u, line, &mut area);
-    say_front(&area, end)
+    say_front(rt, &area, end)
 }
 
-fn simulate(u: FunctionUnit, tag: Tag, units: u32) -> bool {
+fn simulate(rt: &impl Print, u: FunctionUnit, tag: Tag, units: u32) -> bool {
     let mut area = chart::area();
     let charted = chart::simulate(u, tag, units, &mut area);
     match charted {
-        Charted::Length(length) => say_front(&area, length),
-        Charted::Refused(why) => say_refusal(why),
+        Charted::Length(length) => say_front(rt, &area, length),
+        Charted::Refused(why) => say_refusal(rt, why),
     }
 }
 
-fn draw_delays(u: FunctionUnit, tag: Tag, latency: u8) -> bool {
+fn draw_delays(rt: &impl Print, u: FunctionUnit, tag: Tag, latency: u8) -> bool {
     let mut area = [0u8; drawing::TABLE];
     let drawn = delay_text::draw(u, tag, latency, &mut area);
-    say_drawn(drawn, &area)
+    say_drawn(rt, drawn, &area)
 }
 
 // The unit with delays: its table, or, where a third word names a file, its unit file.
-fn show_delays(u: FunctionUnit, tag: Tag, request: Request, line: &[u8]) -> bool {
+fn show_delays(
+    rt: &(impl Files + Print),
+    u: FunctionUnit,
+    tag: Tag,
+    request: Request,
+    line: &[u8],
+) -> bool {
     let latency = words::byte(request.second);
     if request.count < 3 {
-        return draw_delays(u, tag, latency);
+        return draw_delays(rt, u, tag, latency);
     }
-    files::save_delays(u, tag, latency, command::word(line, request.count))
+    files::save_delays(rt, u, tag, latency, command::word(line, request.count))
 }
 
 // What leaves the session as it is: to save the unit or the record of a plan, to list, to draw, to look for a loop, to play a plan, and to give delays.
-fn show_unit(u: FunctionUnit, what: Show, request: Request, line: &[u8]) -> bool {
+fn show_unit(
+    rt: &(impl Files + Print),
+    u: FunctionUnit,
+    what: Show,
+    request: Request,
+    line: &[u8],
+) -> bool {
     let tag = Tag(words::byte(request.first));
     match what {
-        Show::Save => files::save(u, command::word(line, request.count)),
-        Show::List => list(u),
-        Show::Table => draw_table(u, tag),
-        Show::Diagram => draw_diagram(u, tag),
-        Show::Loop => tell_loop(u, line),
-        Show::Record => files::save_record(u, tag, command::word(line, request.count)),
-        Show::Simulate => simulate(u, tag, request.second),
-        Show::Delays => show_delays(u, tag, request, line),
+        Show::Save => files::save(rt, u, command::word(line, request.count)),
+        Show::List => list(rt, u),
+        Show::Table => draw_table(rt, u, tag),
+        Show::Diagram => draw_diagram(rt, u, tag),
+        Show::Loop => tell_loop(rt, u, line),
+        Show::Record => files::save_record(rt, u, tag, command::word(line, request.count)),
+        Show::Simulate => simulate(rt, u, tag, request.second),
+        Show::Delays => show_delays(rt, u, tag, request, line),
     }
 }
 
@@ -133,110 +151,116 @@ struct Answered {
 }
 
 // Says the answer, and hands on the session.
-fn conclude(reply: Reply, area: &[u8]) -> Answered {
-    let said = say_front(area, reply.end);
+fn conclude(rt: &impl Print, reply: Reply, area: &[u8]) -> Answered {
+    let said = say_front(rt, area, reply.end);
     let session = reply.session;
     Answered { session, said }
 }
 
-fn fresh(session: Session, request: Request) -> Answered {
-    let mut area = io::buffer();
+fn fresh(rt: &impl Print, session: Session, request: Request) -> Answered {
+    let mut area = [0u8; 4096];
     let reply = session::fresh(session, request, &mut area);
-    conclude(reply, &area)
+    conclude(rt, reply, &area)
 }
 
-fn small(session: Session, request: Request) -> Answered {
-    let mut area = io::buffer();
+fn small(rt: &impl Print, session: Session, request: Request) -> Answered {
+    let mut area = [0u8; 4096];
     let reply = small_text::answer(session, request, &mut area);
-    conclude(reply, &area)
+    conclude(rt, reply, &area)
 }
 
-fn turn(session: Session, request: Request, line: &[u8]) -> Answered {
-    let mut area = io::buffer();
+fn turn(rt: &impl Print, session: Session, request: Request, line: &[u8]) -> Answered {
+    let mut area = [0u8; 4096];
     let reply = console::turn(session, request, line, &mut area);
-    conclude(reply, &area)
+    conclude(rt, reply, &area)
 }
 
-fn show(session: Session, what: Show, request: Request, line: &[u8]) -> Answered {
+fn show(
+    rt: &(impl Files + Print),
+    session: Session,
+    what: Show,
+    request: Request,
+    line: &[u8],
+) -> Answered {
     if session.present {
-        let said = show_unit(session.unit, what, request, line);
+        let said = show_unit(rt, session.unit, what, request, line);
         return Answered { session, said };
     }
-    turn(session, request, line)
+    turn(rt, session, request, line)
 }
 
-fn load_front(session: Session, file: &[u8], count: usize) -> Answered {
+fn load_front(rt: &impl Print, session: Session, file: &[u8], count: usize) -> Answered {
     if file.len() < count {
         return Answered {
             session,
             said: false,
         };
     }
-    let mut area = io::buffer();
+    let mut area = [0u8; 4096];
     let reply = session::load(session, &file[..count], &mut area);
-    conclude(reply, &area)
+    conclude(rt, reply, &area)
 }
 
 // No unit file has more than 268 bytes, and the answer to a longer one depends on its first 269 alone (`read_cut`, crate unit_file).
-fn load(session: Session, name: &[u8]) -> Answered {
+fn load(rt: &(impl Files + Print), session: Session, name: &[u8]) -> Answered {
     let mut file = [0u8; 512];
-    let found = files::load(name, &mut file);
+    let found = files::load(rt, name, &mut file);
     match found {
         Found::Nothing => {
-            let said = io::write_all(1, b"no file\n");
+            let said = say(rt, b"no file\n");
             Answered { session, said }
         }
-        Found::Bytes(count) => load_front(session, &file, count),
+        Found::Bytes(count) => load_front(rt, session, &file, count),
     }
 }
 
 // What the report, or the loader, reads from a file.
-fn report(file: &[u8]) -> bool {
-    let mut area = io::buffer();
+fn report(rt: &impl Print, file: &[u8]) -> bool {
+    let mut area = [0u8; 4096];
     let end = record_text::report(file, &mut area);
-    say_front(&area, end)
+    say_front(rt, &area, end)
 }
 
-fn ring(file: &[u8]) -> bool {
-    let mut area = io::large_buffer();
+fn ring(rt: &impl Print, file: &[u8]) -> bool {
+    let mut area = [0u8; 65536];
     let end = record_text::ring(file, &mut area);
-    say_front(&area, end)
+    say_front(rt, &area, end)
 }
 
-fn view_front(what: View, file: &[u8], count: usize) -> bool {
+fn view_front(rt: &impl Print, what: View, file: &[u8], count: usize) -> bool {
     if file.len() < count {
         return false;
     }
     match what {
-        View::Report => report(&file[..count]),
-        View::Ring => ring(&file[..count]),
+        View::Report => report(rt, &file[..count]),
+        View::Ring => ring(rt, &file[..count]),
     }
 }
 
 // No record has more than 1,288 bytes, and of a longer file the first 1,289 tell as much as all (`FrontTells`, crate plan_record).
-fn view(session: Session, what: View, name: &[u8]) -> Answered {
+fn view(rt: &(impl Files + Print), session: Session, what: View, name: &[u8]) -> Answered {
     let mut file = [0u8; 2048];
-    let found = files::load(name, &mut file);
+    let found = files::load(rt, name, &mut file);
     let said = match found {
-        Found::Nothing => io::write_all(1, b"no file\n"),
-        Found::Bytes(count) => view_front(what, &file, count),
+        Found::Nothing => say(rt, b"no file\n"),
+        Found::Bytes(count) => view_front(rt, what, &file, count),
     };
     Answered { session, said }
 }
 
-fn obey(session: Session, request: Request, line: &[u8]) -> Answered {
+fn obey(rt: &(impl Files + Print), session: Session, request: Request, line: &[u8]) -> Answered {
     let verb = request.verb;
     match verb {
-        Verb::Fresh => fresh(session, request),
-        Verb::Load => load(session, command::word(line, request.count)),
-        Verb::Small => small(session, request),
-        Verb::Show(what) => show(session, what, request, line),
-        Verb::View(what) => view(session, what, command::word(line, request.count)),
-        _ => turn(session, request, line),
+        Verb::Fresh => fresh(rt, session, request),
+        Verb::Load => load(rt, session, command::word(line, request.count)),
+        Verb::Small => small(rt, session, request),
+        Verb::Show(what) => show(rt, session, what, request, line),
+        Verb::View(what) => view(rt, session, what, command::word(line, request.count)),
+        _ => turn(rt, session, request, line),
     }
 }
 
-fn answer(session: Session, number: u32, line: &[u8]) -> Answered {
+fn answer(rt: &(impl Files + Print), session: Session, number: u32, line: &[u8]) -> Answered {
     let said = command::parse(line);
     match said {
         Parsed::Nothing => Answered {
@@ -244,10 +268,10 @@ fn answer(session: Session, number: u32, line: &[u8]) -> Answered {
             said: true,
         },
         Parsed::Bad(trouble) => {
-            let said = say_trouble(number, trouble);
+            let said = say_trouble(rt, number, trouble);
             Answered { session, said }
         }
-        Parsed::Command(request) => obey(session, request, line),
+        Parsed::Command(request) => obey(rt, session, request, line),
     }
 }
 
@@ -262,14 +286,14 @@ struct Reading {
     open: bool,
 }
 
-fn end_line(reading: Reading, line: &[u8]) -> Reading {
+fn end_line(rt: &(impl Files + Print), reading: Reading, line: &[u8]) -> Reading {
     let held = reading.held;
     let number = reading.number;
     let session = reading.session;
     if line.len() < held {
         return reading;
     }
-    let next = answer(session, number, &line[..held]);
+    let next = answer(rt, session, number, &line[..held]);
     let after = next.session;
     Reading {
         session: after,
@@ -287,9 +311,9 @@ fn following(number: u32) -> u32 {
     number
 }
 
-fn take_byte(reading: Reading, byte: u8, line: &mut [u8]) -> Reading {
+fn take_byte(rt: &(impl Files + Print), reading: Reading, byte: u8, line: &mut [u8]) -> Reading {
     if byte == 10 {
-        return end_line(reading, line);
+        return end_line(rt, reading, line);
     }
     let held = reading.held;
     let session = reading.session;
@@ -306,15 +330,18 @@ fn take_byte(reading: Reading, byte: u8, line: &mut [u8]) -> Reading {
 }
 
 // The lines of some bytes, up to the first whose answer can't be written.
-fn take_bytes(reading: Reading, bytes: &[u8], line: &mut [u8]) -> Reading {
+fn take_bytes(
+    rt: &(impl Files + Print),
+    reading: Reading,
+    bytes: &[u8],
+    line: &mut [u8],
+) -> Reading {
     let mut now = reading;
-    let mut i = 0;
-    while i < bytes.len() {
+    for byte in bytes {
         if !now.open {
             return now;
         }
-        now = take_byte(now, bytes[i], line);
-        i += 1;
+        now = take_byte(rt, now, *byte, line);
     }
     now
 }
@@ -326,35 +353,41 @@ struct Taken {
     more: bool,
 }
 
-fn take_some(reading: Reading, line: &mut [u8]) -> Taken {
-    let mut chunk = io::large_buffer();
-    let got = libc::read(0, &mut chunk);
-    let count = io::count(got, &chunk);
-    let next = take_bytes(reading, &chunk[..count], line);
+fn take_some(
+    rt: &(impl Files + Print),
+    input: &mut impl Read,
+    reading: Reading,
+    line: &mut [u8],
+) -> Taken {
+    let mut chunk = [0u8; 65536];
+    let count = files::read_some(input, &mut chunk);
+    let next = take_bytes(rt, reading, &chunk[..count], line);
     Taken {
         reading: next,
         more: 0 < count && next.open,
     }
 }
 
-// All of the input. A proved loop has to end, so it counts its turns down from a number that no run uses up.
-fn take_all(first: Reading, line: &mut [u8]) -> Reading {
+// All of the input. A proved loop has to end, so it takes no more turns than a number that no run uses up.
+fn take_all(
+    rt: &(impl Files + Print),
+    input: &mut impl Read,
+    first: Reading,
+    line: &mut [u8],
+) -> Reading {
     let mut reading = first;
-    let mut turns = u64::MAX;
-    while turns > 0 {
-        let taken = take_some(reading, line);
+    for _ in 0..u64::MAX {
+        let taken = take_some(rt, input, reading, line);
         reading = taken.reading;
         if !taken.more {
-            turns = 0;
-        } else {
-            turns -= 1;
+            break;
         }
     }
     reading
 }
 
 // What comes after the last newline is a line too.
-fn main() {
+fn main(rt: HostRuntime) {
     let session = session::open();
     let mut line = [0u8; 4097];
     let first = Reading {
@@ -363,8 +396,9 @@ fn main() {
         held: 0,
         open: true,
     };
-    let last = take_all(first, &mut line);
+    let mut input = rt.reader();
+    let last = take_all(&rt, &mut input, first, &mut line);
     if last.open && 0 < last.held {
-        end_line(last, &line);
+        end_line(&rt, last, &line);
     }
 }

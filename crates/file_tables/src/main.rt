@@ -7,6 +7,8 @@ ghost use Rattle.std.specs.Prelude.{◌≡◌, length};
 
 use collision::Number;
 use listing::Listed;
+use std::io;
+use std::io::Print;
 use unit::{Answer, Outcome, Refusal, Tag};
 
 // The file of Fig. 2, and 32 bytes after it: counts 2 3 5, offsets 8 and 20, and for each function three words. A in columns 1 4; 2; 3 5, B in 2 5; 4; 1 3.
@@ -19,39 +21,46 @@ const FIGURE_2: [u8; 64] = *b"\
 
 // Printing.
 
-fn print_number(number: u32) {
-    io::write_all(1, b" ");
-    io::print_decimal(1, number as u64);
+fn print_number(rt: &impl Print, number: u32) -> io::Result<()> {
+    print!(rt; " {number}")
 }
 
-fn print_refusal(why: Refusal) {
-    io::write_all(1, b" refused");
-    print_number(unit::number_in(Answer::Refused(why)) as u32);
+fn print_refusal(rt: &impl Print, why: Refusal) -> io::Result<()> {
+    rt.write_all(b" refused")?;
+    print_number(rt, unit::number_in(Answer::Refused(why)) as u32)
 }
 
-fn print_text(area: &[u8], length: usize) {
+fn print_text(rt: &impl Print, area: &[u8], length: usize) -> io::Result<()> {
     if length <= area.len() {
-        io::write_all(1, &area[..length]);
+        rt.write_all(&area[..length])?;
     }
+    Ok(())
 }
 
 // The listing of a file, after its name and a colon. An accepted file's lines begin on a line of their own.
-fn print_listing(name: &[u8], between: &[u8], file: &[u8]) {
+fn print_listing(rt: &impl Print, name: &[u8], between: &[u8], file: &[u8]) -> io::Result<()> {
     let mut area = [0u8; listing::AREA];
     let listed = listing::list_file(file, &mut area);
-    io::write_all(1, name);
-    io::write_all(1, between);
+    rt.write_all(name)?;
+    rt.write_all(between)?;
     match listed {
-        Listed::Length(length) => print_text(&area, length as usize),
-        Listed::Refused(why) => print_refusal(why),
+        Listed::Length(length) => print_text(rt, &area, length as usize),
+        Listed::Refused(why) => print_refusal(rt, why),
     }
 }
 
 // The listing of the front of a list of bytes.
-fn print_front(name: &[u8], between: &[u8], bytes: &[u8], count: usize) {
+fn print_front(
+    rt: &impl Print,
+    name: &[u8],
+    between: &[u8],
+    bytes: &[u8],
+    count: usize,
+) -> io::Result<()> {
     if count <= bytes.len() {
-        print_listing(name, between, &bytes[..count]);
+        print_listing(rt, name, between, &bytes[..count])?;
     }
+    Ok(())
 }
 
 // Reading.
@@ -65,23 +74,23 @@ fn read_front(bytes: &[u8], count: usize) -> Outcome {
 }
 
 // The marks of Fig. 2 come back: row B of M_A, 1010, whose word is 10. A unit from a file has no plan.
-fn try_reading() {
+fn try_reading(rt: &impl Print) -> io::Result<()> {
     let file = FIGURE_2;
     let back = read_front(&file, 32);
     let answer = back.answer;
-    io::write_all(1, b"fig 2 file read");
-    print_number(unit::number_in(answer) as u32);
+    rt.write_all(b"fig 2 file read")?;
+    print_number(rt, unit::number_in(answer) as u32)?;
     let row = collision::matrix_row(back.unit, Tag(2), Tag(1));
-    io::write_all(1, b", row B of M_A");
+    rt.write_all(b", row B of M_A")?;
     match row {
-        Number::Value(word) => print_number(word),
-        Number::Refused(why) => print_refusal(why),
+        Number::Value(word) => print_number(rt, word)?,
+        Number::Refused(why) => print_refusal(rt, why)?,
     }
     let handed = planner::read(back.unit);
     let plan = handed.answer;
-    io::write_all(1, b", its plan");
-    print_number(unit::number_in(plan) as u32);
-    io::write_all(1, b"\n");
+    rt.write_all(b", its plan")?;
+    print_number(rt, unit::number_in(plan) as u32)?;
+    rt.write_all(b"\n")
 }
 
 // The file of Fig. 2 with two bytes changed.
@@ -94,25 +103,33 @@ fn damaged(one: usize, byte: u8, other: usize, second: u8) -> [u8; 64]
     file
 }
 
-fn show_damaged(name: &[u8], one: usize, byte: u8, other: usize, second: u8, count: usize) {
+fn show_damaged(
+    rt: &impl Print,
+    name: &[u8],
+    one: usize,
+    byte: u8,
+    other: usize,
+    second: u8,
+    count: usize,
+) -> io::Result<()> {
     let file = damaged(one, byte, other, second);
-    print_front(name, b": ", &file, count);
+    print_front(rt, name, b": ", &file, count)
 }
 
-fn try_damaged() {
-    show_damaged(b"empty file", 0, 2, 0, 2, 0);
-    show_damaged(b"3 bytes", 0, 2, 0, 2, 3);
-    show_damaged(b"5 functions in 3 bytes", 0, 5, 0, 5, 3);
-    show_damaged(b"5 functions in 4 bytes", 0, 5, 0, 5, 4);
-    show_damaged(b"0 columns", 2, 0, 2, 0, 32);
-    show_damaged(b"17 segments in 31 bytes", 1, 17, 1, 17, 31);
-    show_damaged(b"31 bytes", 0, 2, 0, 2, 31);
-    show_damaged(b"33 bytes", 0, 2, 0, 2, 33);
-    show_damaged(b"byte 3 is 1", 3, 1, 3, 1, 32);
-    show_damaged(b"offset 2 is 22", 6, 22, 6, 22, 32);
-    show_damaged(b"offset 2 is 22 in 31 bytes", 6, 22, 6, 22, 31);
-    show_damaged(b"a mark in column 6", 8, 41, 8, 41, 32);
-    show_damaged(b"a mark in column 6, and byte 3 is 1", 8, 41, 3, 1, 32);
+fn try_damaged(rt: &impl Print) -> io::Result<()> {
+    show_damaged(rt, b"empty file", 0, 2, 0, 2, 0)?;
+    show_damaged(rt, b"3 bytes", 0, 2, 0, 2, 3)?;
+    show_damaged(rt, b"5 functions in 3 bytes", 0, 5, 0, 5, 3)?;
+    show_damaged(rt, b"5 functions in 4 bytes", 0, 5, 0, 5, 4)?;
+    show_damaged(rt, b"0 columns", 2, 0, 2, 0, 32)?;
+    show_damaged(rt, b"17 segments in 31 bytes", 1, 17, 1, 17, 31)?;
+    show_damaged(rt, b"31 bytes", 0, 2, 0, 2, 31)?;
+    show_damaged(rt, b"33 bytes", 0, 2, 0, 2, 33)?;
+    show_damaged(rt, b"byte 3 is 1", 3, 1, 3, 1, 32)?;
+    show_damaged(rt, b"offset 2 is 22", 6, 22, 6, 22, 32)?;
+    show_damaged(rt, b"offset 2 is 22 in 31 bytes", 6, 22, 6, 22, 31)?;
+    show_damaged(rt, b"a mark in column 6", 8, 41, 8, 41, 32)?;
+    show_damaged(rt, b"a mark in column 6, and byte 3 is 1", 8, 41, 3, 1, 32)
 }
 
 // Random files. Each number follows from the one before.
@@ -134,7 +151,7 @@ fn answer_of(bytes: &[u8], count: usize) -> usize {
 
 fn count(counts: &mut [u32; 14], answer: usize) {
     if answer < 14 {
-        counts[answer] = std::num::wrapping_add_u32(counts[answer], 1);
+        counts[answer] = counts[answer].wrapping_add(1);
     }
 }
 
@@ -149,32 +166,30 @@ fn damaged_answer(first: u32, second: u32) -> usize {
     answer_of(&file, 32)
 }
 
-fn print_counts(name: &[u8], counts: [u32; 14]) {
-    io::write_all(1, name);
-    print_number(counts[0]);
-    io::write_all(1, b" accepted, 1:");
-    print_number(counts[1]);
-    io::write_all(1, b" 11:");
-    print_number(counts[11]);
-    io::write_all(1, b" 12:");
-    print_number(counts[12]);
-    io::write_all(1, b" 13:");
-    print_number(counts[13]);
-    io::write_all(1, b"\n");
+fn print_counts(rt: &impl Print, name: &[u8], counts: [u32; 14]) -> io::Result<()> {
+    rt.write_all(name)?;
+    print_number(rt, counts[0])?;
+    rt.write_all(b" accepted, 1:")?;
+    print_number(rt, counts[1])?;
+    rt.write_all(b" 11:")?;
+    print_number(rt, counts[11])?;
+    rt.write_all(b" 12:")?;
+    print_number(rt, counts[12])?;
+    rt.write_all(b" 13:")?;
+    print_number(rt, counts[13])?;
+    rt.write_all(b"\n")
 }
 
-fn try_random_damage() {
+fn try_random_damage(rt: &impl Print) -> io::Result<()> {
     let mut counts = [0u32; 14];
     let mut number: u32 = 1;
-    let mut turn: u32 = 0;
-    while turn < 2000 {
+    for _ in 0..2000 {
         let first = next_number(number);
         let second = next_number(first);
         number = second;
         count(&mut counts, damaged_answer(first, second));
-        turn += 1;
     }
-    print_counts(b"2000 damaged files:", counts);
+    print_counts(rt, b"2000 damaged files:", counts)
 }
 
 // Random bytes, of which the first four are small, so that some files get past the counts.
@@ -193,11 +208,9 @@ fn random_file(seed: u32) -> [u8; 64]
 {
     let mut file = [0u8; 64];
     let mut number = seed;
-    let mut i = 0;
-    while i < 64 {
+    for i in 0..64 {
         number = next_number(number);
         file[i] = random_byte(i, number);
-        i += 1;
     }
     file
 }
@@ -209,33 +222,33 @@ fn random_answer(number: u32) -> usize {
     answer_of(&file, end)
 }
 
-fn try_random_bytes() {
+fn try_random_bytes(rt: &impl Print) -> io::Result<()> {
     let mut counts = [0u32; 14];
     let mut number: u32 = 2;
-    let mut turn: u32 = 0;
-    while turn < 2000 {
+    for _ in 0..2000 {
         number = next_number(number);
         count(&mut counts, random_answer(number));
-        turn += 1;
     }
-    print_counts(b"2000 random files:", counts);
+    print_counts(rt, b"2000 random files:", counts)
 }
 
-fn main() {
-    try_reading();
+fn main(rt: HostRuntime) -> io::Result<()> {
+    try_reading(&rt)?;
     let file = FIGURE_2;
-    print_front(b"fig 2", b" file:\n", &file, 32);
+    print_front(&rt, b"fig 2", b" file:\n", &file, 32)?;
     print_listing(
+        &rt,
         b"no marks",
         b" file:\n",
         b"\x01\x01\x01\x00\x06\x00\x00\x00\x00\x00",
-    );
+    )?;
     print_listing(
+        &rt,
         b"marks 1 11",
         b" file:\n",
         b"\x01\x01\x10\x00\x06\x00\x01\x04\x00\x00",
-    );
-    try_damaged();
-    try_random_damage();
-    try_random_bytes();
+    )?;
+    try_damaged(&rt)?;
+    try_random_damage(&rt)?;
+    try_random_bytes(&rt)
 }

@@ -3,50 +3,78 @@
 // arguments are put into a line of the console, which says what they are.
 #![tactic(auto)]
 
+ghost use Rattle.std.specs.Prelude.{◌≤◌, length};
+
 use chart::Charted;
 use command::{Parsed, Request};
+use std::env::{Env, FillError};
+use std::io::{Input, Print, Read};
 use unit::{Answer, FunctionUnit, Outcome, Refusal, Tag};
 
-// Answers.
+// Answers. Where one can't be written, there is nobody to tell.
 
-fn print_text(area: &[u8], length: usize) {
+fn print_text(rt: &impl Print, area: &[u8], length: usize) {
     if length <= area.len() {
-        io::write_all(1, &area[..length]);
+        let _ = rt.write_all(&area[..length]);
     }
 }
 
-fn print_refusal(why: Refusal) {
+fn print_refusal(rt: &impl Print, why: Refusal) {
     let mut area = [0u8; 64];
     let end = session::put_answer(&mut area, Answer::Refused(why));
-    print_text(&area, end);
+    print_text(rt, &area, end);
 }
 
-fn print_usage() {
-    io::write_all(1, b"expected simulate Q UNITS\n");
+fn print_usage(rt: &impl Print) {
+    let _ = rt.write_all(b"expected simulate Q UNITS\n");
 }
 
 // The unit.
 
-// Reads some of what is left of the input, and answers whether there was any.
-fn skip_some() -> bool {
-    let mut space = io::large_buffer();
-    0 < libc::read(0, &mut space)
+// Reads some of the input, and answers how many bytes of the buffer it filled: 0 at the end of the input, or where it can't be read.
+fn read_some(input: &mut impl Read, buffer: &mut [u8]) -> usize
+    ensures { result ≤ length buffer.new }
+{
+    input.read(buffer).unwrap_or(0)
 }
 
-// What is left of the input is read and not used, so that whoever writes it is not cut off. A proved loop has to end, so it counts its
-// turns down from a number that no run uses up.
-fn skip_rest() {
-    let mut turns = u64::MAX;
-    while turns > 0 && skip_some() {
-        turns -= 1;
+// Reads until the buffer is full, or there is no more input, and answers how many bytes stand at the buffer's front.
+fn read_full(input: &mut impl Read, buffer: &mut [u8]) -> usize
+    ensures { result ≤ length buffer.new }
+{
+    let mut done = 0;
+    while done < buffer.len() {
+        let count = read_some(input, &mut buffer[done..]);
+        if count == 0 {
+            break;
+        }
+        done += count;
+    }
+    done
+}
+
+// Reads some of what is left of the input, and answers whether there was any.
+fn skip_some(input: &mut impl Read) -> bool {
+    let mut space = [0u8; 65536];
+    0 < read_some(input, &mut space)
+}
+
+// What is left of the input is read and not used, so that whoever writes it is not cut off. A proved loop has to end, so it takes no more turns
+// than a number that no run uses up.
+fn skip_rest(input: &mut impl Read) {
+    for _ in 0..u64::MAX {
+        if !skip_some(input) {
+            break;
+        }
     }
 }
 
 // No unit file has more than 268 bytes, and the answer to a longer one depends on its first 269 alone (`read_cut`, crate unit_file).
-fn read_unit() -> Outcome {
+fn read_unit(rt: &impl Input) -> Outcome {
+    let mut input = rt.reader();
     let mut file = [0u8; 512];
-    let count = io::read_full(0, &mut file);
-    skip_rest();
+    let count = read_full(&mut input, &mut file);
+    skip_rest(&mut input);
     unit_file::read(&file[..count])
 }
 
@@ -55,33 +83,33 @@ fn search(u: FunctionUnit, tag: Tag) -> Outcome {
     planner::search(u, tag, &mut work)
 }
 
-fn print_chart(u: FunctionUnit, tag: Tag, units: u32) {
+fn print_chart(rt: &impl Print, u: FunctionUnit, tag: Tag, units: u32) {
     let mut area = chart::area();
     let charted = chart::simulate(u, tag, units, &mut area);
     match charted {
-        Charted::Length(length) => print_text(&area, length),
-        Charted::Refused(why) => print_refusal(why),
+        Charted::Length(length) => print_text(rt, &area, length),
+        Charted::Refused(why) => print_refusal(rt, why),
     }
 }
 
-fn play(u: FunctionUnit, tag: Tag, units: u32) {
+fn play(rt: &impl Print, u: FunctionUnit, tag: Tag, units: u32) {
     let found = search(u, tag);
     let answer = found.answer;
     let planned = found.unit;
     match answer {
-        Answer::Done => print_chart(planned, tag, units),
-        Answer::Refused(why) => print_refusal(why),
+        Answer::Done => print_chart(rt, planned, tag, units),
+        Answer::Refused(why) => print_refusal(rt, why),
     }
 }
 
-fn obey(request: Request) {
+fn obey(rt: &(impl Input + Print), request: Request) {
     let tag = Tag(words::byte(request.first));
-    let read = read_unit();
+    let read = read_unit(rt);
     let answer = read.answer;
     let u = read.unit;
     match answer {
-        Answer::Done => play(u, tag, request.second),
-        Answer::Refused(why) => print_refusal(why),
+        Answer::Done => play(rt, u, tag, request.second),
+        Answer::Refused(why) => print_refusal(rt, why),
     }
 }
 
@@ -94,9 +122,10 @@ struct Placed {
     length: usize,
 }
 
-fn put_argument(line: &mut [u8], at: usize, index: usize) -> Placed {
-    let mut argument = io::buffer();
-    let length = os::arg(index, &mut argument);
+// The bytes of an argument need not be text. One that is missing, or longer than any that says something, is put as an empty one.
+fn put_argument(rt: &impl Env, line: &mut [u8], at: usize, index: usize) -> Placed {
+    let mut argument = [0u8; 4096];
+    let length = rt.arg(index, &mut argument).unwrap_or(0);
     let end = text::put(line, at, &argument[..length]);
     Placed { end, length }
 }
@@ -119,23 +148,36 @@ fn parse_front(area: &[u8], end: usize, first: usize, second: usize) -> Parsed {
     Parsed::Nothing
 }
 
+// Whether there is an argument of this index, however long.
+fn has_argument(rt: &impl Env, index: usize) -> bool {
+    match rt.arg(index, &mut []) {
+        Ok(_) | Err(FillError::TooLong) => true,
+        Err(FillError::NotPresent) => false,
+    }
+}
+
+// Whether there are two arguments. The program's name comes before them, at 0.
+fn has_two_arguments(rt: &impl Env) -> bool {
+    has_argument(rt, 2) && !has_argument(rt, 3)
+}
+
 // What the arguments say: the command `simulate` with its two numbers, or anything else.
-fn parse_arguments() -> Parsed {
-    if os::arg_count() != 3 {
+fn parse_arguments(rt: &impl Env) -> Parsed {
+    if !has_two_arguments(rt) {
         return Parsed::Nothing;
     }
-    let mut line = io::buffer();
+    let mut line = [0u8; 4096];
     let name = text::put(&mut line, 0, b"simulate ");
-    let first = put_argument(&mut line, name, 1);
+    let first = put_argument(rt, &mut line, name, 1);
     let space = text::put(&mut line, first.end, b" ");
-    let second = put_argument(&mut line, space, 2);
+    let second = put_argument(rt, &mut line, space, 2);
     parse_front(&line, second.end, first.length, second.length)
 }
 
-fn main() {
-    let said = parse_arguments();
+fn main(rt: HostRuntime) {
+    let said = parse_arguments(&rt);
     match said {
-        Parsed::Command(request) => obey(request),
-        _ => print_usage(),
+        Parsed::Command(request) => obey(&rt, request),
+        _ => print_usage(&rt),
     }
 }

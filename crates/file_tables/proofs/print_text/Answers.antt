@@ -1,6 +1,0 @@
--- `file_tables::print_text` is safe: the part that it prints lies within the area. Assumes nothing.
-use Rattle.std.proofs.Common.{arith, length-take}
-use Rattle.file_tables.proofs.print_text.Goals as goal
-
-pub slice_bounds-write_all-end : goal.slice_bounds-write_all-end
-slice_bounds-write_all-end c = simp length-take (omega arith)
