@@ -1,7 +1,7 @@
 -- `designer::dot_area` meets its contract: so many zeros. Assumes nothing.
-use Rattle.std.proofs.Common.{sym}
+use Rattle.std.proofs.Common.{ℕ, sym}
 use Rattle.std.proofs.lemmas.List.{length-replicate}
 use Rattle.designer.proofs.dot_area.Goals as goal
 
 pub returns : goal.returns
-returns c = sym (length-replicate 1048576 0)
+returns c = sym (length-replicate {0} {A = ℕ} 1048576 0)
