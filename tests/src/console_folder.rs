@@ -111,7 +111,8 @@ impl Folder {
         if name == FULL.as_bytes() {
             return Place::Full;
         }
-        if name.contains(&0) || name.len() > LONGEST_PATH {
+        // "A name that is no UTF-8 names no file"
+        if name.contains(&0) || name.len() > LONGEST_PATH || std::str::from_utf8(name).is_err() {
             return Place::None;
         }
         assert!(!name.starts_with(b"/"), "no script names another file outside the folder");
