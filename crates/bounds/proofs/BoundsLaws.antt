@@ -1,4 +1,5 @@
 -- Every best cycle and every greedy cycle meet the bounds. Assumes nothing.
+use Rattle.std.proofs.Common.{Ok, Err}
 use mathlib.Core.Path.{◌≡◌, refl, ap, ◌∙◌, subst}
 use mathlib.Core.Bool.{Bool, true, false}
 use mathlib.Core.List.{List, ◌∷◌}
@@ -9,8 +10,7 @@ use lib.Dec.{leb}
 use lib.ListN.{length}
 use borrow.Author.Tests.{leb-true}
 use Rattle.unit.specs.declared.Refusal.TheVariants.{ShortWork, ShortOutput, TooManyStates}
-use Rattle.unit.specs.declared.Answer.{Answer}
-use Rattle.unit.specs.declared.Answer.TheVariants.{Done, Refused}
+use Rattle.unit.specs.Answers.{Answer}
 use Rattle.unit.specs.Table.{Table}
 use Rattle.unit.specs.Unit.{marked}
 use Rattle.unit.specs.Calls.{check, and_then, tag_answer}
@@ -23,7 +23,6 @@ use Rattle.diagram.specs.Answers.{states_of}
 use Rattle.diagram.proofs.Sound.{walk_cycle}
 use Rattle.diagram.proofs.Vectors.{vector_is}
 use Rattle.cycles.specs.declared.Counted.{Counted}
-use Rattle.cycles.specs.declared.GreedyAnswer.TheVariants as GreedyAnswer
 use Rattle.cycles.specs.Greedy.{greedy_of, greedy_refusal, counting, greedy_answer}
 use Rattle.cycles.proofs.GreedyLaws.{greedy_cycle_lem, greedy_never}
 use Rattle.clique.proofs.LowerLaws.{per_turn, lower_bound}
@@ -91,13 +90,13 @@ unfolding greedy_answer greedy_refusal
 every_greedy u q room out c e = go (tag_answer u q) (leb 16000 room) (leb 256 out) (leb (length (states_of 1 (marked u) q)) 256) refl e
   where
     go : (a : Answer) (x y z : Bool) → leb (length (states_of 1 (marked u) q)) 256 ≡ z
-        → counting (and_then a (check x ShortWork (check y ShortOutput (check z TooManyStates Done)))) (greedy_of 1 (marked u) q) ≡ GreedyAnswer.Cycle c
+        → counting (and_then a (check x ShortWork (check y ShortOutput (check z TooManyStates (Ok tt))))) (greedy_of 1 (marked u) q) ≡ Ok c
         → InBounds 1 (marked u) q c.count c.sum
-    go Done true true true h e =
+    go (Ok _) true true true h e =
         let same : ◌≡◌ {A = Counted} (record { count = length (greedy_of 1 (marked u) q); sum = total (greedy_of 1 (marked u) q) }) c = cc in
         subst (λ (d : Counted). InBounds 1 (marked u) q d.count d.sum) same
         (greedy_bounds (marked u) (marked_bounded u) q 1 (omega arith) (leb-true (length (states_of 1 (marked u) q)) 256 h))
-    go Done false y z h e = never (cc)
-    go Done true false z h e = never (cc)
-    go Done true true false h e = never (cc)
-    go (Refused why) x y z h e = never (cc)
+    go (Ok _) false y z h e = never (cc)
+    go (Ok _) true false z h e = never (cc)
+    go (Ok _) true true false h e = never (cc)
+    go (Err why) x y z h e = never (cc)

@@ -1,4 +1,5 @@
 -- What the bounds say of Fig. 1, and what they rule out: sets, sums and replies that must not pass. Assumes nothing.
+use Rattle.std.proofs.Common.{Ok}
 use mathlib.Core.Path.{◌≡◌, refl, sym, ap, ◌∙◌, subst}
 use mathlib.Core.Bool.{Bool, true, false, cond}
 use mathlib.Core.List.{List, [], ◌∷◌, ◌++◌}
@@ -16,7 +17,6 @@ use Rattle.unit.specs.Table.{Table}
 use Rattle.unit.specs.Unit.{marked, good_counts, sound_of, marks_inside}
 use Rattle.unit.specs.Calls.{tag_answer, no_plan, fresh_of}
 use Rattle.unit.proofs.EditLaws.{blank_table}
-use Rattle.collision.specs.declared.Number.TheVariants as Number
 use Rattle.collision.specs.Pipeline.{Forbidden, Cycle, total, NeverCollides}
 use Rattle.collision.specs.Vector.{collides, row_word, vector_word, marks_of, bound_of}
 use Rattle.collision.specs.Answers.{bound_answer}
@@ -27,7 +27,6 @@ use Rattle.clique.proofs.LargestLaws.{clique_most, clique_reached, one_counts, u
 use Rattle.clique.proofs.LowerLaws.{lower}
 use Rattle.clique.proofs.SegmentLaws.{segment_clique}
 use Rattle.clique.proofs.RowLaws.{row_means}
-use Rattle.cycles.specs.declared.GreedyAnswer.TheVariants as GreedyAnswer
 use Rattle.cycles.specs.Greedy.{greedy_answer}
 use Rattle.planner.specs.Sheet.{Call, Reply, Run, Sheet, start, next, fed, owing, spot_number, search_number}
 use Rattle.planner.specs.Sheet.Call.{Mark, Search, Read}
@@ -122,14 +121,14 @@ pub eight_outside : InBounds 1 three_segments 1 3 8 → ⊥
 eight_outside b = let h = rw three_segments_bound at b.lower in omega arith
 
 -- no greedy call answers it, of any unit with this bound
-pub eight_never_greedy : (u : FunctionUnit) (room out : ℕ) → bound_of (marked u) 1 ≡ 3 → greedy_answer u 1 room out ≡ GreedyAnswer.Cycle (record { count = 3; sum = 8 }) → ⊥
+pub eight_never_greedy : (u : FunctionUnit) (room out : ℕ) → bound_of (marked u) 1 ≡ 3 → greedy_answer u 1 room out ≡ Ok (record { count = 3; sum = 8 }) → ⊥
 eight_never_greedy u room out three e = omega (arith, (every_greedy u 1 room out (record { count = 3; sum = 8 }) e).lower)
 
 -- No marks: the call answers 1, and not 0 as the marks say
 
-pub no_marks_answer : bound_answer (fresh_of 1 1 1).unit 1 ≡ Number.Value 1
+pub no_marks_answer : bound_answer (fresh_of 1 1 1).unit 1 ≡ Ok 1
 unfolding bound_answer fresh_of tag_answer sound_of no_plan marks_inside some_below marked
-no_marks_answer = ap Number.Value (unmarked_bound (marked (fresh_of 1 1 1).unit) 1 (λ s c. ap (λ (T : Table). T 1 s c) (blank_table 1 1 1)))
+no_marks_answer = ap Ok (unmarked_bound (marked (fresh_of 1 1 1).unit) 1 (λ s c. ap (λ (T : Table). T 1 s c) (blank_table 1 1 1)))
 
 pub nothing_not_largest : (T : Table) (q : ℕ) → IsLargestClique T q 0 → ⊥
 nothing_not_largest T q m = omega (arith, m.most (0 ∷ []) (one_counts T q 0))

@@ -1,5 +1,5 @@
 -- The bounds on the average latency S / K of a function's cycles, with the least interval g (1 in every call).
-use Rattle.std.specs.Prelude.{ℕ, ◌+◌, ◌*◌, ◌≤◌, ◌≡◌, true, List, [], ◌∷◌, ◌++◌, length, get_or}
+use Rattle.std.specs.Prelude.{ℕ, ◌+◌, ◌*◌, ◌≤◌, ◌≡◌, true, List, [], ◌∷◌, ◌++◌, length, get_or, Ok}
 use Rattle.words.specs.Bits.{is_set}
 use Rattle.words.specs.Below.{count_below}
 use Rattle.unit.specs.declared.Plan.{Plan}
@@ -9,7 +9,6 @@ use Rattle.unit.specs.Unit.{marked, good_counts}
 use Rattle.unit.specs.Calls.{fresh_of}
 use Rattle.collision.specs.Vector.{vector_word, bound_of}
 use Rattle.cycles.specs.declared.Counted.{Counted}
-use Rattle.cycles.specs.declared.GreedyAnswer.TheVariants as GreedyAnswer
 use Rattle.cycles.specs.Greedy.{greedy_answer}
 use Rattle.planner.specs.Sheet.{Call, Reply, Run, Sheet, start, next, fed}
 use Rattle.planner.specs.Sheet.Reply.{accepted, handed}
@@ -47,5 +46,5 @@ EveryPlanAt =
 -- every greedy cycle that a call hands out, of any unit (`every_greedy`, proofs/BoundsLaws.antt)
 abbrev pub EveryGreedy : Type 0
 EveryGreedy =
-    (u : FunctionUnit) (q room out : ℕ) (c : Counted) → greedy_answer u q room out ≡ GreedyAnswer.Cycle c
+    (u : FunctionUnit) (q room out : ℕ) (c : Counted) → greedy_answer u q room out ≡ Ok c
     → InBounds 1 (marked u) q c.count c.sum

@@ -1,12 +1,11 @@
 -- A list of calls played, for counts that are the same, and a listing's answer as numbers. Assumes nothing.
+use Rattle.std.proofs.Common.{Result, Ok, Err}
 use mathlib.Core.Path.{◌≡◌, sym, ap, ◌∙◌, subst}
 use mathlib.Core.List.{List}
 use Prim.Native.Nat.{ℕ}
 use Rattle.unit.specs.declared.Refusal.{Refusal}
 use Rattle.unit.specs.Numbers.{number_of}
 use Rattle.player.specs.Play.{Played}
-use Rattle.listing.specs.declared.Listed.{Listed}
-use Rattle.listing.specs.declared.Listed.TheVariants as Listed
 use Rattle.listing.specs.Listing.{FileListed}
 use Rattle.c_interface.specs.Listing.{listed_number, listed_length, ListingHanded}
 
@@ -19,7 +18,7 @@ played_as {f} {s} {c} {f₁} {s₁} {c₁} {calls} {before} {after} {work} {word
 
 -- A listing's answer as numbers
 
-pub listing_handed : {file out after : List ℕ} {size n : ℕ} {listed : Listed} → FileListed file out after listed → listed ≡ Listed.Length n
+pub listing_handed : {file out after : List ℕ} {size n : ℕ} {listed : (Result ℕ Refusal)} → FileListed file out after listed → listed ≡ Ok n
     → ListingHanded file out after size n 0
 listing_handed {size = size} {listed = listed} p e = record {
   listed = listed;
@@ -28,8 +27,8 @@ listing_handed {size = size} {listed = listed} p e = record {
   length = sym (ap (λ a. listed_length a size) e);
 }
 
-pub listing_refused : {file out after : List ℕ} {size r : ℕ} {why : Refusal} {listed : Listed} → FileListed file out after listed
-    → listed ≡ Listed.Refused why → r ≡ number_of why → ListingHanded file out after size size r
+pub listing_refused : {file out after : List ℕ} {size r : ℕ} {why : Refusal} {listed : (Result ℕ Refusal)} → FileListed file out after listed
+    → listed ≡ Err why → r ≡ number_of why → ListingHanded file out after size size r
 listing_refused {size = size} {listed = listed} p e c = record {
   listed = listed;
   promise = p;

@@ -4,8 +4,6 @@ ghost use Rattle.words.specs.Bytes.{narrow};
 ghost use Rattle.player.specs.Play.{Played};
 ghost use Rattle.c_interface.specs.Listing.{ListingHanded};
 
-use listing::Listed;
-use unit::Answer;
 use words::byte;
 
 // The listing of a file, and its length.
@@ -15,11 +13,11 @@ pub extern "C" fn limedarts_listing(file: &[u8], out: &mut [u8], size: &mut u32)
 {
     let listed = listing::list_file(file, out);
     match listed {
-        Listed::Length(bytes) => {
+        Ok(bytes) => {
             *size = bytes;
             0
         }
-        Listed::Refused(why) => unit::number_in(Answer::Refused(why)) as u32,
+        Err(why) => u32::from(why),
     }
 }
 

@@ -1,4 +1,5 @@
 -- What accepts an arrival and a time unit at a shared port. Assumes nothing.
+use Rattle.std.proofs.Common.{Ok}
 use Prim.Native.Nat.{ℕ, ◌≤◌}
 use mathlib.Core.Path.{◌≡◌}
 use mathlib.Core.Bool.{true}
@@ -8,7 +9,6 @@ use lib.ListN.{length, take}
 use borrow.Author.Tests.{leb-true}
 use Rattle.unit.specs.declared.FunctionUnit.{FunctionUnit}
 use Rattle.unit.specs.declared.Refusal.TheVariants.{NotSound, NoSuchTag, ShortOutput, TooManyWait, NoSuchCaller}
-use Rattle.unit.specs.declared.Answer.TheVariants.{Done}
 use Rattle.unit.specs.Unit.{inside, sound_of}
 use Rattle.unit.proofs.Laws.{check_ok, check_next}
 use Rattle.queue.specs.declared.Waiting.{Waiting}
@@ -23,7 +23,7 @@ pub record Arrives (u : FunctionUnit) (C i : ℕ) (queue : List Waiting) (count 
   pub caller : one_of C i ≡ true
   pub joins : ArrivalAccepted room u (length queue) count w.tag (tags_inside u.functions (take count queue))
 
-pub arrives : (u : FunctionUnit) (C i : ℕ) (queue : List Waiting) (count : ℕ) (w : Waiting) → arrival_at u C i queue count w ≡ Done
+pub arrives : (u : FunctionUnit) (C i : ℕ) (queue : List Waiting) (count : ℕ) (w : Waiting) → arrival_at u C i queue count w ≡ Ok tt
     → Arrives u C i queue count w
 unfolding arrival_at
 arrives u C i queue count w e =
@@ -39,7 +39,7 @@ pub record Passes (u : FunctionUnit) (C turn : ℕ) (list : List Waiting) (count
   pub long : (i : ℕ) → inside i C ≡ true → room ≤ length (queue_of list i)
   pub tags : (i : ℕ) → inside i C ≡ true → tags_inside u.functions (waiting_of list counts i) ≡ true
 
-pub passes : (u : FunctionUnit) (C turn : ℕ) (list : List Waiting) (counts : List ℕ) → unit_at u C turn list counts ≡ Done → Passes u C turn list counts
+pub passes : (u : FunctionUnit) (C turn : ℕ) (list : List Waiting) (counts : List ℕ) → unit_at u C turn list counts ≡ Ok tt → Passes u C turn list counts
 unfolding unit_at
 passes u C turn list counts e =
     let e1 = check_next (sound_of u) NotSound _ e in

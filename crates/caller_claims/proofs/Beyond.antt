@@ -1,4 +1,5 @@
 -- What lies beyond caller C's queue is neither read nor changed: a call does the same on the port that ends there. Assumes nothing.
+use Rattle.std.proofs.Common.{Err, Ok, Some, None}
 use Prim.Native.Nat.{ℕ, zero, suc, ◌+◌, ◌-◌, ◌*◌, ◌≤◌, ◌<◌}
 use mathlib.Core.Path.{◌≡◌, refl, ap, ◌∙◌, sym}
 use mathlib.Core.Bool.{Bool, true, false, cond, not}
@@ -12,13 +13,11 @@ use Rattle.words.proofs.BelowLaws.{some_same}
 use Rattle.unit.specs.declared.FunctionUnit.{FunctionUnit}
 use Rattle.unit.specs.declared.Refusal.{Refusal}
 use Rattle.unit.specs.declared.Refusal.TheVariants.{NotSound, NoSuchCaller}
-use Rattle.unit.specs.declared.Answer.{Answer}
-use Rattle.unit.specs.declared.Answer.TheVariants.{Refused}
+use Rattle.unit.specs.Answers.{Answer}
 use Rattle.unit.specs.Unit.{inside, sound_of}
 use Rattle.unit.proofs.Laws.{inside_of, within as bounds}
 use Rattle.queue.specs.declared.Waiting.{Waiting}
-use Rattle.queue.specs.declared.Passed.{Passed}
-use Rattle.queue.specs.declared.Passed.TheVariants as Passed
+use Rattle.queue.specs.Passed.{Passed}
 use Rattle.queue.specs.Line.{tags_inside}
 use Rattle.queue.specs.Calls.{oldest, passed_then, bank_then, fewer}
 use Rattle.callers.specs.Turn.{each_caller, round, first_after, next_turn, turn_now}
@@ -118,7 +117,7 @@ module _ (u : FunctionUnit) (C : ℕ) (p : Port) where
         rw (queue_cut C p.list p.counts i ii, count_cut C p.list p.counts i ii)
 
     -- the same of every port: its queue is not looked at
-    arrived_nowhere : one_of C i ≡ false → (q : Port) → arrived_at u C q i w ≡ Refused nowhere
+    arrived_nowhere : one_of C i ≡ false → (q : Port) → arrived_at u C q i w ≡ Err nowhere
     unfolding arrival_of arrival_at
     arrived_nowhere e q = by_test (sound_of u) (λ s. simp (s, e)) (λ s. simp s)
 
@@ -189,11 +188,11 @@ module _ (u : FunctionUnit) (C : ℕ) (p : Port) where
         (sym (take-set-lt C p.counts (c - 1) (fewer a (count_of p.counts c)) (counted C p.list p.counts c ic)))
 
     turn_same : (a : Passed) → (left_by u C p c a).turn ≡ (left_by u C cut c a).turn
-    turn_same (Passed.Started w) =
-        first_same C (has_work (counts_then (Passed.Started w) p.counts c)) (has_work (counts_then (Passed.Started w) cut.counts c))
-        (λ i ii. sym (ap (λ (l : List ℕ). has_work l i) (counts_cut (Passed.Started w)) ∙ work_cut (counts_then (Passed.Started w) p.counts c) i ii)) C c c ic
-    turn_same Passed.Idle = refl
-    turn_same (Passed.Refused why) = refl
+    turn_same (Ok (Some w)) =
+        first_same C (has_work (counts_then (Ok (Some w)) p.counts c)) (has_work (counts_then (Ok (Some w)) cut.counts c))
+        (λ i ii. sym (ap (λ (l : List ℕ). has_work l i) (counts_cut (Ok (Some w))) ∙ work_cut (counts_then (Ok (Some w)) p.counts c) i ii)) C c c ic
+    turn_same (Ok None) = refl
+    turn_same (Err why) = refl
 
     unit_left : (a : Passed) → left_by u C p c a ≡ with_beyond C p (left_by u C cut c a)
     unit_left a = λ k. record { bank = bank_then u a p.bank; turn = turn_same a k; list = lists k; counts = counts k }
@@ -217,7 +216,7 @@ module _ (u : FunctionUnit) (C : ℕ) (p : Port) where
     here_served = ap (served_by c) passed_same ∙ ap (λ (j : ℕ). served_by j (passed_in u C cut)) caller_same
 
   -- the same of every port with this turn: its queues are not looked at
-  passed_nowhere : one_of C p.turn ≡ false → (q : Port) → q.turn ≡ p.turn → passed_in u C q ≡ Passed.Refused nowhere
+  passed_nowhere : one_of C p.turn ≡ false → (q : Port) → q.turn ≡ p.turn → passed_in u C q ≡ Err nowhere
   unfolding passed_at unit_at
   passed_nowhere e q t = by_test (sound_of u) (λ s. simp (t, e, s)) (λ s. simp s)
 

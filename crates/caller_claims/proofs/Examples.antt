@@ -1,4 +1,5 @@
 -- Two callers at one port: their starts by turns, the claims at their limit, and what does not hold where a condition is missing. As theorems. Assumes nothing.
+use Rattle.std.proofs.Common.{Ok, Err, Some, None}
 use Prim.Native.Nat.{ℕ, ◌+◌, ◌*◌, ◌≤◌, ◌<◌}
 use mathlib.Core.Path.{◌≡◌, refl, sym, ap, ◌∙◌}
 use mathlib.Core.Bool.{◌||◌}
@@ -10,7 +11,6 @@ use lib.Dec.{eqb}
 use lib.ListN.{length, get_or, replicate}
 use Rattle.words.specs.Below.{some_below, word_below}
 use Rattle.unit.specs.declared.Refusal.TheVariants.{NoSuchTag, ShortOutput, TooManyWait, NoSuchCaller}
-use Rattle.unit.specs.declared.Answer.TheVariants.{Done, Refused}
 use Rattle.unit.specs.Unit.{marked, marks_inside, sound_of}
 use Rattle.unit.specs.Calls.{no_plan}
 use Rattle.unit.proofs.Laws.{never_done}
@@ -23,7 +23,7 @@ use Rattle.queue.specs.declared.Waiting.{Waiting}
 use Rattle.queue.specs.Line.{no_record, tags_inside, forward}
 use Rattle.queue.specs.Calls.{arrival_answer, oldest}
 use Rattle.queue_claims.proofs.Examples.{pair, pair_last, first, second, meet}
-use Rattle.callers.specs.declared.Served.TheVariants as Served
+use Rattle.callers.specs.Served.{Served}
 use Rattle.callers.specs.Turn.{each_caller, first_after}
 use Rattle.callers.specs.Calls.{arrival_at, arrival_of, arrival_list, unit_at, passed_at, unit_of, unit_list}
 use Rattle.caller_claims.specs.Runs.{Port, Call, Start as Begun, line_of, arrived_at, served_at, after, done, done_all, empty_port, brought, units_in, no_start, starts, starts_of}
@@ -81,51 +81,51 @@ others = c ∷ d ∷ replicate 6 no_record
 -- Refusals
 
 -- there is no caller 3 of 2, and no turn of it
-pub no_caller_3 : arrived_at pair 2 (empty_port 1 lent) 3 a ≡ Refused NoSuchCaller
+pub no_caller_3 : arrived_at pair 2 (empty_port 1 lent) 3 a ≡ Err NoSuchCaller
 unfolding pair no_plan sound_of marks_inside marked some_below arrival_at arrival_of
 no_caller_3 = refl
 
-pub no_turn_3 : served_at pair 2 (empty_port 3 lent) ≡ Served.Refused NoSuchCaller
+pub no_turn_3 : served_at pair 2 (empty_port 3 lent) ≡ Err NoSuchCaller
 unfolding pair no_plan sound_of marks_inside marked some_below each_caller first_after unit_at passed_at unit_of
 no_turn_3 = refl
 
 -- nor are there 5 callers
-pub not_5_callers : arrived_at pair 5 (empty_port 1 (replicate 40 no_record)) 1 a ≡ Refused NoSuchCaller
+pub not_5_callers : arrived_at pair 5 (empty_port 1 (replicate 40 no_record)) 1 a ≡ Err NoSuchCaller
 unfolding pair no_plan sound_of marks_inside marked some_below arrival_at arrival_of
 not_5_callers = refl
 
 -- an arrival needs its own queue, and a time unit that of both callers
-pub own_queue : arrived_at pair 2 (empty_port 1 (replicate 15 no_record)) 1 a ≡ Done
+pub own_queue : arrived_at pair 2 (empty_port 1 (replicate 15 no_record)) 1 a ≡ Ok tt
 unfolding pair no_plan sound_of marks_inside marked some_below tags_inside arrival_answer arrival_at arrival_of
 own_queue = refl
 
-pub both_queues : served_at pair 2 (empty_port 1 (replicate 15 no_record)) ≡ Served.Refused ShortOutput
+pub both_queues : served_at pair 2 (empty_port 1 (replicate 15 no_record)) ≡ Err ShortOutput
 unfolding pair no_plan sound_of marks_inside marked some_below each_caller first_after unit_at passed_at unit_of
 both_queues = refl
 
 -- a ninth is refused, and 8 of one caller do not keep the other's out
-pub ninth : arrived_at pair 2 (port 0 1 (replicate 8 a) none 8 0) 1 a ≡ Refused TooManyWait
+pub ninth : arrived_at pair 2 (port 0 1 (replicate 8 a) none 8 0) 1 a ≡ Err TooManyWait
 unfolding pair no_plan sound_of marks_inside marked some_below tags_inside arrival_answer arrival_at arrival_of
 ninth = refl
 
-pub others_ninth : arrived_at pair 2 (port 0 1 (replicate 8 a) none 8 0) 2 a ≡ Done
+pub others_ninth : arrived_at pair 2 (port 0 1 (replicate 8 a) none 8 0) 2 a ≡ Ok tt
 unfolding pair no_plan sound_of marks_inside marked some_below tags_inside arrival_answer arrival_at arrival_of
 others_ninth = refl
 
 -- number by number over both queues: a count of caller 2 before a tag of caller 1, the list before both, and the turn before all of them
-pub count_first : served_at pair 2 (port 0 1 none none 1 9) ≡ Served.Refused TooManyWait
+pub count_first : served_at pair 2 (port 0 1 none none 1 9) ≡ Err TooManyWait
 unfolding pair no_plan sound_of marks_inside marked some_below tags_inside each_caller first_after unit_at passed_at unit_of
 count_first = refl
 
-pub tag_last : served_at pair 2 (port 0 1 none none 1 8) ≡ Served.Refused NoSuchTag
+pub tag_last : served_at pair 2 (port 0 1 none none 1 8) ≡ Err NoSuchTag
 unfolding pair no_plan sound_of marks_inside marked some_below tags_inside each_caller first_after unit_at passed_at unit_of
 tag_last = refl
 
-pub list_first : served_at pair 2 (port 0 1 none [] 1 9) ≡ Served.Refused ShortOutput
+pub list_first : served_at pair 2 (port 0 1 none [] 1 9) ≡ Err ShortOutput
 unfolding pair no_plan sound_of marks_inside marked some_below tags_inside each_caller first_after unit_at passed_at unit_of
 list_first = refl
 
-pub turn_first : served_at pair 2 (port 0 3 none [] 1 9) ≡ Served.Refused NoSuchCaller
+pub turn_first : served_at pair 2 (port 0 3 none [] 1 9) ≡ Err NoSuchCaller
 unfolding pair no_plan sound_of marks_inside marked some_below tags_inside each_caller first_after unit_at passed_at unit_of
 turn_first = refl
 
@@ -329,7 +329,7 @@ not_beyond t = let z : ◌≡◌ {A = ℕ} 1 2 = (rw of_one at t).1.0 in omega a
 -- Nothing beyond C
 
 -- whatever there is at caller 2, one caller goes on
-pub beyond_unread : served_at pair 1 (port 0 1 some none 1 99) ≡ Served.Started 1 a
+pub beyond_unread : served_at pair 1 (port 0 1 some none 1 99) ≡ Ok (Some (1, a))
 unfolding pair no_plan sound_of marks_inside marked some_below register tags_inside oldest each_caller first_after unit_at passed_at unit_of
 beyond_unread = refl
 
@@ -389,35 +389,40 @@ first_waits = refl
 abbrev tasks_loaded : History
 tasks_loaded = tasks_after pair 2 1 lent (event (Start (record { 0 = 1 })) ∷ call (arrival 1 a) ∷ call (arrival 2 c) ∷ [])
 
-pub claimed_exactly : (served_at pair 2 loaded ≡ Served.Started (caller_in 2 loaded) a) ↔ Free (marked pair) (task_now tasks_loaded 1) tasks_loaded.tasks
+pub claimed_exactly : (served_at pair 2 loaded ≡ Ok (Some ((caller_in 2 loaded), a))) ↔ Free (marked pair) (task_now tasks_loaded 1) tasks_loaded.tasks
 claimed_exactly =
     callers_exactly pair 2 1 refl lent (omega arith) (event (Start (record { 0 = 1 })) ∷ call (arrival 1 a) ∷ call (arrival 2 c) ∷ []) a [] first_waits
 
 -- a bank that is not that of the tasks so far: the oldest is not started, though it would meet none
-pub not_exactly : ((served_at pair 2 (port 1 1 some others 1 1) ≡ Served.Started 1 a) ↔ Free (marked pair) first []) → ⊥
+pub not_exactly : ((served_at pair 2 (port 1 1 some others 1 1) ≡ Ok (Some (1, a))) ↔ Free (marked pair) first []) → ⊥
 unfolding pair no_plan sound_of marks_inside marked some_below register tags_inside oldest each_caller first_after unit_at passed_at unit_of
 not_exactly e =
-    let z : Served.Idle ≡ Served.Started 1 a = e.1 (λ y m x. Memᴰ.not-nil m) in
+    let z : ◌≡◌ {A = Served} (Ok None) (Ok (Some (1, a))) = e.1 (λ y m x. Memᴰ.not-nil m) in
     let y : ◌≡◌ {A = ℕ} 0 1 = cc in
     omega arith
 
 -- and an empty bank although a task is under way: it is started, though it would meet that one
-pub not_free : ((served_at pair 2 (port 0 1 some others 1 1) ≡ Served.Started 1 a) ↔ Free (marked pair) second (first ∷ [])) → ⊥
+pub not_free : ((served_at pair 2 (port 0 1 some others 1 1) ≡ Ok (Some (1, a))) ↔ Free (marked pair) second (first ∷ [])) → ⊥
 unfolding pair no_plan sound_of marks_inside marked some_below register tags_inside oldest each_caller first_after unit_at passed_at unit_of
 not_free e = e.0 refl first (Memᴰ.head refl) meet
 
+-- the caller that an answer names
+abbrev caller_told : Served → ℕ
+caller_told (Ok (Some start)) = start.0
+caller_told (Ok None) = 0
+caller_told (Err why) = 0
+
 -- the caller whose turn it is not does not start, though its task would meet none
-pub not_out_of_turn : ((served_at pair 2 (port 0 1 some others 1 1) ≡ Served.Started 2 c) ↔ Free (marked pair) first []) → ⊥
+pub not_out_of_turn : ((served_at pair 2 (port 0 1 some others 1 1) ≡ Ok (Some (2, c))) ↔ Free (marked pair) first []) → ⊥
 unfolding pair no_plan sound_of marks_inside marked some_below register tags_inside oldest each_caller first_after unit_at passed_at unit_of
 not_out_of_turn e =
-    let z : Served.Started 1 a ≡ Served.Started 2 c = e.1 (λ y m x. Memᴰ.not-nil m) in
-    let y : ◌≡◌ {A = ℕ} 1 2 = cc in
+    let y : ◌≡◌ {A = ℕ} 1 2 = ap caller_told (e.1 (λ y m x. Memᴰ.not-nil m)) in
     omega arith
 
 -- nor does any where the list does not hold both queues
-pub not_in_half : ((served_at pair 2 (port 0 1 some [] 1 0) ≡ Served.Started 1 a) ↔ Free (marked pair) first []) → ⊥
+pub not_in_half : ((served_at pair 2 (port 0 1 some [] 1 0) ≡ Ok (Some (1, a))) ↔ Free (marked pair) first []) → ⊥
 unfolding pair no_plan sound_of marks_inside marked some_below register tags_inside oldest each_caller first_after unit_at passed_at unit_of
 not_in_half e =
-    let z : Served.Refused ShortOutput ≡ Served.Started 1 a = e.1 (λ y m x. Memᴰ.not-nil m) in
+    let z : ◌≡◌ {A = Served} (Err ShortOutput) (Ok (Some (1, a))) = e.1 (λ y m x. Memᴰ.not-nil m) in
     let y : ◌≡◌ {A = ℕ} 0 1 = cc in
     omega arith

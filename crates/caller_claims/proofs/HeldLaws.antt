@@ -1,5 +1,6 @@
 -- What the queues of a shared port keep from empty on: no more wait at a caller than there is room for, their tags are the unit's, and where one waits the unit
 -- is sound. Assumes nothing.
+use Rattle.std.proofs.Common.{Ok, Err, Some, None}
 use Prim.Native.Nat.{ℕ, ◌+◌, ◌-◌, ◌≤◌, ◌<◌}
 use mathlib.Core.Path.{◌≡◌, refl, ap, ◌∙◌, sym}
 use mathlib.Core.Bool.{true}
@@ -11,13 +12,11 @@ use lib.ListN.{length, take, set, replicate, length-set, length-take, get_or-rep
 use borrow.Author.Tests.{eqb-true, eqb-false}
 use Rattle.words.proofs.Tests.{by_test, and_left, and_right, and_true}
 use Rattle.unit.specs.declared.FunctionUnit.{FunctionUnit}
-use Rattle.unit.specs.declared.Answer.{Answer}
-use Rattle.unit.specs.declared.Answer.TheVariants.{Done, Refused}
+use Rattle.unit.specs.Answers.{Answer}
 use Rattle.unit.specs.Unit.{inside, sound_of}
 use Rattle.unit.proofs.Laws.{within}
 use Rattle.queue.specs.declared.Waiting.{Waiting}
-use Rattle.queue.specs.declared.Passed.{Passed}
-use Rattle.queue.specs.declared.Passed.TheVariants as Passed
+use Rattle.queue.specs.Passed.{Passed}
 use Rattle.queue.specs.Line.{tags_inside, forward}
 use Rattle.queue.proofs.LineLaws.{tags_rest, tags_joined, set_line, forward_length, forward_line}
 use Rattle.queue_claims.proofs.PassLaws.{Started, was_started}
@@ -70,7 +69,7 @@ module _ (u : FunctionUnit) (C : ℕ) (list : List Waiting) (counts : List ℕ) 
 
 -- An accepted arrival
 
-module _ (u : FunctionUnit) (C : ℕ) (p : Port) (k : ℕ) (w : Waiting) (h : Held u C p.list p.counts) (e : arrived_at u C p k w ≡ Done) where
+module _ (u : FunctionUnit) (C : ℕ) (p : Port) (k : ℕ) (w : Waiting) (h : Held u C p.list p.counts) (e : arrived_at u C p k w ≡ Ok tt) where
   arrival_has : Arrives u C k (queue_of p.list k) (count_of p.counts k) w
   unfolding arrival_of
   arrival_has = arrives u C k (queue_of p.list k) (count_of p.counts k) w e
@@ -84,7 +83,7 @@ module _ (u : FunctionUnit) (C : ℕ) (p : Port) (k : ℕ) (w : Waiting) (h : He
   pub joined_line : take (count_of p.counts k + 1) (set (queue_of p.list k) (count_of p.counts k) w) ≡ line_of p k ++ w ∷ []
   joined_line = set_line (queue_of p.list k) (count_of p.counts k) w (omega (arith, arrival_has.joins.few, arrival_has.joins.long))
 
-  held_joined : Held u C (arrived_by p k w Done).list (arrived_by p k w Done).counts
+  held_joined : Held u C (arrived_by p k w (Ok tt)).list (arrived_by p k w (Ok tt)).counts
   held_joined =
       held_changed u C p.list p.counts h k arrival_whole _ joined_length (count_of p.counts k + 1) (omega (arith, arrival_has.joins.few))
       (ap (tags_inside u.functions) joined_line ∙ tags_joined u (line_of p k) w arrival_has.joins.tags arrival_has.joins.tag)
@@ -92,7 +91,7 @@ module _ (u : FunctionUnit) (C : ℕ) (p : Port) (k : ℕ) (w : Waiting) (h : He
 
 -- A start
 
-module _ (u : FunctionUnit) (C : ℕ) (p : Port) (w : Waiting) (h : Held u C p.list p.counts) (e : passed_in u C p ≡ Passed.Started w) where
+module _ (u : FunctionUnit) (C : ℕ) (p : Port) (w : Waiting) (h : Held u C p.list p.counts) (e : passed_in u C p ≡ Ok (Some w)) where
   abbrev c : ℕ
   c = caller_in C p
 
@@ -125,7 +124,7 @@ module _ (u : FunctionUnit) (C : ℕ) (p : Port) (w : Waiting) (h : Held u C p.l
   start_tags : tags_inside u.functions (w ∷ start_has.rest) ≡ true
   start_tags = ap (tags_inside u.functions) (sym start_has.first) ∙ h.tags c start_whole.here
 
-  held_left : Held u C (left_by u C p (caller_in C p) (Passed.Started w)).list (left_by u C p (caller_in C p) (Passed.Started w)).counts
+  held_left : Held u C (left_by u C p (caller_in C p) (Ok (Some w))).list (left_by u C p (caller_in C p) (Ok (Some w))).counts
   held_left =
       held_changed u C p.list p.counts h c start_whole _ left_length (count_of p.counts c - 1) (omega (arith, h.few c start_whole.here))
       (ap (tags_inside u.functions) left_line ∙ tags_rest u w start_has.rest start_tags) start_passes.sound
@@ -140,17 +139,17 @@ module _ (u : FunctionUnit) (C : ℕ) (p : Port) (h : Held u C p.list p.counts) 
   length_arrival k w = go (arrived_at u C p k w) refl
     where
       go : (a : Answer) → arrived_at u C p k w ≡ a → Long (after u C p (arrival k w))
-      go Done e = rw (arrival_port u C p k w Done e) (list_length p.list k _ (arrival_whole u C p k w h e).all (joined_length u C p k w h e))
-      go (Refused why) e = rw (arrival_refused u C p k w why e)
+      go (Ok _) e = rw (arrival_port u C p k w (Ok tt) e) (list_length p.list k _ (arrival_whole u C p k w h e).all (joined_length u C p k w h e))
+      go (Err why) e = rw (arrival_refused u C p k w why e)
 
   length_unit : Long (after u C p unit)
   length_unit = go (passed_in u C p) refl
     where
       go : (a : Passed) → passed_in u C p ≡ a → Long (after u C p unit)
-      go (Passed.Started w) e =
-          rw (unit_port u C p (Passed.Started w) e) (list_length p.list (caller_in C p) _ (start_whole u C p w h e).all (left_length u C p w h e))
-      go Passed.Idle e = rw (unit_idle u C p e)
-      go (Passed.Refused why) e = rw (unit_refused u C p why e)
+      go (Ok (Some w)) e =
+          rw (unit_port u C p (Ok (Some w)) e) (list_length p.list (caller_in C p) _ (start_whole u C p w h e).all (left_length u C p w h e))
+      go (Ok None) e = rw (unit_idle u C p e)
+      go (Err why) e = rw (unit_refused u C p why e)
 
   pub length_after : (k : Call) → Long (after u C p k)
   length_after (arrival k w) = length_arrival k w
@@ -166,16 +165,16 @@ module _ (u : FunctionUnit) (C : ℕ) where
   held_arrival p k w h = go (arrived_at u C p k w) refl
     where
       go : (a : Answer) → arrived_at u C p k w ≡ a → Keeps (after u C p (arrival k w))
-      go Done e = rw (arrival_port u C p k w Done e) (held_joined u C p k w h e)
-      go (Refused why) e = rw (arrival_refused u C p k w why e) h
+      go (Ok _) e = rw (arrival_port u C p k w (Ok tt) e) (held_joined u C p k w h e)
+      go (Err why) e = rw (arrival_refused u C p k w why e) h
 
   held_unit : (p : Port) → Keeps p → Keeps (after u C p unit)
   held_unit p h = go (passed_in u C p) refl
     where
       go : (a : Passed) → passed_in u C p ≡ a → Keeps (after u C p unit)
-      go (Passed.Started w) e = rw (unit_port u C p (Passed.Started w) e) (held_left u C p w h e)
-      go Passed.Idle e = rw (unit_idle u C p e) h
-      go (Passed.Refused why) e = rw (unit_refused u C p why e) h
+      go (Ok (Some w)) e = rw (unit_port u C p (Ok (Some w)) e) (held_left u C p w h e)
+      go (Ok None) e = rw (unit_idle u C p e) h
+      go (Err why) e = rw (unit_refused u C p why e) h
 
   pub held_after : (p : Port) (k : Call) → Keeps p → Keeps (after u C p k)
   held_after p (arrival k w) h = held_arrival p k w h

@@ -1,4 +1,5 @@
 -- What an arrival and a time unit leave at a shared port, case by case. Assumes nothing.
+use Rattle.std.proofs.Common.{Err, Ok, None}
 use Prim.Native.Nat.{ℕ}
 use mathlib.Core.Path.{◌≡◌, ap, ◌∙◌}
 use mathlib.Core.Bool.{true, not}
@@ -6,15 +7,13 @@ use mathlib.Core.List.{List}
 use lib.Dec.{eqb}
 use Rattle.unit.specs.declared.FunctionUnit.{FunctionUnit}
 use Rattle.unit.specs.declared.Refusal.{Refusal}
-use Rattle.unit.specs.declared.Answer.{Answer}
-use Rattle.unit.specs.declared.Answer.TheVariants.{Refused}
+use Rattle.unit.specs.Answers.{Answer}
 use Rattle.unit.specs.Unit.{inside}
 use Rattle.unit.proofs.Laws.{within}
 use Rattle.controller.specs.declared.Event.TheVariants.{Tick}
 use Rattle.controller.specs.Bank.{step_of}
 use Rattle.queue.specs.declared.Waiting.{Waiting}
-use Rattle.queue.specs.declared.Passed.{Passed}
-use Rattle.queue.specs.declared.Passed.TheVariants as Passed
+use Rattle.queue.specs.Passed.{Passed}
 use Rattle.queue.specs.Calls.{count_then, list_then, bank_then, fewer}
 use Rattle.callers.specs.Queues.{queue_of, with_queue, count_of, with_count, has_work}
 use Rattle.callers.specs.Calls.{arrival_of, arrival_list, counts_then, turn_then, list_by, unit_of, unit_list}
@@ -45,9 +44,9 @@ module _ (u : FunctionUnit) (C : ℕ) (p : Port) (i : ℕ) (w : Waiting) where
   unfolding after arrival_of arrival_list
   arrival_port a e = ap (arrived_by p i w) e
 
-  pub arrival_refused : (why : Refusal) → arrived_at u C p i w ≡ Refused why → after u C p (arrival i w) ≡ p
+  pub arrival_refused : (why : Refusal) → arrived_at u C p i w ≡ Err why → after u C p (arrival i w) ≡ p
   arrival_refused why e =
-      arrival_port (Refused why) e
+      arrival_port (Err why) e
       ∙ λ k. record { bank = p.bank; turn = p.turn; list = parts p.list i k; counts = count_kept p.counts i k }
 
 -- Time units
@@ -66,15 +65,15 @@ module _ (u : FunctionUnit) (C : ℕ) (p : Port) where
   unfolding after unit_of unit_list
   unit_port a e = ap (left_by u C p (caller_in C p)) e
 
-  pub unit_refused : (why : Refusal) → passed_in u C p ≡ Passed.Refused why → after u C p unit ≡ p
+  pub unit_refused : (why : Refusal) → passed_in u C p ≡ Err why → after u C p unit ≡ p
   unit_refused why e =
-      unit_port (Passed.Refused why) e
+      unit_port (Err why) e
       ∙ λ k. record { bank = p.bank; turn = p.turn; list = parts p.list (caller_in C p) k; counts = count_kept p.counts (caller_in C p) k }
 
-  pub unit_idle : passed_in u C p ≡ Passed.Idle
+  pub unit_idle : passed_in u C p ≡ Ok None
       → after u C p unit ≡ record { bank = (step_of u p.bank Tick).bank; turn = caller_in C p; list = p.list; counts = p.counts }
   unit_idle e =
-      unit_port Passed.Idle e
+      unit_port (Ok None) e
       ∙ λ k. record {
         bank = (step_of u p.bank Tick).bank;
         turn = caller_in C p;

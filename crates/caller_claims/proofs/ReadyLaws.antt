@@ -1,4 +1,5 @@
 -- A shared port at which every time unit is accepted, and what each call leaves of it. Assumes nothing.
+use Rattle.std.proofs.Common.{Ok, Err, Some, None}
 use Prim.Native.Nat.{ℕ, zero, suc, ◌+◌, ◌-◌, ◌*◌, ◌≤◌}
 use mathlib.Core.Path.{◌≡◌, refl, ap, ◌∙◌, sym, subst}
 use mathlib.Core.Bool.{true, false, cond, not}
@@ -10,16 +11,14 @@ use lib.ListN.{length, take, length-take}
 use borrow.Author.Tests.{le-leb, eqb-true, eqb-false, eq-eqb, ne_eqb}
 use Rattle.words.proofs.Tests.{nowhere, by_test, and_left, and_right, and_true}
 use Rattle.unit.specs.declared.FunctionUnit.{FunctionUnit}
-use Rattle.unit.specs.declared.Answer.{Answer}
-use Rattle.unit.specs.declared.Answer.TheVariants.{Done, Refused}
+use Rattle.unit.specs.Answers.{Answer}
 use Rattle.unit.specs.Unit.{inside, marked, sound_of}
 use Rattle.unit.proofs.Laws.{within}
 use Rattle.collision.specs.Vector.{largest_column}
 use Rattle.controller.specs.Bank.{shifted, granted}
 use Rattle.controller.proofs.TickLaws.{tick_shifts, shifted_below, step_below, empty_below}
 use Rattle.queue.specs.declared.Waiting.{Waiting}
-use Rattle.queue.specs.declared.Passed.{Passed}
-use Rattle.queue.specs.declared.Passed.TheVariants as Passed
+use Rattle.queue.specs.Passed.{Passed}
 use Rattle.queue.specs.Line.{tags_inside}
 use Rattle.queue.specs.Calls.{oldest, passed_then}
 use Rattle.queue.proofs.LineLaws.{tags_first}
@@ -53,15 +52,15 @@ line_length_lem u C p i r ii =
     let q = queue_length p.list i (omega (arith, r.long, (within i C ii).least, (within i C ii).most)) in
     length-take (count_of p.counts i) (queue_of p.list i) ∙ omega (arith, r.held.few i ii)
 
-pub record Some (l : List Waiting) : Type 0 where
+pub record SomeWait (l : List Waiting) : Type 0 where
   pub head : Waiting
   pub rest : List Waiting
   pub is : l ≡ head ∷ rest
 
-pub work_some : (u : FunctionUnit) (C : ℕ) (p : Port) (i : ℕ) → Ready u C p → inside i C ≡ true → has_work p.counts i ≡ true → Some (line_of p i)
+pub work_some : (u : FunctionUnit) (C : ℕ) (p : Port) (i : ℕ) → Ready u C p → inside i C ≡ true → has_work p.counts i ≡ true → SomeWait (line_of p i)
 work_some u C p i r ii w = go (line_of p i) refl
   where
-    go : (l : List Waiting) → line_of p i ≡ l → Some l
+    go : (l : List Waiting) → line_of p i ≡ l → SomeWait l
     go [] e =
         let z : count_of p.counts i ≡ 0 = sym (line_length_lem u C p i r ii) ∙ ap length e in
         nowhere (sym (ap not (eq-eqb (count_of p.counts i) 0 z)) ∙ w)
@@ -87,16 +86,16 @@ module _ (u : FunctionUnit) (C : ℕ) (p : Port) (k : ℕ) (v : Waiting) where
   line_grown h i ii = go (arrived_at u C p k v) refl
     where
       go : (a : Answer) → arrived_at u C p k v ≡ a → (line_of p' i ≡ line_of p i) ⊎ (line_of p' i ≡ line_of p i ++ v ∷ [])
-      go (Refused why) e = inl (ap (λ (q : Port). line_of q i) (arrival_refused u C p k v why e))
-      go Done e = rw (arrival_port u C p k v Done e) (by_test (eqb i k) same other)
+      go (Err why) e = inl (ap (λ (q : Port). line_of q i) (arrival_refused u C p k v why e))
+      go (Ok _) e = rw (arrival_port u C p k v (Ok tt) e) (by_test (eqb i k) same other)
         where
-          same : eqb i k ≡ true → (line_of (arrived_by p k v Done) i ≡ line_of p i) ⊎ (line_of (arrived_by p k v Done) i ≡ line_of p i ++ v ∷ [])
+          same : eqb i k ≡ true → (line_of (arrived_by p k v (Ok tt)) i ≡ line_of p i) ⊎ (line_of (arrived_by p k v (Ok tt)) i ≡ line_of p i ++ v ∷ [])
           same y =
               let o = arrival_whole u C p k v h e in
               let l = line_same p.list p.counts k _ o.all (joined_length u C p k v h e) (count_of p.counts k + 1) o.counted in
               rw (eqb-true i k y) (inr (l ∙ joined_line u C p k v h e))
 
-          other : eqb i k ≡ false → (line_of (arrived_by p k v Done) i ≡ line_of p i) ⊎ (line_of (arrived_by p k v Done) i ≡ line_of p i ++ v ∷ [])
+          other : eqb i k ≡ false → (line_of (arrived_by p k v (Ok tt)) i ≡ line_of p i) ⊎ (line_of (arrived_by p k v (Ok tt)) i ≡ line_of p i ++ v ∷ [])
           other y =
               let o = arrival_whole u C p k v h e in
               inl (line_other p.list p.counts k _ o.all (joined_length u C p k v h e) (count_of p.counts k + 1) i
@@ -128,7 +127,7 @@ module _ (u : FunctionUnit) (sound : sound_of u ≡ true) (C : ℕ) (p : Port) (
   pub caller_here : inside c C ≡ true
   caller_here = caller_inside C p r.turn
 
-  unit_done : unit_at u C p.turn p.list p.counts ≡ Done
+  unit_done : unit_at u C p.turn p.list p.counts ≡ Ok tt
   unit_done =
       units u C p.list p.counts r.held p.turn
       ∙ simp (sound, and_true r.callers r.turn, le-leb (room * C) (length p.list) r.long)
@@ -139,13 +138,13 @@ module _ (u : FunctionUnit) (sound : sound_of u ≡ true) (C : ℕ) (p : Port) (
 
   -- a unit in which none was started
   pub record Idles : Type 0 where
-    pub passed : passed_in u C p ≡ Passed.Idle
+    pub passed : passed_in u C p ≡ Ok None
     pub bank : (after u C p unit).bank ≡ shifted p.bank
     pub turn : (after u C p unit).turn ≡ c
     pub lines : (i : ℕ) → line_of (after u C p unit) i ≡ line_of p i
     pub ready : Ready u C (after u C p unit)
 
-  unit_idles : passed_in u C p ≡ Passed.Idle → Idles
+  unit_idles : passed_in u C p ≡ Ok None → Idles
   unit_idles e =
       let q = unit_idle u C p e in
       let t = tick_shifts u sound p.bank in
@@ -172,17 +171,17 @@ module _ (u : FunctionUnit) (sound : sound_of u ≡ true) (C : ℕ) (p : Port) (
 
     pub held_idles : granted p.bank x.tag ≡ false → Idles
     unfolding oldest
-    held_idles g = unit_idles (passed_oldest ∙ ap (oldest p.bank) e ∙ ap (λ ok. cond ok (Passed.Started x) Passed.Idle) g)
+    held_idles g = unit_idles (passed_oldest ∙ ap (oldest p.bank) e ∙ ap (λ ok. cond ok (Ok (Some x)) (Ok None)) g)
 
     pub record StartsFirst : Type 0 where
-      pub passed : passed_in u C p ≡ Passed.Started x
-      pub turn : (after u C p unit).turn ≡ next_turn C (has_work (counts_then (Passed.Started x) p.counts c)) c
+      pub passed : passed_in u C p ≡ Ok (Some x)
+      pub turn : (after u C p unit).turn ≡ next_turn C (has_work (counts_then (Ok (Some x)) p.counts c)) c
       pub lines : (i : ℕ) → inside i C ≡ true → (i ≡ c → ⊥) → line_of (after u C p unit) i ≡ line_of p i
       pub ready : Ready u C (after u C p unit)
 
-    unit_starts : passed_in u C p ≡ Passed.Started x → granted p.bank x.tag ≡ true → StartsFirst
+    unit_starts : passed_in u C p ≡ Ok (Some x) → granted p.bank x.tag ≡ true → StartsFirst
     unit_starts a g =
-        let q = unit_port u C p (Passed.Started x) a in
+        let q = unit_port u C p (Ok (Some x)) a in
         let s = bank_start u p.bank x sound head_tag g in
         let o = start_whole u C p x r.held a in
         let l = left_length u C p x r.held a in
@@ -195,7 +194,7 @@ module _ (u : FunctionUnit) (sound : sound_of u ≡ true) (C : ℕ) (p : Port) (
             low = subst (Low u) (sym (ap (λ (y : Port). y.bank) q ∙ s)) (low_started u x.tag p.bank sound head_tag r.low);
             callers = r.callers;
             turn = subst (λ (t : ℕ). inside t C ≡ true) (sym (ap (λ (y : Port). y.turn) q))
-                (next_inside C (has_work (counts_then (Passed.Started x) p.counts c)) C c c caller_here caller_here);
+                (next_inside C (has_work (counts_then (Ok (Some x)) p.counts c)) C c c caller_here caller_here);
             long = omega (arith, r.long, length_after u C p r.held unit);
             held = held_after u C p unit r.held;
           };
@@ -203,7 +202,7 @@ module _ (u : FunctionUnit) (sound : sound_of u ≡ true) (C : ℕ) (p : Port) (
 
     pub granted_starts : granted p.bank x.tag ≡ true → StartsFirst
     unfolding oldest
-    granted_starts g = unit_starts (passed_oldest ∙ ap (oldest p.bank) e ∙ ap (λ ok. cond ok (Passed.Started x) Passed.Idle) g) g
+    granted_starts g = unit_starts (passed_oldest ∙ ap (oldest p.bank) e ∙ ap (λ ok. cond ok (Ok (Some x)) (Ok None)) g) g
 
   -- every time unit keeps the port ready
   ready_unit : Ready u C (after u C p unit)

@@ -1,6 +1,7 @@
 -- Each caller's oldest task starts within C × (n + 1) time units.
 -- The argument: at most n ticks after a caller got its turn it starts, and then the turn is at least one place nearer to every caller that waits, which it
 -- never passes. So a caller that is d places ahead of the turn starts within (d + 1) × (n + 1) time units, and d is below C. Assumes nothing.
+use Rattle.std.proofs.Common.{Ok, Some}
 use Prim.Native.Nat.{ℕ, suc, ◌+◌, ◌*◌, ◌≤◌, ◌<◌}
 use mathlib.Core.Path.{◌≡◌, refl, ap, ◌∙◌, sym, subst}
 use mathlib.Core.Bool.{true, false, cond}
@@ -19,8 +20,7 @@ use Rattle.collision.proofs.MatrixLaws.{largest_31}
 use Rattle.controller.specs.declared.Bank.{Bank}
 use Rattle.controller.specs.Bank.{shifted, granted}
 use Rattle.queue.specs.declared.Waiting.{Waiting}
-use Rattle.queue.specs.declared.Passed.{Passed}
-use Rattle.queue.specs.declared.Passed.TheVariants as Passed
+use Rattle.queue.specs.Passed.{Passed}
 use Rattle.queue_claims.specs.Claims.{delay}
 use Rattle.queue_claims.proofs.DelayLaws.{delay_most, delay_tick}
 use Rattle.callers.specs.Turn.{next_turn}
@@ -198,12 +198,12 @@ module _ (u : FunctionUnit) (sound : sound_of u ≡ true) (C i : ℕ) (ii : insi
     fresh_budget s = record { far = omega arith; most = omega arith; own = λ x l y. delay_fits q s x; none = λ y. refl }
 
     -- after a start of another caller the turn is nearer
-    nearer : (x : Waiting) → (i ≡ c → ⊥) → q.turn ≡ next_turn C (has_work (counts_then (Passed.Started x) p.counts c)) c
+    nearer : (x : Waiting) → (i ≡ c → ⊥) → q.turn ≡ next_turn C (has_work (counts_then (Ok (Some x)) p.counts c)) c
         → suc (ahead C q.turn i) ≤ ahead C c i
     nearer x n t =
         let ic = caller_here u sound C p r in
-        let wi = work_other C p.counts c (Passed.Started x) i ic ii n (some_work p i w line h) in
-        let o = goes_next C (has_work (counts_then (Passed.Started x) p.counts c)) i ii wi c ic in
+        let wi = work_other C p.counts c (Ok (Some x)) i ic ii n (some_work p i w line h) in
+        let o = goes_next C (has_work (counts_then (Ok (Some x)) p.counts c)) i ii wi c ic in
         let k = ahead_step C c i ic ii (λ y. n (sym y)) in
         subst (λ (y : ℕ). suc (ahead C y i) ≤ ahead C c i) (sym t) (omega (arith, o.others i ii (omega arith)))
 

@@ -1,4 +1,5 @@
 -- The shared port's actions are the controller's events, so that its theorems hold of the tasks that the port starts. Assumes nothing.
+use Rattle.std.proofs.Common.{Ok, Err, Some, None}
 use Prim.Native.Nat.{ℕ}
 use mathlib.Core.Path.{◌≡◌, refl, ap, ◌∙◌, sym, subst}
 use mathlib.Core.Bool.{true}
@@ -6,19 +7,17 @@ use mathlib.Core.List.{List, [], ◌∷◌}
 use native.Mathlib.Omega.{arith}
 use Rattle.words.proofs.Tests.{and_right}
 use Rattle.unit.specs.declared.FunctionUnit.{FunctionUnit}
-use Rattle.unit.specs.declared.Answer.{Answer}
-use Rattle.unit.specs.declared.Answer.TheVariants.{Done}
+use Rattle.unit.specs.Answers.{Answer}
 use Rattle.unit.specs.Unit.{inside, marked, sound_of}
 use Rattle.controller.specs.declared.Event.TheVariants.{Start}
 use Rattle.controller.specs.Bank.{event_answer}
 use Rattle.controller.specs.History.{History, Course, outset, played, Apart}
 use Rattle.queue.specs.declared.Waiting.{Waiting}
-use Rattle.queue.specs.declared.Passed.{Passed}
-use Rattle.queue.specs.declared.Passed.TheVariants as Passed
-use Rattle.queue.specs.Line.{tag_of}
+use Rattle.queue.specs.Passed.{Passed}
+use Rattle.queue.specs.Line.{no_record, tag_of}
 use Rattle.queue_claims.proofs.PassLaws.{was_started, was_idle}
 use Rattle.queue_claims.proofs.PlayLaws.{played_joined, started_answered, unit_plays, all_apart, grants_exactly}
-use Rattle.callers.specs.declared.Served.TheVariants as Served
+use Rattle.callers.specs.Served.{Served}
 use Rattle.callers.specs.Calls.{unit_at, passed_at, served_by, unit_of}
 use Rattle.caller_claims.specs.Runs.{Port, Action, line_of, after, done, done_all, empty_port, brought}
 use Rattle.caller_claims.specs.Runs.Call.{arrival, unit}
@@ -40,14 +39,14 @@ module _ (u : FunctionUnit) (C : ℕ) where
     abbrev answer : Answer
     answer = unit_at u C p.turn p.list p.counts
 
-    begun : (w : Waiting) → passed_in u C p ≡ Passed.Started w → event_answer u p.bank (Start (tag_of w)) ≡ Done
+    begun : (w : Waiting) → passed_in u C p ≡ Ok (Some w) → event_answer u p.bank (Start (tag_of w)) ≡ Ok tt
     unfolding passed_at
     begun w e =
         let s = was_started p.bank answer (line_of p (caller_in C p)) w e in
         let a = passes u C p.turn p.list p.counts s.accepted in
         started_answered u s a.sound (a.tags (caller_in C p) (caller_inside C p (and_right (inside C 4) (inside p.turn C) a.caller)))
 
-    idled : passed_in u C p ≡ Passed.Idle → sound_of u ≡ true
+    idled : passed_in u C p ≡ Ok None → sound_of u ≡ true
     unfolding passed_at
     idled e = (passes u C p.turn p.list p.counts (was_idle p.bank answer (line_of p (caller_in C p)) e)).sound
 
@@ -78,10 +77,15 @@ callers_apart u C turn list actions =
     subst (λ (h : History). Apart (marked u) h.tasks) (sym (callers_play u C turn list actions).1) (all_apart u (events_of u C turn list actions))
 
 -- the answer names the record that was started
-served_started : (c : ℕ) (a : Passed) (w : Waiting) → served_by c a ≡ Served.Started c w → a ≡ Passed.Started w
-served_started c (Passed.Started v) w e = cc
-served_started c Passed.Idle w e = let z : ◌≡◌ {A = ℕ} 0 1 = cc in absurd (omega arith)
-served_started c (Passed.Refused why) w e = let z : ◌≡◌ {A = ℕ} 0 1 = cc in absurd (omega arith)
+abbrev record_told : Served → Waiting
+record_told (Ok (Some start)) = start.1
+record_told (Ok None) = no_record
+record_told (Err why) = no_record
+
+served_started : (c : ℕ) (a : Passed) (w : Waiting) → served_by c a ≡ Ok (Some (c, w)) → a ≡ Ok (Some w)
+served_started c (Ok (Some v)) w e = ap (λ x. Ok (Some x)) (ap record_told e)
+served_started c (Ok None) w e = let z : ◌≡◌ {A = ℕ} 0 1 = cc in absurd (omega arith)
+served_started c (Err why) w e = let z : ◌≡◌ {A = ℕ} 0 1 = cc in absurd (omega arith)
 
 pub callers_exactly : CallersExactly
 unfolding unit_of passed_at

@@ -1,6 +1,7 @@
 -- While two callers both wait, they start by turns.
 -- The argument: when one of them starts, the turn goes on from it, and the other, which has work, then comes first going round. The turn does not pass a caller
 -- that has work, so this stays until the other starts. Assumes nothing.
+use Rattle.std.proofs.Common.{Ok, Err, Some, None}
 use Prim.Native.Nat.{ℕ, ◌+◌, ◌<◌}
 use mathlib.Core.Path.{◌≡◌, refl, ap, ◌∙◌, sym, subst}
 use mathlib.Core.Bool.{Bool, true, false, cond, ◌&&◌, ◌||◌}
@@ -16,8 +17,7 @@ use Rattle.unit.specs.declared.Refusal.{Refusal}
 use Rattle.unit.specs.declared.Refusal.TheVariants.{NotSound, NoSuchCaller}
 use Rattle.unit.specs.Unit.{inside, sound_of}
 use Rattle.queue.specs.declared.Waiting.{Waiting}
-use Rattle.queue.specs.declared.Passed.{Passed}
-use Rattle.queue.specs.declared.Passed.TheVariants as Passed
+use Rattle.queue.specs.Passed.{Passed}
 use Rattle.callers.specs.Turn.{next_turn, turn_now}
 use Rattle.callers.specs.Queues.{has_work}
 use Rattle.callers.specs.Calls.{one_of, unit_at, passed_at, served_by, counts_then, unit_of}
@@ -93,17 +93,17 @@ module _ (u : FunctionUnit) (C : ℕ) (f : ℕ → Bool) where
     abbrev begun : Waiting → Start
     begun v = record { caller = caller_in C p; task = v; unit = m + 1 }
 
-    moved : (v : Waiting) → passed_in u C p ≡ Passed.Started v
-        → (after u C p unit).turn ≡ next_turn C (has_work (counts_then (Passed.Started v) p.counts (caller_in C p))) (caller_in C p)
-    moved v e = ap (λ (y : Port). y.turn) (unit_port u C p (Passed.Started v) e)
+    moved : (v : Waiting) → passed_in u C p ≡ Ok (Some v)
+        → (after u C p unit).turn ≡ next_turn C (has_work (counts_then (Ok (Some v)) p.counts (caller_in C p))) (caller_in C p)
+    moved v e = ap (λ (y : Port). y.turn) (unit_port u C p (Ok (Some v)) e)
 
-    module _ (h : First C (caller_in C p) a b) (w : BothWait u C (after u C p unit) a b calls) (v : Waiting) (e : passed_in u C p ≡ Passed.Started v) where
+    module _ (h : First C (caller_in C p) a b) (w : BothWait u C (after u C p unit) a b calls) (v : Waiting) (e : passed_in u C p ≡ Ok (Some v)) where
       own_start : caller_in C p ≡ a → has_work p.counts b ≡ true → Alternate a b (cond (f (caller_in C p)) (begun v ∷ later) later)
       own_start s wb =
           let t : f (caller_in C p) ≡ true = ap f s ∙ o.one in
           let nb : b ≡ a → ⊥ = λ z. n (sym z) in
-          let work : ℕ → Bool = has_work (counts_then (Passed.Started v) p.counts (caller_in C p)) in
-          let k = first_after_lem C b a ib ia nb work (work_other C p.counts (caller_in C p) (Passed.Started v) b h.there ib (λ z. n (sym s ∙ sym z)) wb) in
+          let work : ℕ → Bool = has_work (counts_then (Ok (Some v)) p.counts (caller_in C p)) in
+          let k = first_after_lem C b a ib ia nb work (work_other C p.counts (caller_in C p) (Ok (Some v)) b h.there ib (λ z. n (sym s ∙ sym z)) wb) in
           let r : (after u C p unit).turn ≡ next_turn C work a = moved v e ∙ ap (next_turn C work) s in
           rw t (
             s,
@@ -114,9 +114,9 @@ module _ (u : FunctionUnit) (C : ℕ) (f : ℕ → Bool) where
       other_start : (caller_in C p ≡ a → ⊥) → has_work p.counts a ≡ true → Alternate a b (cond (f (caller_in C p)) (begun v ∷ later) later)
       other_start na wa =
           let t : f (caller_in C p) ≡ false = o.none (caller_in C p) na (not_last C a b ia ib n (caller_in C p) h) in
-          let work : ℕ → Bool = has_work (counts_then (Passed.Started v) p.counts (caller_in C p)) in
+          let work : ℕ → Bool = has_work (counts_then (Ok (Some v)) p.counts (caller_in C p)) in
           let k = first_kept C a b ia ib n work (caller_in C p) h na
-          (work_other C p.counts (caller_in C p) (Passed.Started v) a h.there ia (λ z. na (sym z)) wa) in
+          (work_other C p.counts (caller_in C p) (Ok (Some v)) a h.there ia (λ z. na (sym z)) wa) in
           rw t (all a b ia ib n o (after u C p unit) (m + 1) (subst (λ (z : ℕ). First C z a b) (sym (moved v e)) k) w)
 
     -- a unit without a start leaves the turn with a caller from which a comes first
@@ -129,11 +129,11 @@ module _ (u : FunctionUnit) (C : ℕ) (f : ℕ → Bool) where
     where
       go : (x : Passed) → passed_in u C p ≡ x → First C (caller_in C p) a b
           → Alternate a b (starts_of f (start_in (served_by (caller_in C p) (passed_in u C p)) (m + 1) ++ starts u C (after u C p unit) (m + 1) calls))
-      go (Passed.Refused why) e c =
-          rw e (no_start_lem calls all a b ia ib n o p m p.turn (ap (λ (y : Port). y.turn) (unit_port u C p (Passed.Refused why) e)) h w.2)
-      go Passed.Idle e c =
-          rw e (no_start_lem calls all a b ia ib n o p m (caller_in C p) (ap (λ (y : Port). y.turn) (unit_port u C p Passed.Idle e)) c w.2)
-      go (Passed.Started v) e c =
+      go (Err why) e c =
+          rw e (no_start_lem calls all a b ia ib n o p m p.turn (ap (λ (y : Port). y.turn) (unit_port u C p (Err why) e)) h w.2)
+      go (Ok None) e c =
+          rw e (no_start_lem calls all a b ia ib n o p m (caller_in C p) (ap (λ (y : Port). y.turn) (unit_port u C p (Ok None) e)) c w.2)
+      go (Ok (Some v)) e c =
           rw e
           (by_test (eqb (caller_in C p) a)
           (λ y. own_start calls all a b ia ib n o p m c w.2 v e (eqb-true (caller_in C p) a y) w.1)
@@ -155,7 +155,7 @@ module _ (u : FunctionUnit) (C : ℕ) (f : ℕ → Bool) where
 -- From any port
 
 -- a turn that names no caller: every time unit is refused, and nothing starts
-no_turn : (u : FunctionUnit) (C : ℕ) (p : Port) → inside p.turn C ≡ false → (why : Refusal) × (passed_in u C p ≡ Passed.Refused why)
+no_turn : (u : FunctionUnit) (C : ℕ) (p : Port) → inside p.turn C ≡ false → (why : Refusal) × (passed_in u C p ≡ Err why)
 unfolding passed_at unit_at
 no_turn u C p f =
     let o : one_of C p.turn ≡ false = ap (λ t. inside C 4 && t) f ∙ none (inside C 4) in

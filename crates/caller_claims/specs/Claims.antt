@@ -1,8 +1,7 @@
 -- Callers in turn: each caller's oldest task starts within C × (n + 1) time units, and while two callers both wait they start alternately.
-use Rattle.std.specs.Prelude.{ℕ, ◌+◌, ◌*◌, ◌≤◌, ◌<◌, ◌≡◌, true, ◌||◌, ◌⊎◌, List, [], ◌∷◌, ◌++◌, eqb, leb, ltb, length, get_or, take, drop}
+use Rattle.std.specs.Prelude.{ℕ, ◌+◌, ◌*◌, ◌≤◌, ◌<◌, ◌≡◌, true, ◌||◌, ◌⊎◌, List, [], ◌∷◌, ◌++◌, eqb, leb, ltb, length, get_or, take, drop, Ok}
 use Rattle.unit.specs.declared.FunctionUnit.{FunctionUnit}
 use Rattle.unit.specs.declared.Refusal.TheVariants.{NotSound, NoSuchTag, ShortOutput, TooManyWait, NoSuchCaller}
-use Rattle.unit.specs.declared.Answer.TheVariants.{Done}
 use Rattle.unit.specs.Unit.{inside, marked, sound_of}
 use Rattle.unit.specs.Calls.{check}
 use Rattle.collision.specs.Vector.{largest_column}
@@ -80,13 +79,13 @@ NothingBeyond = (u : FunctionUnit) (C : ℕ) (p : Port) → OnlyWithin u C p
 -- no time unit is refused but for the unit, C or the turn, and the list; no arrival but for these, for the tag offered, and where 8 wait
 pub record Steady (u : FunctionUnit) (C : ℕ) (p : Port) : Type 0 where
   pub units : unit_at u C p.turn p.list p.counts
-      ≡ check (sound_of u) NotSound (check (one_of C p.turn) NoSuchCaller (check (leb (room * C) (length p.list)) ShortOutput Done))
+      ≡ check (sound_of u) NotSound (check (one_of C p.turn) NoSuchCaller (check (leb (room * C) (length p.list)) ShortOutput (Ok tt)))
   pub arrivals : (i : ℕ) (w : Waiting) → arrived_at u C p i w
       ≡ check (sound_of u) NotSound
       (check (one_of C i) NoSuchCaller
       (check (leb room (length (queue_of p.list i))) ShortOutput
       (check (inside w.tag u.functions) NoSuchTag
-      (check (ltb (count_of p.counts i) room) TooManyWait Done))))
+      (check (ltb (count_of p.counts i) room) TooManyWait (Ok tt)))))
 
 -- so it is from empty on: neither a count above 8 nor a waiting tag that is not the unit's ever comes up (`stays_steady`, proofs/Steady.antt)
 abbrev pub StaysSteady : Type 0

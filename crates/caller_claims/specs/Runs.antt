@@ -1,14 +1,13 @@
 -- A list of calls on one unchanged unit at a port that C callers share, each handing bank, turn, list and counts to the next, and the tasks that it starts.
-use Rattle.std.specs.Prelude.{ℕ, ◌+◌, Bool, cond, List, [], ◌∷◌, ◌++◌, replicate}
+use Rattle.std.specs.Prelude.{ℕ, ◌+◌, Bool, cond, List, [], ◌∷◌, ◌++◌, replicate, Ok, Err, Some, None}
 use Rattle.unit.specs.declared.FunctionUnit.{FunctionUnit}
-use Rattle.unit.specs.declared.Answer.{Answer}
+use Rattle.unit.specs.Answers.{Answer}
 use Rattle.controller.specs.declared.Bank.{Bank}
 use Rattle.controller.specs.declared.Event.{Event}
 use Rattle.controller.specs.Bank.{empty, step_of}
 use Rattle.queue.specs.declared.Waiting.{Waiting}
 use Rattle.queue.specs.Line.{no_record}
-use Rattle.callers.specs.declared.Served.{Served}
-use Rattle.callers.specs.declared.Served.TheVariants as Served
+use Rattle.callers.specs.Served.{Served}
 use Rattle.callers.specs.Queues.{count_of, with_count, waiting_of}
 use Rattle.callers.specs.Calls.{arrival_of, arrival_list, unit_of, unit_list}
 
@@ -91,9 +90,9 @@ abbrev pub no_start : Start
 no_start = record { caller = 0; task = no_record; unit = 0 }
 
 abbrev pub start_in : Served → ℕ → List Start
-start_in (Served.Started i w) n = record { caller = i; task = w; unit = n } ∷ []
-start_in Served.Idle n = []
-start_in (Served.Refused why) n = []
+start_in (Ok (Some (i, w))) n = record { caller = i; task = w; unit = n } ∷ []
+start_in (Ok None) n = []
+start_in (Err why) n = []
 
 -- the starts of a list of calls, the earliest first, where n time units have passed before
 unfoldable pub starts : FunctionUnit → ℕ → Port → ℕ → List Call → List Start

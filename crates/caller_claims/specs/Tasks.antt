@@ -1,15 +1,14 @@
 -- The tasks that a shared port starts are granted by the issue controller: each time unit is one of the controller's events, so that what holds of every list
 -- of events holds of the port.
-use Rattle.std.specs.Prelude.{ℕ, ◌*◌, ◌≤◌, ◌≡◌, true, ◌↔◌, List, [], ◌∷◌, ◌++◌, length}
+use Rattle.std.specs.Prelude.{ℕ, ◌*◌, ◌≤◌, ◌≡◌, true, ◌↔◌, List, [], ◌∷◌, ◌++◌, length, Ok, Some}
 use Rattle.unit.specs.declared.FunctionUnit.{FunctionUnit}
 use Rattle.unit.specs.Unit.{marked}
 use Rattle.controller.specs.declared.Event.{Event}
 use Rattle.controller.specs.Bank.{step_of}
 use Rattle.controller.specs.History.{History, history_then, task_now, outset, bank_after, history_after, Free, Apart}
 use Rattle.queue.specs.declared.Waiting.{Waiting}
-use Rattle.queue.specs.declared.Passed.{Passed}
+use Rattle.queue.specs.Passed.{Passed}
 use Rattle.queue_claims.specs.Tasks.{unit_then, unit_events}
-use Rattle.callers.specs.declared.Served.TheVariants as Served
 use Rattle.callers.specs.Queues.{room}
 use Rattle.callers.specs.Calls.{one_of, caller_of, passed_at}
 use Rattle.caller_claims.specs.Runs.{Port, Action, line_of, served_at, done, empty_port, brought}
@@ -73,5 +72,5 @@ abbrev pub CallersExactly : Type 0
 CallersExactly =
     (u : FunctionUnit) (C turn : ℕ) → one_of C turn ≡ true → (list : List Waiting) → room * C ≤ length list → (actions : List Action)
     → (w : Waiting) (line : List Waiting) → line_of (brought u C turn list actions) (caller_in C (brought u C turn list actions)) ≡ w ∷ line
-    → (served_at u C (brought u C turn list actions) ≡ Served.Started (caller_in C (brought u C turn list actions)) w)
+    → (served_at u C (brought u C turn list actions) ≡ Ok (Some ((caller_in C (brought u C turn list actions)), w)))
     ↔ Free (marked u) (task_now (tasks_after u C turn list actions) w.tag) (tasks_after u C turn list actions).tasks

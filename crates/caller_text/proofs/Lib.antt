@@ -1,2 +1,3 @@
 pub mod TellLaws
 pub mod Examples
+pub mod TestLaws

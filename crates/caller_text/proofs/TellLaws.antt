@@ -1,10 +1,10 @@
 -- The session that a command at a shared port leaves. Assumes nothing.
+use Rattle.std.proofs.Common.{Ok}
 use mathlib.Core.Path.{◌≡◌, sym, ap, ap₂, ◌∙◌, subst}
 use mathlib.Core.Bool.{Bool}
 use mathlib.Core.List.{List}
 use Prim.Native.Nat.{ℕ}
-use Rattle.unit.specs.declared.Answer.{Answer}
-use Rattle.unit.specs.declared.Answer.TheVariants.{Done}
+use Rattle.unit.specs.Answers.{Answer}
 use Rattle.unit.specs.declared.Refusal.TheVariants.{NoSuchCaller}
 use Rattle.unit.specs.Unit.{inside}
 use Rattle.unit.specs.Calls.{tested_by}
@@ -22,10 +22,10 @@ use Rattle.session.proofs.LineLaws.{line_as}
 use Rattle.caller_text.specs.Told.{served_line, shared_then, SharedOn}
 
 pub opened_as : (s : Session) (r : Request) {n : ℕ} {some : Bool} {a : Answer} {p : Shared} {next : Session} {before after : List ℕ} {end : ℕ} → n ≡ one r
-    → some ≡ inside n 4 → a ≡ tested_by Done some NoSuchCaller → Line (answer_line a) before after end → p ≡ shared_then a n s.shared
+    → some ≡ inside n 4 → a ≡ tested_by (Ok tt) some NoSuchCaller → Line (answer_line a) before after end → p ≡ shared_then a n s.shared
     → next ≡ with_port s s.bank s.queue p → SharedOn Share.Callers s r before after record { session = next; end = end }
 opened_as s r {n} e i t l p m =
-    let a = t ∙ ap (λ (b : Bool). tested_by Done b NoSuchCaller) (i ∙ ap (λ (k : ℕ). inside k 4) e) in
+    let a = t ∙ ap (λ (b : Bool). tested_by (Ok tt) b NoSuchCaller) (i ∙ ap (λ (k : ℕ). inside k 4) e) in
     let k = line_as (ap answer_line a) l in
     record {
       out = k.out;

@@ -1,8 +1,7 @@
 -- What a designer is told at a port that callers share, and what the session is then.
-use Rattle.std.specs.Prelude.{◌≡◌, List, ◌++◌, ℕ}
+use Rattle.std.specs.Prelude.{◌≡◌, List, ◌++◌, ℕ, Ok, Err, Some, None}
 use Rattle.text.specs.Text.{ascii, decimal, put_in, put_end}
-use Rattle.unit.specs.declared.Answer.{Answer}
-use Rattle.unit.specs.declared.Answer.TheVariants.{Done, Refused}
+use Rattle.unit.specs.Answers.{Answer}
 use Rattle.unit.specs.declared.Refusal.TheVariants.{NoSuchCaller}
 use Rattle.unit.specs.Unit.{inside}
 use Rattle.unit.specs.Calls.{check}
@@ -11,8 +10,7 @@ use Rattle.queue.specs.declared.Waiting.{Waiting}
 use Rattle.callers.specs.declared.Shared.{Shared}
 use Rattle.callers.specs.declared.Called.{Called}
 use Rattle.callers.specs.declared.Taken.{Taken}
-use Rattle.callers.specs.declared.Served.{Served}
-use Rattle.callers.specs.declared.Served.TheVariants as Served
+use Rattle.callers.specs.Served.{Served}
 use Rattle.callers.specs.Calls.{empty_shared, call_of, taken_of}
 use Rattle.command_table.specs.declared.Share.{Share}
 use Rattle.command_table.specs.declared.Share.TheVariants as Share
@@ -25,7 +23,7 @@ use Rattle.session.specs.Sessions.{with_port, one, two, answer_line}
 
 -- so many callers: 1 to 4
 abbrev pub opened : Request → Answer
-opened r = check (inside (one r) 4) NoSuchCaller Done
+opened r = check (inside (one r) 4) NoSuchCaller (Ok tt)
 
 -- the record of tag and ticket that a designer offers for a caller
 abbrev pub offered : Request → Waiting
@@ -45,9 +43,9 @@ started_line i w = ascii "started " ++ decimal i ++ ascii " " ++ decimal w.tag +
 
 -- or that none was
 abbrev pub served_line : Served → List ℕ
-served_line (Served.Started i w) = started_line i w
-served_line Served.Idle = ascii "none\n"
-served_line (Served.Refused why) = answer_line (Refused why)
+served_line (Ok (Some (i, w))) = started_line i w
+served_line (Ok None) = ascii "none\n"
+served_line (Err why) = answer_line (Err why)
 
 -- Commands
 
@@ -58,8 +56,8 @@ share_reply Share.Turn s r = served_line (turned s).answer
 
 -- an accepted number of callers leaves empty queues for them, and the turn at the first; a refused one leaves what was there
 abbrev pub shared_then : Answer → ℕ → Shared → Shared
-shared_then Done n before = empty_shared n
-shared_then (Refused why) n before = before
+shared_then (Ok _) n before = empty_shared n
+shared_then (Err why) n before = before
 
 -- a call leaves another queue, a turn another bank, another queue and another turn
 abbrev pub share_next : Share → Session → Request → Session

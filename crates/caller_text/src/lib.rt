@@ -8,12 +8,12 @@ ghost use Rattle.unit.specs.Calls.{tested_by};
 ghost use Rattle.session.specs.Sessions.{Line};
 ghost use Rattle.caller_text.specs.Told.{started_line, served_line, shared_then, SharedOn};
 
-use callers::{Served, Shared};
+use callers::Shared;
 use command::Request;
 use command_table::Share;
 use queue::Waiting;
 use session::{Reply, Session};
-use unit::{Answer, Refusal};
+use unit::Refusal;
 use words::byte;
 
 // The caller and the record that were started.
@@ -39,23 +39,23 @@ fn put_started(out: &mut [u8], caller: u8, started: Waiting) -> usize
 }
 
 // What a time unit did.
-fn put_served(out: &mut [u8], served: Served) -> usize
+fn put_served(out: &mut [u8], served: Result<Option<(u8, Waiting)>, Refusal>) -> usize
     ensures { Line (served_line served) out.old out.new result }
 {
     match served {
-        Served::Started(caller, started) => put_started(out, caller, started),
-        Served::Idle => text::put(out, 0, b"none\n"),
-        Served::Refused(why) => session::put_answer(out, Answer::Refused(why)),
+        Ok(Some((caller, started))) => put_started(out, caller, started),
+        Ok(None) => text::put(out, 0, b"none\n"),
+        Err(why) => session::put_answer(out, Err(why)),
     }
 }
 
 // The port for so many callers, or the one that was there.
-fn shared_then(answer: Answer, callers: u8, before: Shared) -> Shared
+fn shared_then(answer: Result<(), Refusal>, callers: u8, before: Shared) -> Shared
     ensures { result ≡ shared_then answer callers before }
 {
     match answer {
-        Answer::Refused(_) => before,
-        Answer::Done => callers::empty_shared(callers),
+        Err(_) => before,
+        Ok(()) => callers::empty_shared(callers),
     }
 }
 
@@ -65,7 +65,7 @@ fn open(session: Session, request: Request, out: &mut [u8]) -> Reply
 {
     let callers = byte(request.first);
     let some = words::is_inside(callers, 4);
-    let answer = unit::tested(Answer::Done, some, Refusal::NoSuchCaller);
+    let answer = unit::tested(Ok(()), some, Refusal::NoSuchCaller);
     let end = session::put_answer(out, answer);
     let before = session.shared;
     let shared = shared_then(answer, callers, before);

@@ -1,10 +1,11 @@
 -- A caller's queue as a part of the list. Assumes nothing.
 use Prim.Native.Nat.{ℕ, zero, suc, ◌+◌, ◌-◌, ◌≤◌, ◌<◌}
-use mathlib.Core.Path.{◌≡◌, ap, ◌∙◌, sym}
+use mathlib.Core.Path.{◌≡◌, ap, ap₂, ◌∙◌, sym}
 use mathlib.Core.List.{List, [], ◌∷◌, ◌++◌, append_assoc}
 use native.Mathlib.Omega.{arith}
 use lib.ListN.{length, take, drop, set, length-drop, take-append-drop}
 use lib.Seq.{take-nil, take-append-le, drop-append-le, set-append_left, take-take, take-add, drop-drop, length-take-le}
+use Rattle.std.specs.List.{copy_within}
 use Rattle.queue.specs.declared.Waiting.{Waiting}
 use Rattle.queue.specs.Line.{forward}
 use Rattle.callers.specs.Queues.{room, place_of, queue_of, with_queue}
@@ -40,6 +41,16 @@ forward_joined q r count some few =
     ∙ ap (λ (l : List Waiting). l ++ drop (count - 1) (q ++ r)) (take-append-le (count - 1) (drop 1 q) r (omega (arith, length-drop 1 q)))
     ∙ ap (λ (l : List Waiting). take (count - 1) (drop 1 q) ++ l) (drop-append-le (count - 1) q r (omega arith))
     ∙ sym (append_assoc (take (count - 1) (drop 1 q)) (drop (count - 1) q) r)
+
+-- the method of a list that moves a part of it
+pub copied_forward : (list after : List Waiting) (from count : ℕ) → 1 ≤ count → after ≡ copy_within list (from + 1) (from + count) from
+    → after ≡ take from list ++ forward (drop from list) count
+unfolding forward
+copied_forward list after from count some e =
+    let n : from + count - (from + 1) ≡ count - 1 = omega arith in
+    e ∙ ap (λ m. take from list ++ take m (drop (from + 1) list) ++ drop (from + m) list) n
+    ∙ append_assoc (take from list) (take (count - 1) (drop (from + 1) list)) (drop (from + (count - 1)) list)
+    ∙ sym (ap₂ (λ (x y : List Waiting). take from list ++ (take (count - 1) x ++ y)) (drop-drop 1 from list) (drop-drop (count - 1) from list))
 
 -- a change of the list from a queue's place on is a change of the queue
 

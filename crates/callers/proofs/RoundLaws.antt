@@ -1,5 +1,5 @@
 -- Going round: the turn always names a caller, and the search for the next one with work as a loop makes it. Assumes nothing.
-use Prim.Native.Nat.{ℕ, zero, suc, ◌+◌, ◌-◌, ◌≤◌, ◌<◌}
+use Prim.Native.Nat.{ℕ, zero, suc, ◌+◌, ◌≤◌, ◌<◌}
 use mathlib.Core.Path.{◌≡◌, refl, ap, ◌∙◌, sym, subst}
 use mathlib.Core.Bool.{Bool, true, false, cond}
 use mathlib.Core.List.{List}
@@ -57,23 +57,14 @@ now_inside C work t i = turn_now_lem C work t (λ j. inside j C ≡ true) (λ e.
 
 -- The search as a loop makes it
 
-module _ (C : ℕ) (work : ℕ → Bool) (i stay : ℕ) where
-  first_found : (k : ℕ) → 0 < k → work (round C i) ≡ true → first_after k C work i stay ≡ round C i
+module _ (C : ℕ) (work : ℕ → Bool) (i stay m : ℕ) where
+  first_found : work (round C i) ≡ true → first_after (suc m) C work i stay ≡ round C i
   unfolding first_after
-  first_found zero h e = absurd (omega arith)
-  first_found (suc k) h e = ap (λ b. cond b (round C i) (first_after k C work (round C i) stay)) e
+  first_found e = ap (λ b. cond b (round C i) (first_after m C work (round C i) stay)) e
 
-  first_on : (k : ℕ) → 0 < k → work (round C i) ≡ false → first_after k C work i stay ≡ first_after (k - 1) C work (round C i) stay
+  first_on : work (round C i) ≡ false → first_after (suc m) C work i stay ≡ first_after m C work (round C i) stay
   unfolding first_after
-  first_on zero h e = absurd (omega arith)
-  first_on (suc k) h e =
-      let s : suc k - 1 ≡ k = omega arith in
-      ap (λ b. cond b (round C i) (first_after k C work (round C i) stay)) e ∙ ap (λ (n : ℕ). first_after n C work (round C i) stay) (sym s)
-
-  first_end : (k : ℕ) → k ≤ 0 → first_after k C work i stay ≡ stay
-  unfolding first_after
-  first_end zero h = refl
-  first_end (suc k) h = absurd (omega arith)
+  first_on e = ap (λ b. cond b (round C i) (first_after m C work (round C i) stay)) e
 
 one_round : (C i : ℕ) → Among C i → Among C (round C i)
 one_round C i o =
@@ -85,24 +76,23 @@ pub record Going (C : ℕ) (counts : List ℕ) (from caller left : ℕ) : Type 0
   pub here : Among C caller
   pub rest : next_turn C (has_work counts) from ≡ first_after left C (has_work counts) caller from
 
-pub going_one : {C : ℕ} {counts : List ℕ} {from caller left : ℕ} → Going C counts from caller left → (r : ℕ) → r ≡ round C caller → Among 4 r
-going_one {C} {counts} {from} {caller} {left} g r e =
-    let o = one_round C caller g.here in
-    subst (Among 4) (sym e) (record { few = omega arith; least = o.least; most = omega (arith, o.most, o.few) })
+module _ {C : ℕ} {counts : List ℕ} {from caller left : ℕ} (g : Going C counts from caller left) where
+  pub going_end : left ≡ 0 → from ≡ next_turn C (has_work counts) from
+  unfolding first_after
+  going_end z = sym (g.rest ∙ ap (λ n. first_after n C (has_work counts) caller from) z)
 
-pub going_found : {C : ℕ} {counts : List ℕ} {from caller left : ℕ} → Going C counts from caller left → 0 < left → (r : ℕ) → r ≡ round C caller
-    → has_work counts r ≡ true → r ≡ next_turn C (has_work counts) from
-going_found {C} {counts} {from} {caller} {left} g h r e w =
-    e ∙ sym (g.rest ∙ first_found C (has_work counts) caller from left h (ap (has_work counts) (sym e) ∙ w))
+  module _ (r : ℕ) (e : r ≡ round C caller) where
+    module _ (m : ℕ) (some : left ≡ suc m) where
+      next : next_turn C (has_work counts) from ≡ first_after (suc m) C (has_work counts) caller from
+      next = g.rest ∙ ap (λ n. first_after n C (has_work counts) caller from) some
 
-pub going_on : {C : ℕ} {counts : List ℕ} {from caller left : ℕ} → Going C counts from caller left → 0 < left → (r : ℕ) → r ≡ round C caller
-    → has_work counts r ≡ false → Going C counts from r (left - 1)
-going_on {C} {counts} {from} {caller} {left} g h r e w =
-    subst (λ (x : ℕ). Going C counts from x (left - 1)) (sym e)
-    (record {
-      here = one_round C caller g.here;
-      rest = g.rest ∙ first_on C (has_work counts) caller from left h (ap (has_work counts) (sym e) ∙ w);
-    })
+      pub going_found : has_work counts r ≡ true → r ≡ next_turn C (has_work counts) from
+      going_found w = e ∙ sym (next ∙ first_found C (has_work counts) caller from m (ap (has_work counts) (sym e) ∙ w))
 
-pub going_end : {C : ℕ} {counts : List ℕ} {from caller left : ℕ} → Going C counts from caller left → left ≤ 0 → from ≡ next_turn C (has_work counts) from
-going_end {C} {counts} {from} {caller} {left} g h = sym (g.rest ∙ first_end C (has_work counts) caller from left h)
+      pub going_on : has_work counts r ≡ false → Going C counts from r m
+      going_on w =
+          subst (λ (x : ℕ). Going C counts from x m) (sym e)
+          (record {
+            here = one_round C caller g.here;
+            rest = next ∙ first_on C (has_work counts) caller from m (ap (has_work counts) (sym e) ∙ w);
+          })

@@ -1,4 +1,5 @@
 -- What is found on records that are the queues of a list is what the list says. Assumes nothing.
+use Rattle.std.proofs.Common.{Ok, Err, Some}
 use Prim.Native.Nat.{ℕ, ◌+◌, ◌-◌, ◌*◌, ◌≤◌}
 use mathlib.Core.Path.{◌≡◌, refl, ap, ◌∙◌, sym}
 use mathlib.Core.Bool.{Bool, true}
@@ -10,14 +11,12 @@ use borrow.Author.Tests.{leb-true, leb-false, ltb-true, le-leb, lt-leb}
 use Rattle.words.proofs.Tests.{by_test, and_left}
 use Rattle.unit.specs.declared.FunctionUnit.{FunctionUnit}
 use Rattle.unit.specs.declared.Refusal.TheVariants.{NotSound, NoSuchTag, ShortOutput, TooManyWait}
-use Rattle.unit.specs.declared.Answer.{Answer}
-use Rattle.unit.specs.declared.Answer.TheVariants.{Done, Refused}
+use Rattle.unit.specs.Answers.{Answer}
 use Rattle.unit.specs.Unit.{inside, sound_of}
 use Rattle.unit.specs.Calls.{check}
 use Rattle.unit.proofs.Laws.{within, inside_of}
 use Rattle.controller.specs.declared.Bank.{Bank}
 use Rattle.queue.specs.declared.Waiting.{Waiting}
-use Rattle.queue.specs.declared.Passed.{Passed}
 use Rattle.queue.specs.Line.{tags_inside}
 use Rattle.queue.specs.Calls.{arrival_answer, oldest, passed_then}
 use Rattle.callers.specs.Turn.{each_caller}
@@ -57,7 +56,7 @@ module _ (u : FunctionUnit) (C i : ℕ) (list ys : List Waiting) (same : one_of 
           caller_first u C i
           (check (sound_of u) NotSound
           (check (leb (place_of i + room) (length ys)) ShortOutput
-          (check (inside w.tag u.functions) NoSuchTag (check (ltb count room) TooManyWait (check fit NoSuchTag Done)))))
+          (check (inside w.tag u.functions) NoSuchTag (check (ltb count room) TooManyWait (check fit NoSuchTag (Ok tt))))))
 
       rest : one_of C i ≡ true → tests (tags_inside u.functions (take count (drop (place_of i) list))) ≡ tests (tags_inside u.functions (take count (queue_of ys i)))
       rest o = by_test (leb (place_of i + room) (length ys))
@@ -85,12 +84,12 @@ module _ (u : FunctionUnit) (C turn : ℕ) (list ys : List Waiting) (counts : Li
     where
       rest : inside C 4 ≡ true
           → check (leb (room * C) (length ys)) ShortOutput
-          (check (each_caller C (few_at counts)) TooManyWait (check (each_caller C (fits_at u.functions list counts)) NoSuchTag Done))
+          (check (each_caller C (few_at counts)) TooManyWait (check (each_caller C (fits_at u.functions list counts)) NoSuchTag (Ok tt)))
           ≡ check (leb (room * C) (length ys)) ShortOutput
-          (check (each_caller C (few_at counts)) TooManyWait (check (each_caller C (λ i. tags_inside u.functions (waiting_of ys counts i))) NoSuchTag Done))
+          (check (each_caller C (few_at counts)) TooManyWait (check (each_caller C (λ i. tags_inside u.functions (waiting_of ys counts i))) NoSuchTag (Ok tt)))
       rest c = by_test (leb (room * C) (length ys))
           (λ l. by_test (each_caller C (few_at counts))
-          (λ f. ap (λ b. check (leb (room * C) (length ys)) ShortOutput (check (each_caller C (few_at counts)) TooManyWait (check b NoSuchTag Done)))
+          (λ f. ap (λ b. check (leb (room * C) (length ys)) ShortOutput (check (each_caller C (few_at counts)) TooManyWait (check b NoSuchTag (Ok tt))))
           (fits_same c (leb-true _ _ l) f))
           (λ f. simp f))
           (λ l. simp l)
@@ -103,14 +102,14 @@ module _ (u : FunctionUnit) (C turn : ℕ) (list ys : List Waiting) (counts : Li
     where
       go : (a : Answer) → unit_at u C turn ys counts ≡ a
           → passed_then a (oldest b (waiting_of list counts (caller_of C turn counts))) ≡ passed_then a (oldest b (waiting_of ys counts (caller_of C turn counts)))
-      go (Refused why) e = refl
-      go Done e =
+      go (Err why) e = refl
+      go (Ok _) e =
           let d = unit_accepted u C turn (length ys) list counts (unit_same ∙ e) in
           let o = caller_there C turn counts (one_of_lem C turn d.turn_there) in
           ap (λ (q : List Waiting). oldest b (take (count_of counts (caller_of C turn counts)) q))
           (same (and_left (inside C 4) _ d.turn_there) (long e) (caller_of C turn counts) (inside_of _ C o.least o.most))
         where
-          long : unit_at u C turn ys counts ≡ Done → room * C ≤ length ys
+          long : unit_at u C turn ys counts ≡ Ok tt → room * C ≤ length ys
           long e = unit_long u C turn (length ys) list counts (unit_same ∙ e)
 
 -- A start: the caller is there, and its queue with a record in it
@@ -123,7 +122,7 @@ pub record StartedThere (C i : ℕ) (ys : List Waiting) (counts : List ℕ) : Ty
   pub few : count_of counts i ≤ room
 
 -- an accepted time unit at which caller i has a record
-accepted_there : (u : FunctionUnit) (C turn : ℕ) (ys : List Waiting) (counts : List ℕ) (w : Waiting) (line : List Waiting) → unit_at u C turn ys counts ≡ Done
+accepted_there : (u : FunctionUnit) (C turn : ℕ) (ys : List Waiting) (counts : List ℕ) (w : Waiting) (line : List Waiting) → unit_at u C turn ys counts ≡ Ok tt
     → waiting_of ys counts (caller_of C turn counts) ≡ w ∷ line → StartedThere C (caller_of C turn counts) ys counts
 accepted_there u C turn ys counts w line e l =
     let i = caller_of C turn counts in
@@ -140,13 +139,13 @@ accepted_there u C turn ys counts w line e l =
       few = leb-true _ _ (each_at C (few_at counts) i d.few (inside_of i C o.least o.most));
     }
 
-pub started_there : (u : FunctionUnit) (b : Bank) (C turn : ℕ) (ys : List Waiting) (counts : List ℕ) (w : Waiting) → passed_at u b C turn ys counts ≡ Passed.Started w
+pub started_there : (u : FunctionUnit) (b : Bank) (C turn : ℕ) (ys : List Waiting) (counts : List ℕ) (w : Waiting) → passed_at u b C turn ys counts ≡ Ok (Some w)
     → StartedThere C (caller_of C turn counts) ys counts
 unfolding passed_at oldest
 started_there u b C turn ys counts w e = go (unit_at u C turn ys counts) refl (waiting_of ys counts (caller_of C turn counts)) refl e
   where
     go : (a : Answer) → unit_at u C turn ys counts ≡ a → (line : List Waiting) → waiting_of ys counts (caller_of C turn counts) ≡ line
-        → passed_then a (oldest b line) ≡ Passed.Started w → StartedThere C (caller_of C turn counts) ys counts
-    go (Refused why) p line l e = let z : ◌≡◌ {A = ℕ} 0 1 = cc in absurd (omega arith)
-    go Done p [] l e = let z : ◌≡◌ {A = ℕ} 0 1 = cc in absurd (omega arith)
-    go Done p (x ∷ line) l e = accepted_there u C turn ys counts x line p l
+        → passed_then a (oldest b line) ≡ Ok (Some w) → StartedThere C (caller_of C turn counts) ys counts
+    go (Err why) p line l e = let z : ◌≡◌ {A = ℕ} 0 1 = cc in absurd (omega arith)
+    go (Ok _) p [] l e = let z : ◌≡◌ {A = ℕ} 0 1 = cc in absurd (omega arith)
+    go (Ok _) p (x ∷ line) l e = accepted_there u C turn ys counts x line p l

@@ -1,4 +1,5 @@
 -- What a time unit does with the caller whose turn it is. Assumes nothing.
+use Rattle.std.proofs.Common.{Ok, Err, Some, None}
 use Prim.Native.Nat.{ℕ, zero, suc, ◌+◌, ◌-◌, ◌≤◌, ◌<◌}
 use mathlib.Core.Path.{◌≡◌, refl, ap, ◌∙◌, sym, subst}
 use mathlib.Core.Bool.{Bool, true, false, cond}
@@ -10,7 +11,6 @@ use borrow.Author.Tests.{leb-true, eqb-true, eqb-false, not-true, not-false}
 use Rattle.words.proofs.Tests.{by_test}
 use Rattle.unit.specs.declared.FunctionUnit.{FunctionUnit}
 use Rattle.unit.specs.declared.Refusal.{Refusal}
-use Rattle.unit.specs.declared.Answer.TheVariants.{Done, Refused}
 use Rattle.unit.specs.Unit.{inside}
 use Rattle.unit.proofs.Laws.{within, inside_of, never_done}
 use Rattle.controller.specs.declared.Bank.{Bank}
@@ -18,7 +18,6 @@ use Rattle.controller.specs.declared.Event.TheVariants.{Start}
 use Rattle.controller.specs.Bank.{granted, event_answer}
 use Rattle.controller.proofs.StepLaws.{start_answered, start_accepted}
 use Rattle.queue.specs.declared.Waiting.{Waiting}
-use Rattle.queue.specs.declared.Passed.{Passed}
 use Rattle.queue.specs.Line.{no_record, tag_of, tags_inside}
 use Rattle.queue.specs.Calls.{oldest}
 use Rattle.queue.proofs.LineLaws.{tags_first}
@@ -61,18 +60,18 @@ module _ (u : FunctionUnit) (b : Bank) (C i : ℕ) (list : List Waiting) (counts
 
   -- by the controller's answer to its start
   module _ (w : Waiting) (same : w ≡ first) where
-    pub oldest_granted : event_answer u b (Start (tag_of w)) ≡ Done → Passed.Started w ≡ oldest b (waiting_of list counts i)
+    pub oldest_granted : event_answer u b (Start (tag_of w)) ≡ Ok tt → Ok (Some w) ≡ oldest b (waiting_of list counts i)
     unfolding oldest
     oldest_granted e =
-        ap Passed.Started same
+        ap (λ w. Ok (Some w)) same
         ∙ sym (ap (oldest b) waits
-        ∙ ap (λ ok. cond ok (Passed.Started first) Passed.Idle) (ap (λ (x : Waiting). granted b x.tag) (sym same) ∙ (start_accepted u b (tag_of w) e).granted))
+        ∙ ap (λ ok. cond ok (Ok (Some first)) (Ok None)) (ap (λ (x : Waiting). granted b x.tag) (sym same) ∙ (start_accepted u b (tag_of w) e).granted))
 
-    pub oldest_refused : (why : Refusal) → event_answer u b (Start (tag_of w)) ≡ Refused why → Passed.Idle ≡ oldest b (waiting_of list counts i)
+    pub oldest_refused : (why : Refusal) → event_answer u b (Start (tag_of w)) ≡ Err why → Ok None ≡ oldest b (waiting_of list counts i)
     unfolding oldest
     oldest_refused why e = by_test (granted b first.tag)
-        (λ g. never_done (sym e ∙ subst (λ (x : Waiting). event_answer u b (Start (tag_of x)) ≡ Done) (sym same) (start_answered u b (tag_of first) s.sound tag g)))
-        (λ g. sym (ap (oldest b) waits ∙ ap (λ ok. cond ok (Passed.Started first) Passed.Idle) g))
+        (λ g. never_done (sym e ∙ subst (λ (x : Waiting). event_answer u b (Start (tag_of x)) ≡ Ok tt) (sym same) (start_answered u b (tag_of first) s.sound tag g)))
+        (λ g. sym (ap (oldest b) waits ∙ ap (λ ok. cond ok (Ok (Some first)) (Ok None)) g))
 
 -- Whose turn it is
 
@@ -83,7 +82,7 @@ module _ (C turn : ℕ) (counts : List ℕ) (t : Among C turn) where
       record { few = t.few; least = w.least; most = w.most }
 
 -- a caller without work has nothing to start
-pub nothing_starts : (b : Bank) (list : List Waiting) (counts : List ℕ) (i : ℕ) → has_work counts i ≡ false → Passed.Idle ≡ oldest b (waiting_of list counts i)
+pub nothing_starts : (b : Bank) (list : List Waiting) (counts : List ℕ) (i : ℕ) → has_work counts i ≡ false → Ok None ≡ oldest b (waiting_of list counts i)
 unfolding oldest
 nothing_starts b list counts i e =
     sym (ap (λ (k : ℕ). oldest b (take k (queue_of list i))) (eqb-true (count_of counts i) 0 (not-false _ e)))
@@ -111,6 +110,6 @@ unfolding oldest
 any_turn u b C t v list counts i [] = refl
 any_turn u b C t v list counts i (w ∷ _) = go (granted b w.tag)
   where
-    go : (g : Bool) → on_by u b C t list counts i (cond g (Passed.Started w) Passed.Idle) ≡ on_by u b C v list counts i (cond g (Passed.Started w) Passed.Idle)
+    go : (g : Bool) → on_by u b C t list counts i (cond g (Ok (Some w)) (Ok None)) ≡ on_by u b C v list counts i (cond g (Ok (Some w)) (Ok None))
     go true = refl
     go false = refl

@@ -1,18 +1,18 @@
 -- What an arrival and a time unit answer at a port that C callers share, and the list, the counts, the bank and the turn that they leave. What lies beyond
 -- caller C's queue is neither read nor changed.
-use Rattle.std.specs.Prelude.{ℕ, Bool, ◌&&◌, List, leb, length, replicate}
+use Rattle.std.specs.Prelude.{ℕ, Bool, ◌&&◌, List, leb, length, replicate, Ok, Err, Some, None}
 use Rattle.unit.specs.declared.FunctionUnit.{FunctionUnit}
 use Rattle.unit.specs.declared.Refusal.TheVariants.{NotSound, NoSuchTag, ShortOutput, TooManyWait, NoSuchCaller}
-use Rattle.unit.specs.declared.Answer.{Answer}
+use Rattle.unit.specs.Answers.{Answer}
 use Rattle.unit.specs.Unit.{inside, sound_of}
 use Rattle.unit.specs.Calls.{check}
 use Rattle.controller.specs.declared.Bank.{Bank}
 use Rattle.queue.specs.declared.Waiting.{Waiting}
 use Rattle.queue.specs.declared.Arrival.{Arrival}
-use Rattle.queue.specs.declared.Passed.{Passed}
+use Rattle.queue.specs.Passed.{Passed}
 use Rattle.queue.specs.Line.{no_record, tags_inside}
 use Rattle.queue.specs.Calls.{arrival_answer, count_then, list_then, oldest, passed_then, bank_then, fewer, list_after}
-use Rattle.callers.specs.declared.Served.{Served}
+use Rattle.callers.specs.Served.{Served}
 use Rattle.callers.specs.declared.Turned.{Turned}
 use Rattle.callers.specs.declared.Shared.{Shared}
 use Rattle.callers.specs.declared.Called.{Called}
@@ -47,7 +47,7 @@ arrival_list u C i list count offered = with_queue list i (list_then (arrival_at
 -- A time unit tests the turn and all C queues: then 6 where a queue is not all in the list; 14 for a count above 8; 2 for the tag of any waiting record
 
 abbrev pub queue_tests : Bool → Bool → Bool → Answer
-queue_tests long few fit = check long ShortOutput (check few TooManyWait (check fit NoSuchTag Answer.Done))
+queue_tests long few fit = check long ShortOutput (check few TooManyWait (check fit NoSuchTag (Ok tt)))
 
 unfoldable pub unit_at : FunctionUnit → ℕ → ℕ → List Waiting → List ℕ → Answer
 unit_at u C turn list counts =
@@ -67,9 +67,9 @@ passed_at u b C turn list counts = passed_then (unit_at u C turn list counts) (o
 
 -- the answer: the caller and the record started, or that none was
 abbrev pub served_by : ℕ → Passed → Served
-served_by i (Passed.Started w) = Served.Started i w
-served_by i Passed.Idle = Served.Idle
-served_by i (Passed.Refused why) = Served.Refused why
+served_by i (Ok (Some w)) = Ok (Some (i, w))
+served_by i (Ok None) = Ok None
+served_by i (Err why) = Err why
 
 -- a start leaves one record less in its caller's queue
 abbrev pub counts_then : Passed → List ℕ → ℕ → List ℕ
@@ -78,9 +78,9 @@ counts_then a counts i = with_count counts i (fewer a (count_of counts i))
 -- after a start the turn goes round, by the queues as the start leaves them; without one it stays with the caller whose turn it was in this unit; a refused
 -- unit leaves it where it was
 abbrev pub turn_then : ℕ → Passed → List ℕ → ℕ → ℕ → ℕ
-turn_then C (Passed.Started w) counts i before = next_turn C (has_work counts) i
-turn_then C Passed.Idle counts i before = i
-turn_then C (Passed.Refused why) counts i before = before
+turn_then C (Ok (Some w)) counts i before = next_turn C (has_work counts) i
+turn_then C (Ok None) counts i before = i
+turn_then C (Err why) counts i before = before
 
 -- what is left where caller i had its turn and this was done
 abbrev pub turned_by : FunctionUnit → Bank → ℕ → ℕ → List ℕ → ℕ → Passed → Turned

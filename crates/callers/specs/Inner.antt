@@ -1,11 +1,10 @@
 -- What the private functions ask and find. No public contract cites this file.
-use Rattle.std.specs.Prelude.{ℕ, ◌-◌, ◌≤◌, ◌≡◌, true, cond, List, leb, take, drop}
+use Rattle.std.specs.Prelude.{ℕ, ◌-◌, ◌≤◌, ◌≡◌, true, List, leb, take, drop, Ok, Some}
 use Rattle.unit.specs.declared.FunctionUnit.{FunctionUnit}
 use Rattle.unit.specs.Unit.{sound_of}
 use Rattle.controller.specs.declared.Bank.{Bank}
 use Rattle.queue.specs.declared.Waiting.{Waiting}
 use Rattle.queue.specs.Line.{tags_inside, forward}
-use Rattle.callers.specs.declared.Served.TheVariants.{Started}
 use Rattle.callers.specs.declared.UnitOn.{UnitOn}
 use Rattle.callers.specs.Turn.{each_caller, next_turn}
 use Rattle.callers.specs.Queues.{room, place_of, queue_of, with_queue, count_of, with_count, has_work}
@@ -17,10 +16,6 @@ pub record Among (callers caller : ℕ) : Type 0 where
   pub least : 1 ≤ caller
   pub most : caller ≤ callers
 
--- as many callers are asked as there are, or none where there are more than 4
-abbrev pub asked_of : ℕ → ℕ
-asked_of C = cond (leb C 4) C 0
-
 -- no more than 4 callers, and no more than 8 wait in each queue
 pub record FewEach (callers : ℕ) (counts : List ℕ) : Type 0 where
   pub few : callers ≤ 4
@@ -30,7 +25,7 @@ pub record FewEach (callers : ℕ) (counts : List ℕ) : Type 0 where
 abbrev pub started_by : ℕ → ℕ → Waiting → Bank → List Waiting → List ℕ → UnitOn
 started_by C i w b list counts = record {
   turned = record {
-    answer = Started i w;
+    answer = Ok (Some (i, w));
     bank = b;
     turn = next_turn C (has_work (with_count counts i (count_of counts i - 1))) i;
     counts = record { each = with_count counts i (count_of counts i - 1) };

@@ -3,3 +3,4 @@ pub mod Queues
 pub mod Calls
 pub mod Parts
 pub mod Inner
+pub mod Served

@@ -2,10 +2,10 @@
 -- value are made of these.
 use Rattle.std.specs.Prelude.{ℕ, ◌-◌, ◌*◌, List, leb, take, drop}
 use Rattle.unit.specs.declared.FunctionUnit.{FunctionUnit}
-use Rattle.unit.specs.declared.Answer.{Answer}
+use Rattle.unit.specs.Answers.{Answer}
 use Rattle.controller.specs.declared.Bank.{Bank}
 use Rattle.queue.specs.declared.Waiting.{Waiting}
-use Rattle.queue.specs.declared.Passed.{Passed}
+use Rattle.queue.specs.Passed.{Passed}
 use Rattle.queue.specs.Line.{tags_inside}
 use Rattle.queue.specs.Calls.{arrival_by, count_then, list_then, oldest, passed_then}
 use Rattle.callers.specs.declared.ArrivalOn.{ArrivalOn}

@@ -3,29 +3,18 @@
 // Every public function here is proved, total and without a `requires`.
 #![tactic(auto)]
 
-ghost use Rattle.std.specs.Prelude.{◌≡◌, true, cond, ◌++◌, ◌+◌, ◌*◌, ◌≤◌, ◌<◌, leb, length, get_or, take, drop, set, replicate};
-ghost use Rattle.unit.specs.Unit.{inside};
-ghost use Rattle.unit.specs.declared.Answer.TheVariants.{Done};
-ghost use Rattle.queue.specs.declared.Passed.TheVariants.{Idle};
+ghost use Rattle.std.specs.Prelude.{◌≡◌, ◌+◌, ◌≤◌, leb, take, drop, Ok, None};
 ghost use Rattle.queue.specs.Calls.{oldest};
-ghost use Rattle.queue.specs.Line.{no_record, tags_inside, forward};
+ghost use Rattle.queue.specs.Line.{tags_inside};
 ghost use Rattle.callers.specs.Turn.{each_caller, round, next_turn, turn_now};
-ghost use Rattle.callers.specs.Queues.{room, place_of, count_of, with_count, waiting_of, has_work};
-ghost use Rattle.callers.specs.Calls.{one_of, empty_shared, call_of, taken_of};
+ghost use Rattle.callers.specs.Queues.{room, place_of, count_of, waiting_of, has_work};
+ghost use Rattle.callers.specs.Calls.{one_of, caller_first, empty_shared, call_of, taken_of};
 ghost use Rattle.callers.specs.Parts.{arrival_in, arrival_on_by, unit_in, on_by, unit_on_by};
-ghost use Rattle.callers.specs.Inner.{Among, asked_of, FewEach, started_by, Servable, Startable};
+ghost use Rattle.callers.specs.Inner.{Among, FewEach, started_by, Servable, Startable};
 
 use controller::{Bank, Event};
 use queue::{Arrival, Waiting};
-use unit::{Answer, FunctionUnit, Refusal, Tag};
-
-// What a time unit did: it started a record of a caller, or none.
-#[derive(Clone, Copy)]
-pub enum Served {
-    Started(u8, Waiting),
-    Idle,
-    Refused(Refusal),
-}
+use unit::{FunctionUnit, Refusal, Tag};
 
 // How many wait in each caller's queue.
 #[derive(Clone, Copy)]
@@ -36,7 +25,7 @@ pub struct Counts {
 // The answer of a time unit, and the bank, the turn and the counts that it leaves.
 #[derive(Clone, Copy)]
 pub struct Turned {
-    pub answer: Served,
+    pub answer: Result<Option<(u8, Waiting)>, Refusal>,
     pub bank: Bank,
     pub turn: u8,
     pub counts: Counts,
@@ -54,14 +43,14 @@ pub struct Shared {
 // The answer to an arrival, and the port that it leaves.
 #[derive(Clone, Copy)]
 pub struct Called {
-    pub answer: Answer,
+    pub answer: Result<(), Refusal>,
     pub shared: Shared,
 }
 
 // The answer of a time unit, and the bank and the port that it leaves.
 #[derive(Clone, Copy)]
 pub struct Taken {
-    pub answer: Served,
+    pub answer: Result<Option<(u8, Waiting)>, Refusal>,
     pub bank: Bank,
     pub shared: Shared,
 }
@@ -114,13 +103,11 @@ fn next_turn(callers: u8, counts: [usize; 4], from: u8) -> u8
     ensures { result ≡ next_turn callers (has_work counts) from }
 {
     let mut caller = from;
-    let mut left = callers;
-    while 0 < left {
+    for _ in 0..callers {
         caller = round_to(callers, caller);
         if has_work(counts, caller) {
             return caller;
         }
-        left = left - 1;
     }
     from
 }
@@ -148,29 +135,12 @@ fn named(callers: u8, caller: u8) -> bool
     false
 }
 
-// How many callers' queues may be looked at: none where there are more than 4.
-fn asked(callers: u8) -> u8
-    ensures { result ≡ asked_of callers }
-{
-    if callers <= 4 {
-        return callers;
-    }
-    0
-}
-
 // Whether no more than 8 wait in each of the first queues.
 fn all_few(counts: [usize; 4], callers: u8) -> bool
     requires { callers ≤ 4 }
     ensures { result ≡ each_caller callers (λ i. leb (count_of counts i) room) }
 {
-    let mut place = 0;
-    while place < callers as usize {
-        if 8 < counts[place] {
-            return false;
-        }
-        place = place + 1;
-    }
-    true
+    counts[..callers as usize].iter().all(|count| *count <= 8)
 }
 
 // Whether some records have tags of the unit.
@@ -178,15 +148,9 @@ fn fits_from(list: [Waiting; 32], from: usize, count: usize, functions: u8) -> b
     requires { from + count ≤ 32 }
     ensures { result ≡ tags_inside functions (take count (drop from list)) }
 {
-    let mut i = 0;
-    while i < count {
-        let waiting = list[from + i];
-        if !words::is_inside(waiting.tag, functions) {
-            return false;
-        }
-        i = i + 1;
-    }
-    true
+    list[from..from + count]
+        .iter()
+        .all(|waiting| words::is_inside(waiting.tag, functions))
 }
 
 // Whether the records that wait in the first queues have tags of the unit.
@@ -194,25 +158,25 @@ fn all_fit(list: [Waiting; 32], counts: [usize; 4], callers: u8, functions: u8) 
     requires { FewEach callers counts }
     ensures { result ≡ each_caller callers (λ i. tags_inside functions (take (count_of counts i) (drop (place_of i) list))) }
 {
-    let mut place = 0;
-    while place < callers as usize {
-        if !fits_from(list, 8 * place, counts[place], functions) {
+    for (place, count) in counts[..callers as usize].iter().enumerate() {
+        if !fits_from(list, 8 * place, *count, functions) {
             return false;
         }
-        place = place + 1;
     }
     true
 }
 
-// The same, where no more than 8 wait in each; otherwise none is looked at.
-fn few_fit(list: [Waiting; 32], counts: [usize; 4], callers: u8, few: bool, functions: u8) -> bool
-    requires { few ≡ true → FewEach callers counts }
-    ensures { result ≡ cond few (each_caller callers (λ i. tags_inside functions (take (count_of counts i) (drop (place_of i) list)))) true }
+// What each call tries first: the unit, and that the caller is one of them.
+fn check_caller(u: FunctionUnit, callers: u8, caller: u8) -> Result<(), Refusal>
+    ensures { result ≡ caller_first u callers caller (Ok tt) }
 {
-    if few {
-        return all_fit(list, counts, callers, functions);
+    if !unit::sound(u) {
+        return Err(Refusal::NotSound);
     }
-    true
+    if !named(callers, caller) {
+        return Err(Refusal::NoSuchCaller);
+    }
+    Ok(())
 }
 
 // The tests of a time unit: the unit, the turn, the list, the counts, and the tags that wait.
@@ -223,41 +187,28 @@ fn check_unit(
     length: usize,
     list: [Waiting; 32],
     counts: [usize; 4],
-) -> Answer
+) -> Result<(), Refusal>
     ensures { result ≡ unit_in u callers turn length list counts }
 {
-    let sound = unit::sound(u);
-    let known = named(callers, turn);
-    let most = asked(callers);
-    let long = 8 * (callers as usize) <= length;
-    let few = all_few(counts, most);
-    let fit = few_fit(list, counts, most, few, u.functions);
-    let of_unit = unit::tested(Answer::Done, sound, Refusal::NotSound);
-    let of_turn = unit::tested(of_unit, known, Refusal::NoSuchCaller);
-    let of_list = unit::tested(of_turn, long, Refusal::ShortOutput);
-    let of_counts = unit::tested(of_list, few, Refusal::TooManyWait);
-    unit::tested(of_counts, fit, Refusal::NoSuchTag)
+    check_caller(u, callers, turn)?;
+    if length < 8 * (callers as usize) {
+        return Err(Refusal::ShortOutput);
+    }
+    if !all_few(counts, callers) {
+        return Err(Refusal::TooManyWait);
+    }
+    if !all_fit(list, counts, callers, u.functions) {
+        return Err(Refusal::NoSuchTag);
+    }
+    Ok(())
 }
 
-// Where a caller's queue begins; 0 for what is no caller.
+// Where a caller's queue begins.
 fn place_of(caller: u8) -> usize
-    ensures { (result ≡ cond (inside caller 4) (place_of caller) 0) × (result + 8 ≤ 32) }
+    requires { Among 4 caller }
+    ensures { result ≡ place_of caller }
 {
-    if words::is_inside(caller, 4) {
-        return 8 * ((caller - 1) as usize);
-    }
-    0
-}
-
-// Whether the records that wait in one queue have tags of the unit; where more than 8 wait none is looked at.
-fn own_fit(list: [Waiting; 32], from: usize, count: usize, functions: u8) -> bool
-    requires { from + 8 ≤ 32 }
-    ensures { result ≡ cond (leb count room) (tags_inside functions (take count (drop from list))) true }
-{
-    if count <= 8 {
-        return fits_from(list, from, count, functions);
-    }
-    true
+    8 * ((caller - 1) as usize)
 }
 
 // The tests of an arrival: the unit, the caller, the list, the tag offered, the room, and the tags that wait.
@@ -269,33 +220,24 @@ fn check_arrival(
     list: [Waiting; 32],
     count: usize,
     tag: u8,
-) -> Answer
+) -> Result<(), Refusal>
     ensures { result ≡ arrival_in u callers caller length list count tag }
 {
-    let sound = unit::sound(u);
-    let known = named(callers, caller);
+    check_caller(u, callers, caller)?;
     let from = place_of(caller);
-    let long = from + 8 <= length;
-    let has_tag = words::is_inside(tag, u.functions);
-    let free = count < 8;
-    let fit = own_fit(list, from, count, u.functions);
-    let of_unit = unit::tested(Answer::Done, sound, Refusal::NotSound);
-    let of_caller = unit::tested(of_unit, known, Refusal::NoSuchCaller);
-    let of_list = unit::tested(of_caller, long, Refusal::ShortOutput);
-    let of_tag = unit::tested(of_list, has_tag, Refusal::NoSuchTag);
-    let of_room = unit::tested(of_tag, free, Refusal::TooManyWait);
-    unit::tested(of_room, fit, Refusal::NoSuchTag)
-}
-
-// The array with another record at a place. The `ensures` gives the array's length too, which the proofs of whoever calls it need; so do those of `moved_up`,
-// `first_of` and `size`.
-fn with_one(list: [Waiting; 32], place: usize, waiting: Waiting) -> [Waiting; 32]
-    requires { place < 32 }
-    ensures { (result ≡ set list place waiting) × (length list ≡ 32) }
-{
-    let mut next = list;
-    next[place] = waiting;
-    next
+    if length < from + 8 {
+        return Err(Refusal::ShortOutput);
+    }
+    if !words::is_inside(tag, u.functions) {
+        return Err(Refusal::NoSuchTag);
+    }
+    if 8 <= count {
+        return Err(Refusal::TooManyWait);
+    }
+    if !fits_from(list, from, count, u.functions) {
+        return Err(Refusal::NoSuchTag);
+    }
+    Ok(())
 }
 
 // An arrival on the records of a list of this length: the record goes in behind those that wait.
@@ -310,61 +252,42 @@ pub fn arrival_on(
 ) -> ArrivalOn
     ensures { result ≡ arrival_on_by caller records.list count offered (arrival_in u callers caller length records.list count offered.tag) }
 {
-    let list = records.list;
-    let answer = check_arrival(u, callers, caller, length, list, count, offered.tag);
-    match answer {
-        Answer::Refused(why) => ArrivalOn {
+    let mut list = records.list;
+    if let Err(why) = check_arrival(u, callers, caller, length, list, count, offered.tag) {
+        return ArrivalOn {
             arrival: Arrival {
-                answer: Answer::Refused(why),
+                answer: Err(why),
                 count,
             },
             records,
+        };
+    }
+    list[place_of(caller) + count] = offered;
+    ArrivalOn {
+        arrival: Arrival {
+            answer: Ok(()),
+            count: count + 1,
         },
-        Answer::Done => {
-            let from = place_of(caller);
-            let joined = with_one(list, from + count, offered);
-            let arrival = Arrival {
-                answer: Answer::Done,
-                count: count + 1,
-            };
-            ArrivalOn {
-                arrival,
-                records: Records { list: joined },
-            }
-        }
+        records: Records { list },
     }
 }
 
 // A time unit in which the turn is this caller's and nothing is started.
 fn idled(u: FunctionUnit, bank: Bank, caller: u8, records: Records, counts: Counts) -> UnitOn
     requires { Among 4 caller }
-    ensures { result ≡ on_by u bank 0 0 records.list counts.each caller Idle }
+    ensures { result ≡ on_by u bank 0 0 records.list counts.each caller (Ok None) }
 {
     let after = controller::step(u, bank, Event::Tick);
     let later = after.bank;
     UnitOn {
         turned: Turned {
-            answer: Served::Idle,
+            answer: Ok(None),
             bank: later,
             turn: caller,
             counts,
         },
         records,
     }
-}
-
-// The array when the first of the records that wait in a queue has left.
-fn moved_up(list: [Waiting; 32], from: usize, count: usize) -> [Waiting; 32]
-    requires { (1 ≤ count) × (from + count ≤ 32) }
-    ensures { (result ≡ take from list ++ forward (drop from list) count) × (length list ≡ 32) }
-{
-    let mut next = list;
-    let mut i = 1;
-    while i < count {
-        next[from + i - 1] = next[from + i];
-        i = i + 1;
-    }
-    next
 }
 
 // A time unit in which the caller's oldest record is started: it leaves the queue, and the turn goes round.
@@ -379,32 +302,23 @@ fn started(
     requires { (Among callers caller) × (1 ≤ count_of counts.each caller) × (count_of counts.each caller ≤ 8) }
     ensures { result ≡ started_by callers caller first bank records.list counts.each }
 {
-    let list = records.list;
+    let mut list = records.list;
     let mut each = counts.each;
     let place = (caller - 1) as usize;
     let count = each[place];
     let start = place_of(caller);
-    let rest = moved_up(list, start, count);
+    list.copy_within(start + 1..start + count, start);
     each[place] = count - 1;
     let next = next_turn(callers, each, caller);
     UnitOn {
         turned: Turned {
-            answer: Served::Started(caller, first),
+            answer: Ok(Some((caller, first))),
             bank,
             turn: next,
             counts: Counts { each },
         },
-        records: Records { list: rest },
+        records: Records { list },
     }
-}
-
-// The first record of a queue.
-fn first_of(list: [Waiting; 32], caller: u8) -> Waiting
-    requires { Among 4 caller }
-    ensures { (result ≡ get_or list (place_of caller) no_record) × (length list ≡ 32) }
-{
-    let place = (caller - 1) as usize;
-    list[8 * place]
 }
 
 // A time unit in which the caller's oldest record is started if the bank grants it.
@@ -419,13 +333,12 @@ fn tried(
     requires { Startable u callers caller records.list counts.each }
     ensures { result ≡ on_by u bank callers 0 records.list counts.each caller (oldest bank (waiting_of records.list counts.each caller)) }
 {
-    let list = records.list;
-    let first = first_of(list, caller);
+    let first = records.list[place_of(caller)];
     let after = controller::step(u, bank, Event::Start(Tag(first.tag)));
     let answer = after.answer;
     match answer {
-        Answer::Refused(_) => idled(u, bank, caller, records, counts),
-        Answer::Done => {
+        Err(_) => idled(u, bank, caller, records, counts),
+        Ok(()) => {
             let later = after.bank;
             started(callers, caller, first, later, records, counts)
         }
@@ -442,7 +355,7 @@ fn turned_to(
     counts: Counts,
 ) -> UnitOn
     requires { Servable u callers turn records.list counts.each }
-    ensures { result ≡ unit_on_by u bank callers turn records.list counts.each Done }
+    ensures { result ≡ unit_on_by u bank callers turn records.list counts.each (Ok tt) }
 {
     let each = counts.each;
     let caller = turn_now(callers, each, turn);
@@ -464,21 +377,18 @@ pub fn unit_on(
 ) -> UnitOn
     ensures { result ≡ unit_on_by u bank callers turn records.list counts.each (unit_in u callers turn length records.list counts.each) }
 {
-    let list = records.list;
-    let each = counts.each;
-    let answer = check_unit(u, callers, turn, length, list, each);
-    match answer {
-        Answer::Refused(why) => UnitOn {
+    if let Err(why) = check_unit(u, callers, turn, length, records.list, counts.each) {
+        return UnitOn {
             turned: Turned {
-                answer: Served::Refused(why),
+                answer: Err(why),
                 bank,
                 turn,
                 counts,
             },
             records,
-        },
-        Answer::Done => turned_to(u, bank, callers, turn, records, counts),
+        };
     }
+    turned_to(u, bank, callers, turn, records, counts)
 }
 
 // The calls on a port as a value
@@ -495,45 +405,21 @@ pub fn empty_shared(callers: u8) -> Shared
     }
 }
 
-// How many records an array has.
-fn size(list: [Waiting; 32]) -> usize
-    ensures { (result ≡ 32) × (length list ≡ 32) }
-{
-    list.len()
-}
-
-// How many wait in a caller's queue; 0 for what is no caller.
-fn count_of(counts: [usize; 4], caller: u8) -> usize
-    ensures { result ≡ cond (inside caller 4) (count_of counts caller) 0 }
-{
-    if words::is_inside(caller, 4) {
-        let place = (caller - 1) as usize;
-        return counts[place];
-    }
-    0
-}
-
-// The counts with another one for a caller.
-fn with_count(counts: [usize; 4], caller: u8, count: usize) -> [usize; 4]
-    ensures { result ≡ cond (inside caller 4) (with_count counts caller count) counts }
-{
-    let mut each = counts;
-    if words::is_inside(caller, 4) {
-        let place = (caller - 1) as usize;
-        each[place] = count;
-    }
-    each
-}
-
 // An arrival.
 pub fn call(u: FunctionUnit, shared: Shared, caller: u8, offered: Waiting) -> Called
     ensures { result ≡ call_of u shared caller offered }
 {
+    if let Err(why) = check_caller(u, shared.callers, caller) {
+        return Called {
+            answer: Err(why),
+            shared,
+        };
+    }
     let list = shared.list;
-    let counts = shared.counts;
-    let each = counts.each;
-    let count = count_of(each, caller);
-    let length = size(list);
+    let mut each = shared.counts.each;
+    let place = (caller - 1) as usize;
+    let count = each[place];
+    let length = list.len();
     let after = arrival_on(
         u,
         shared.callers,
@@ -546,7 +432,7 @@ pub fn call(u: FunctionUnit, shared: Shared, caller: u8, offered: Waiting) -> Ca
     let arrival = after.arrival;
     let records = after.records;
     let joined = records.list;
-    let more = with_count(each, caller, arrival.count);
+    each[place] = arrival.count;
     let answer = arrival.answer;
     Called {
         answer,
@@ -554,7 +440,7 @@ pub fn call(u: FunctionUnit, shared: Shared, caller: u8, offered: Waiting) -> Ca
             callers: shared.callers,
             turn: shared.turn,
             list: joined,
-            counts: Counts { each: more },
+            counts: Counts { each },
         },
     }
 }
@@ -565,7 +451,7 @@ pub fn take_turn(u: FunctionUnit, bank: Bank, shared: Shared) -> Taken
 {
     let list = shared.list;
     let counts = shared.counts;
-    let length = size(list);
+    let length = list.len();
     let after = unit_on(
         u,
         bank,

@@ -1,4 +1,5 @@
 -- The cells of a chart, column by column and unit by unit. Assumes nothing.
+use Rattle.std.proofs.Common.{Ok, Err}
 use Prim.Native.Nat.{ℕ, zero, suc, ◌+◌, ◌-◌, ◌≤◌, ◌<◌}
 use mathlib.Core.Path.{◌≡◌, refl, sym, ap, ap₂, ◌∙◌}
 use mathlib.Core.List.{List}
@@ -6,16 +7,14 @@ use mathlib.Core.Bool.{Bool, true, false, cond, not, ◌&&◌}
 use mir.Val.{bool_byte}
 use native.Mathlib.Numerals.{add-one}
 use native.Mathlib.Omega.{arith}
-use borrow.Author.Tests.{le-leb, lt-leb, eq-eqb, ne_eqb}
 use lib.Dec.{leb, eqb}
-use lib.ListN.{get_or}
+use lib.ListN.{length, get_or}
 use Rattle.words.specs.Below.{count_below, list_below}
 use Rattle.words.proofs.BelowLaws.{count_most, count_more}
 use Rattle.unit.specs.declared.Plan.{Plan}
 use Rattle.unit.specs.declared.FunctionUnit.{FunctionUnit}
 use Rattle.unit.specs.declared.Refusal.{Refusal}
-use Rattle.unit.specs.declared.Answer.{Answer}
-use Rattle.unit.specs.declared.Answer.TheVariants.{Done, Refused}
+use Rattle.unit.specs.Answers.{Answer}
 use Rattle.unit.specs.Calls.{and_then}
 use Rattle.controller.specs.declared.Bank.{Bank}
 use Rattle.controller.specs.Bank.{empty}
@@ -26,7 +25,8 @@ use Rattle.chart.specs.Cells.{none, tasks_before, start_cell, next_cell, cell_of
 use Rattle.chart.specs.Text.{busy}
 use Rattle.chart.specs.Answers.{units_answer}
 use Rattle.chart.specs.Inner.{start_byte, marks_in, row_in, cells_in}
-use Rattle.chart.proofs.FillLaws.{Filled, placed_before}
+use Rattle.text.specs.Text.{placed}
+use Rattle.chart.proofs.FillLaws.{placed_before}
 
 -- a test as a number
 byte_is : (b : Bool) → bool_byte b ≡ cond b 1 0
@@ -55,28 +55,6 @@ cell_same a b f h n (suc c) m e =
     let s : f (n - c) ≡ h (n - c) = e (n - c) (omega arith) in
     let r = cell_same a b f h n c (λ j l. m j (omega arith)) e in
     λ i. cond (leb c n && m c (omega arith) i && not (eqb (s i) none)) (s i) (r i)
-
-module _ (marked : Bool) (starts : ℕ → ℕ) (n c cell : ℕ) where
-  pub next_early : n < c → cell ≡ next_cell marked starts n c cell
-  next_early h = rw (lt-leb c n h)
-
-  pub next_unmarked : marked ≡ false → cell ≡ next_cell marked starts n c cell
-  next_unmarked e = rw e (no (leb c n))
-    where
-      no : (b : Bool) → cell ≡ cond (b && false && not (eqb (starts (n - c)) none)) (starts (n - c)) cell
-      no true = refl
-      no false = refl
-
-  pub next_free : starts (n - c) ≡ none → cell ≡ next_cell marked starts n c cell
-  next_free e = rw (eq-eqb (starts (n - c)) none e) (no (leb c n) marked)
-    where
-      no : (b m : Bool) → cell ≡ cond (b && m && false) (starts (n - c)) cell
-      no true true = refl
-      no true false = refl
-      no false m = refl
-
-  pub next_taken : c ≤ n → marked ≡ true → (starts (n - c) ≡ none → ⊥) → starts (n - c) ≡ next_cell marked starts n c cell
-  next_taken h e ne = rw (le-leb c n h, e, ne_eqb (starts (n - c)) none ne)
 
 -- Units
 
@@ -121,7 +99,7 @@ module _ (u : FunctionUnit) (p : Plan) (position : ℕ) (bank : Bank) (i : ℕ) 
 
 -- Answers
 
-pub units_none : (u : FunctionUnit) (p : Plan) → units_answer u p 0 ≡ Done
+pub units_none : (u : FunctionUnit) (p : Plan) → units_answer u p 0 ≡ Ok tt
 unfolding units_answer
 units_none u p = refl
 
@@ -130,22 +108,22 @@ unfolding units_answer
 units_more u p n = ap (units_answer u p) (add-one n)
 
 -- a refusal stays
-units_stay : (u : FunctionUnit) (p : Plan) (why : Refusal) (i d : ℕ) → units_answer u p i ≡ Refused why → units_answer u p (i + d) ≡ Refused why
+units_stay : (u : FunctionUnit) (p : Plan) (why : Refusal) (i d : ℕ) → units_answer u p i ≡ Err why → units_answer u p (i + d) ≡ Err why
 units_stay u p why i zero e = ap (units_answer u p) (omega arith) ∙ e
 units_stay u p why i (suc d) e =
     let s : i + suc d ≡ i + d + 1 = omega arith in
     ap (units_answer u p) s ∙ units_more u p (i + d) ∙ ap (λ (a : Answer). and_then a (unit_after u p (i + d)).answer) (units_stay u p why i d e)
 
-module _ (u : FunctionUnit) (p : Plan) (n position : ℕ) (bank : Bank) (i : ℕ) (a : At u p position bank i) (d : units_answer u p i ≡ Done)
+module _ (u : FunctionUnit) (p : Plan) (n position : ℕ) (bank : Bank) (i : ℕ) (a : At u p position bank i) (d : units_answer u p i ≡ Ok tt)
     (x : UnitPlayed) (e : x ≡ play_of u p position bank) where
   one_more : units_answer u p (i + 1) ≡ x.answer
   one_more =
       units_more u p i ∙ ap (λ (b : Answer). and_then b (unit_after u p i).answer) d ∙ sym (ap (λ (y : UnitPlayed). y.answer) (at_step u p position bank i a x e))
 
-  pub units_accepted : x.answer ≡ Done → units_answer u p (i + 1) ≡ Done
+  pub units_accepted : x.answer ≡ Ok tt → units_answer u p (i + 1) ≡ Ok tt
   units_accepted f = one_more ∙ f
 
-  pub units_refused : i < n → (why : Refusal) → x.answer ≡ Refused why → Refused why ≡ units_answer u p n
+  pub units_refused : i < n → (why : Refusal) → x.answer ≡ Err why → Err why ≡ units_answer u p n
   units_refused h why f =
       let s : i + 1 + (n - (i + 1)) ≡ n = omega arith in
       sym (ap (units_answer u p) (sym s) ∙ units_stay u p why (i + 1) (n - (i + 1)) (one_more ∙ f))
@@ -168,8 +146,8 @@ busy_more n cells count cell t e =
 
 -- Cells written so far do not touch the row of starts
 
-pub cells_kept : (before : List ℕ) (at n : ℕ) (f : ℕ → ℕ) (i : ℕ) (now : List ℕ) → Filled before at n f i now → (from : ℕ) → from + n ≤ at → i < n
+pub cells_kept : (before : List ℕ) (at n : ℕ) (f : ℕ → ℕ) (i : ℕ) (now : List ℕ) → now ≡ placed before at (list_below i f) → at ≤ length before → (from : ℕ) → from + n ≤ at → i < n
     → (marks : List ℕ) (columns segment : ℕ) → cells_in now from marks columns segment i ≡ cells_in before from marks columns segment i
-cells_kept before at n f i now w from h l marks columns segment =
+cells_kept before at n f i now w room from h l marks columns segment =
     cell_same (marks_in marks segment) (marks_in marks segment) (row_in now from) (row_in before from) i columns (λ c k. refl)
-    (λ j k. ap (λ b. get_or b (from + j) 0) w.bytes ∙ placed_before before at (list_below i f) (from + j) (omega arith) (omega (arith, w.room)))
+    (λ j k. ap (λ b. get_or b (from + j) 0) w ∙ placed_before before at (list_below i f) (from + j) (omega arith) room)

@@ -1,4 +1,5 @@
 -- The whole chart: its lines from the words of the columns and from the row of starts, how long it is, and how the call ends. Assumes nothing.
+use Rattle.std.proofs.Common.{Result, Ok, Err}
 use Prim.Native.Nat.{ℕ, ◌+◌, ◌-◌, ◌*◌, ◌^◌, ◌≤◌, ◌<◌}
 use mathlib.Core.Path.{◌≡◌, sym, ap, ap₂, ◌∙◌}
 use mathlib.Core.Bool.{false}
@@ -19,8 +20,7 @@ use Rattle.unit.specs.declared.Plan.{Plan}
 use Rattle.unit.specs.declared.FunctionUnit.{FunctionUnit}
 use Rattle.unit.specs.declared.Refusal.{Refusal}
 use Rattle.unit.specs.declared.Refusal.TheVariants.{BadRecord, ShortOutput}
-use Rattle.unit.specs.declared.Answer.{Answer}
-use Rattle.unit.specs.declared.Answer.TheVariants.{Done, Refused}
+use Rattle.unit.specs.Answers.{Answer}
 use Rattle.unit.specs.Unit.{marked, columns_of, SoundUnit}
 use Rattle.unit.specs.Calls.{check, and_then, tag_answer}
 use Rattle.unit.proofs.Laws.{check_ok, tag_accepted, tag_range}
@@ -29,11 +29,8 @@ use Rattle.unit.proofs.EndLaws.{then_both}
 use Rattle.unit.proofs.ColumnLaws.{columns_marked}
 use Rattle.diagram.specs.Answers.{written}
 use Rattle.plan_record.specs.Write.{holds_cycle}
-use Rattle.planner.specs.declared.Handed.{Handed}
 use Rattle.function_plan.specs.Own.{own_plan}
 use Rattle.function_plan.proofs.Claims.{own_says, own_hands}
-use Rattle.chart.specs.declared.Charted.{Charted}
-use Rattle.chart.specs.declared.Charted.TheVariants as Charted
 use Rattle.chart.specs.Cells.{start_cell, segment_cell}
 use Rattle.chart.specs.Text.{at_left, line, unit_digit, segment_line, top_lines, chart_text, chart_of}
 use Rattle.chart.specs.Answers.{plan_answer, units_answer, charted, chart_refusal, chart_answer, chart_out, simulate_refusal, simulate_answer, simulate_out}
@@ -44,21 +41,21 @@ use Rattle.chart.proofs.SegmentLaws.{segment_same}
 
 -- A plan that is taken
 
-pub plan_ready : (u : FunctionUnit) (p : Plan) → plan_answer u p ≡ Done → Ready u p
+pub plan_ready : (u : FunctionUnit) (p : Plan) → plan_answer u p ≡ Ok tt → Ready u p
 unfolding plan_answer
 plan_ready u p e =
-    let b = then_both (tag_answer u p.tag) (check (holds_cycle p) BadRecord Done) e in
-    record { tag = b.0; holds = check_ok (holds_cycle p) BadRecord Done b.1 }
+    let b = then_both (tag_answer u p.tag) (check (holds_cycle p) BadRecord (Ok tt)) e in
+    record { tag = b.0; holds = check_ok (holds_cycle p) BadRecord (Ok tt) b.1 }
 
-pub ready_plan : (u : FunctionUnit) (p : Plan) → Ready u p → Done ≡ plan_answer u p
+pub ready_plan : (u : FunctionUnit) (p : Plan) → Ready u p → (Ok tt) ≡ plan_answer u p
 unfolding plan_answer
 ready_plan u p r = rw (r.tag, r.holds)
 
-pub plan_unknown : (u : FunctionUnit) (p : Plan) (why : Refusal) → tag_answer u p.tag ≡ Refused why → Refused why ≡ plan_answer u p
+pub plan_unknown : (u : FunctionUnit) (p : Plan) (why : Refusal) → tag_answer u p.tag ≡ Err why → Err why ≡ plan_answer u p
 unfolding plan_answer
-plan_unknown u p why e = sym (ap (λ (a : Answer). and_then a (check (holds_cycle p) BadRecord Done)) e)
+plan_unknown u p why e = sym (ap (λ (a : Answer). and_then a (check (holds_cycle p) BadRecord (Ok tt))) e)
 
-pub plan_bad : (u : FunctionUnit) (p : Plan) → tag_answer u p.tag ≡ Done → holds_cycle p ≡ false → Refused BadRecord ≡ plan_answer u p
+pub plan_bad : (u : FunctionUnit) (p : Plan) → tag_answer u p.tag ≡ Ok tt → holds_cycle p ≡ false → Err BadRecord ≡ plan_answer u p
 unfolding plan_answer
 plan_bad u p e h = rw (e, h)
 
@@ -133,20 +130,20 @@ module _ (u : FunctionUnit) (p : Plan) (r : Ready u p) where
 
 -- How the call ends
 
-abbrev pub ChartEnds : FunctionUnit → Plan → ℕ → List ℕ → Charted → List ℕ → Type 0
+abbrev pub ChartEnds : FunctionUnit → Plan → ℕ → List ℕ → Result ℕ Refusal → List ℕ → Type 0
 ChartEnds u p n bytes r after = (r ≡ chart_answer u p n (length bytes)) × (after ≡ chart_out u p n bytes)
 
 -- the tests in turn
 module _ (u : FunctionUnit) (p : Plan) (n room : ℕ) where
-  pub refused_plan : (why : Refusal) → plan_answer u p ≡ Refused why → Refused why ≡ chart_refusal u p n room
+  pub refused_plan : (why : Refusal) → plan_answer u p ≡ Err why → Err why ≡ chart_refusal u p n room
   unfolding chart_refusal
   refused_plan why e = sym (ap (λ (a : Answer). and_then a (check (leb (length (chart_of u p n)) room) ShortOutput (units_answer u p n))) e)
 
-  module _ (w : n < 2 ^ 32) (e : plan_answer u p ≡ Done) (size : ℕ) (s : size ≡ top_length n + line_length n * u.segments) where
+  module _ (w : n < 2 ^ 32) (e : plan_answer u p ≡ Ok tt) (size : ℕ) (s : size ≡ top_length n + line_length n * u.segments) where
     long : length (chart_of u p n) ≡ size
     long = chart_length u p (plan_ready u p e) n w ∙ sym s
 
-    pub refused_short : room < size → Refused ShortOutput ≡ chart_refusal u p n room
+    pub refused_short : room < size → Err ShortOutput ≡ chart_refusal u p n room
     unfolding chart_refusal
     refused_short h = sym (simp (e, lt-leb (length (chart_of u p n)) room (omega (arith, long))))
 
@@ -155,13 +152,13 @@ module _ (u : FunctionUnit) (p : Plan) (n room : ℕ) where
     refused_unit h = sym (simp (e, le-leb (length (chart_of u p n)) room (omega (arith, long))))
 
   -- and where none refuses
-  pub none_refused : chart_refusal u p n room ≡ Done → Ready u p × (length (chart_of u p n) ≤ room)
+  pub none_refused : chart_refusal u p n room ≡ Ok tt → Ready u p × (length (chart_of u p n) ≤ room)
   unfolding chart_refusal
   none_refused e =
       let b = then_both (plan_answer u p) (check (leb (length (chart_of u p n)) room) ShortOutput (units_answer u p n)) e in
       (plan_ready u p b.0, leb-true (length (chart_of u p n)) room (check_ok (leb (length (chart_of u p n)) room) ShortOutput (units_answer u p n) b.1))
 
-  pub chart_room : n < 2 ^ 32 → chart_refusal u p n room ≡ Done → top_length n + line_length n * u.segments ≤ room
+  pub chart_room : n < 2 ^ 32 → chart_refusal u p n room ≡ Ok tt → top_length n + line_length n * u.segments ≤ room
   chart_room w e = let d = none_refused e in omega (arith, chart_length u p d.0 n w, d.1)
 
 module _ (u : FunctionUnit) (p : Plan) (n : ℕ) (bytes : List ℕ) where
@@ -169,36 +166,37 @@ module _ (u : FunctionUnit) (p : Plan) (n : ℕ) (bytes : List ℕ) where
   unfolding chart_answer chart_out
   chart_ends a e = (ap (λ x. charted x (chart_of u p n)) (sym e), ap (λ x. written x (chart_of u p n) bytes) (sym e))
 
-  pub chart_refused : (why : Refusal) → chart_refusal u p n (length bytes) ≡ Refused why → ChartEnds u p n bytes (Charted.Refused why) bytes
-  chart_refused why e = chart_ends (Refused why) e
+  pub chart_refused : (why : Refusal) → chart_refusal u p n (length bytes) ≡ Err why → ChartEnds u p n bytes (Err why) bytes
+  chart_refused why e = chart_ends (Err why) e
 
-  pub chart_drawn : {m : ℕ} {after : List ℕ} {end : ℕ} → chart_refusal u p n (length bytes) ≡ Done → Put m bytes 0 (chart_of u p n) after end
-      → ChartEnds u p n bytes (Charted.Length end) after
+  pub chart_drawn : {m : ℕ} {after : List ℕ} {end : ℕ} → chart_refusal u p n (length bytes) ≡ Ok tt → Put m bytes 0 (chart_of u p n) after end
+      → ChartEnds u p n bytes (Ok end) after
   chart_drawn e t =
-      let r = chart_ends Done e in (
-        ap Charted.Length (t.wrote.next ∙ zero-add (length (chart_of u p n))) ∙ r.0,
+      let r = chart_ends (Ok tt) e in (
+        ap Ok (t.wrote.next ∙ zero-add (length (chart_of u p n))) ∙ r.0,
         t.wrote.bytes ∙ placed_front bytes (chart_of u p n) ∙ r.1,
       )
 
 -- The chart of a function's own plan
 
-abbrev SimulateEnds : FunctionUnit → ℕ → ℕ → List ℕ → Charted → List ℕ → Type 0
+abbrev SimulateEnds : FunctionUnit → ℕ → ℕ → List ℕ → Result ℕ Refusal → List ℕ → Type 0
 SimulateEnds u q n bytes r after = (r ≡ simulate_answer u q n (length bytes)) × (after ≡ simulate_out u q n bytes)
 
-module _ (u : FunctionUnit) (q n : ℕ) (bytes : List ℕ) (h : Handed) (e : h ≡ own_plan u q) where
-  pub own_refused : (why : Refusal) → h.answer ≡ Refused why → SimulateEnds u q n bytes (Charted.Refused why) bytes
+module _ (u : FunctionUnit) (q n : ℕ) (bytes : List ℕ) where
+  pub own_refused : {why : Refusal} → own_plan u q ≡ Err why → SimulateEnds u q n bytes (Err why) bytes
   unfolding simulate_answer simulate_out simulate_refusal
-  own_refused why d =
-      let a : simulate_refusal u q n (length bytes) ≡ Refused why =
-      ap (λ (x : Answer). and_then x (chart_refusal u u.plan n (length bytes))) (sym (own_says u q h e) ∙ d) in
+  own_refused {why} e =
+      let a : simulate_refusal u q n (length bytes) ≡ Err why =
+      ap (λ (x : Answer). and_then x (chart_refusal u u.plan n (length bytes))) (own_says u q e) in
       (sym (ap (λ x. charted x (chart_of u u.plan n)) a), sym (ap (λ x. written x (chart_of u u.plan n) bytes) a))
 
-  pub own_drawn : (r : Charted) (after : List ℕ) → h.answer ≡ Done → ChartEnds u h.plan n bytes r after → SimulateEnds u q n bytes r after
+  pub own_drawn : {p : Plan} (r : Result ℕ Refusal) (after : List ℕ) → own_plan u q ≡ Ok p → ChartEnds u p n bytes r after → SimulateEnds u q n bytes r after
   unfolding simulate_answer simulate_out simulate_refusal chart_answer chart_out
-  own_drawn r after d c =
-      let same = own_hands u q h e d in
+  own_drawn r after e c =
+      let d = own_hands u q e in
+      let same = sym d.1 in
       let a : chart_refusal u u.plan n (length bytes) ≡ simulate_refusal u q n (length bytes) =
-      sym (ap (λ (x : Answer). and_then x (chart_refusal u u.plan n (length bytes))) (sym (own_says u q h e) ∙ d)) in (
+      sym (ap (λ (x : Answer). and_then x (chart_refusal u u.plan n (length bytes))) d.0) in (
         c.0 ∙ ap (λ p. chart_answer u p n (length bytes)) same ∙ ap (λ x. charted x (chart_of u u.plan n)) a,
         c.1 ∙ ap (λ p. chart_out u p n bytes) same ∙ ap (λ x. written x (chart_of u u.plan n) bytes) a,
       )

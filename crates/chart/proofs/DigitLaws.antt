@@ -27,9 +27,6 @@ pub record Counted (number most rest room spaces : ℕ) : Type 0 where
   pub word : room < 2 ^ 32
   pub digits : spaces + length (decimal room) + length (decimal number) ≡ length (decimal most) + length (decimal rest)
 
-pub counted_start : (number most : ℕ) → number ≤ most → most < 2 ^ 32 → Counted number most number most 0
-counted_start number most h w = record { below = h; word = w; digits = omega arith }
-
 module _ (number most rest room spaces : ℕ) (c : Counted number most rest room spaces) where
   pub counted_space : 10 ≤ room → rest < 10 → Counted number most (rest / 10) (room / 10) (spaces + 1)
   counted_space h l = record {

@@ -2,7 +2,7 @@
 use Prim.Native.Nat.{ℕ, zero, suc, ◌+◌, ◌-◌, ◌*◌, ◌/◌, ◌^◌, ◌≤◌, ◌<◌}
 use mathlib.Core.Path.{◌≡◌, refl, sym, ap, ◌∙◌}
 use mathlib.Core.List.{List, ◌∷◌, ◌++◌}
-use native.Mathlib.Nat.{suc-add, mul-add, mul-le-mul, mul-le-mul_left}
+use native.Mathlib.Nat.{suc-add, mul-le-mul}
 use native.Mathlib.Omega.{arith}
 use lib.ListN.{length, get_or, take, replicate, length-append, length-replicate}
 use Rattle.words.specs.Below.{list_below, join_below}
@@ -100,12 +100,6 @@ top_length_lem n h =
 pub line_is : (n : ℕ) → line_length n ≡ n + 2 * length (decimal n) + 16
 unfolding line_length
 line_is n = refl
-
--- for one more line
-pub line_room : (n segments s : ℕ) → s < segments → line_length n * s + line_length n ≤ line_length n * segments
-line_room n segments s h =
-    let m : line_length n * (s + 1) ≤ line_length n * segments = mul-le-mul_left (line_length n) (omega arith) in
-    omega (arith, mul-add (line_length n) s 1)
 
 -- a line is short, and so are all
 pub digits_few : (n : ℕ) → n < 2 ^ 32 → length (decimal n) ≤ 10

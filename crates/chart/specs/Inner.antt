@@ -1,11 +1,10 @@
 -- What the private functions ask, write and find. No public contract cites this file.
-use Rattle.std.specs.Prelude.{ℕ, ◌+◌, ◌-◌, ◌*◌, ◌≡◌, Bool, true, cond, List, length, get_or}
+use Rattle.std.specs.Prelude.{ℕ, ◌+◌, ◌-◌, ◌*◌, ◌≡◌, Bool, true, cond, List, length, get_or, Ok}
 use Rattle.words.specs.Bits.{is_set}
 use Rattle.words.specs.Below.{join_below}
 use Rattle.text.specs.Text.{decimal}
 use Rattle.unit.specs.declared.Plan.{Plan}
 use Rattle.unit.specs.declared.FunctionUnit.{FunctionUnit}
-use Rattle.unit.specs.declared.Answer.TheVariants.{Done}
 use Rattle.unit.specs.Calls.{tag_answer}
 use Rattle.plan_record.specs.Write.{holds_cycle}
 use Rattle.chart.specs.Cells.{letter, none, cell_of}
@@ -13,7 +12,7 @@ use Rattle.chart.specs.Text.{segment_line}
 
 -- a plan that a record holds, of a tag of the unit
 pub record Ready (u : FunctionUnit) (p : Plan) : Type 0 where
-  pub tag : tag_answer u p.tag ≡ Done
+  pub tag : tag_answer u p.tag ≡ Ok tt
   pub holds : holds_cycle p ≡ true
 
 -- the byte of a unit in the row of starts

@@ -9,17 +9,10 @@ ghost use Rattle.controller.specs.Bank.{empty};
 ghost use Rattle.chart.specs.Answers.{plan_answer, units_answer, chart_refusal, chart_answer, chart_out, simulate_answer, simulate_out, chart_area};
 
 use controller::Bank;
-use unit::{Answer, FunctionUnit, Plan, Refusal, Tag};
+use unit::{FunctionUnit, Plan, Refusal, Tag};
 
 // An area of this length suffices for every chart of up to 8,192 units.
 pub const CHART: usize = 147858;
-
-// The length of the text, or why nothing was written.
-#[derive(Clone, Copy)]
-pub enum Charted {
-    Length(usize),
-    Refused(Refusal),
-}
 
 // Zeros, room for every chart of up to 8,192 units.
 pub fn area() -> [u8; CHART]
@@ -40,81 +33,56 @@ fn empty_bank() -> Bank
 }
 
 // Whether the plan is one of the unit's, and holds a cycle.
-fn check_plan(u: FunctionUnit, plan: Plan) -> Answer
+fn check_plan(u: FunctionUnit, plan: Plan) -> Result<(), Refusal>
     ensures { result ≡ plan_answer u plan }
 {
-    let known = unit::check_tag(u, Tag(plan.tag));
-    match known {
-        Answer::Refused(why) => Answer::Refused(why),
-        Answer::Done => {
-            if plan_record::holds_cycle(plan) {
-                return Answer::Done;
-            }
-            Answer::Refused(Refusal::BadRecord)
-        }
+    unit::check_tag(u, Tag(plan.tag))?;
+    if plan_record::holds_cycle(plan) {
+        return Ok(());
     }
+    Err(Refusal::BadRecord)
 }
 
 // Whether every one of so many units is played.
-fn check_units(u: FunctionUnit, plan: Plan, units: u32) -> Answer
+fn check_units(u: FunctionUnit, plan: Plan, units: u32) -> Result<(), Refusal>
     ensures { result ≡ units_answer u plan units }
 {
     let mut position: u16 = 0;
     let mut bank = empty_bank();
-    let mut i: u32 = 0;
-    while i < units {
+    for _ in 0..units {
         let next = simulator::step(u, plan, position, bank);
-        let answer = next.answer;
-        if let Answer::Refused(why) = answer {
-            return Answer::Refused(why);
-        }
+        next.answer?;
         position = next.position;
         bank = next.bank;
-        i += 1;
     }
-    Answer::Done
+    Ok(())
 }
 
 // Whether there is a chart, for which so many bytes have room. The room is tried before the units are played, so that the time goes by it.
-fn check_chart(u: FunctionUnit, plan: Plan, units: u32, room: usize) -> Answer
+fn check_chart(u: FunctionUnit, plan: Plan, units: u32, room: usize) -> Result<(), Refusal>
     ensures { result ≡ chart_refusal u plan units room }
 {
-    let known = check_plan(u, plan);
-    match known {
-        Answer::Refused(why) => Answer::Refused(why),
-        Answer::Done => {
-            if room < rows::length_of(u.segments, units) {
-                return Answer::Refused(Refusal::ShortOutput);
-            }
-            check_units(u, plan, units)
-        }
+    check_plan(u, plan)?;
+    if room < rows::length_of(u.segments, units) {
+        return Err(Refusal::ShortOutput);
     }
+    check_units(u, plan, units)
 }
 
 // The chart of a plan, played on a unit for so many time units.
-pub fn chart(u: FunctionUnit, plan: Plan, units: u32, out: &mut [u8]) -> Charted
+pub fn chart(u: FunctionUnit, plan: Plan, units: u32, out: &mut [u8]) -> Result<usize, Refusal>
     ensures value { result ≡ chart_answer u plan units (length out.old) }
     ensures out_after { out.new ≡ chart_out u plan units out.old }
 {
-    let checked = check_chart(u, plan, units, out.len());
-    match checked {
-        Answer::Refused(why) => Charted::Refused(why),
-        Answer::Done => {
-            let end = rows::put_chart(out, u, plan, units);
-            Charted::Length(end)
-        }
-    }
+    check_chart(u, plan, units, out.len())?;
+    Ok(rows::put_chart(out, u, plan, units))
 }
 
 // The chart of a function's own plan.
-pub fn simulate(u: FunctionUnit, tag: Tag, units: u32, out: &mut [u8]) -> Charted
+pub fn simulate(u: FunctionUnit, tag: Tag, units: u32, out: &mut [u8]) -> Result<usize, Refusal>
     ensures value { result ≡ simulate_answer u tag.0 units (length out.old) }
     ensures out_after { out.new ≡ simulate_out u tag.0 units out.old }
 {
-    let own = function_plan::read_for(u, tag);
-    let answer = own.answer;
-    match answer {
-        Answer::Refused(why) => Charted::Refused(why),
-        Answer::Done => chart(u, own.plan, units, out),
-    }
+    let plan = function_plan::read_for(u, tag)?;
+    chart(u, plan, units, out)
 }

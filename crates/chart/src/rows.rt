@@ -14,10 +14,8 @@ fn put_units(out: &mut [u8], at: usize, units: usize) -> usize
     requires { (units < 4294967296) × (at + units ≤ length out.old) }
     ensures { Wrote out.old at (list_below units unit_digit) out.new result }
 {
-    let mut i: usize = 0;
-    while i < units {
+    for i in 0..units {
         out[at + i] = 48 + ((i + 1) % 10) as u8;
-        i += 1;
     }
     at + units
 }
@@ -51,14 +49,12 @@ fn put_starts(out: &mut [u8], at: usize, u: FunctionUnit, plan: Plan, units: usi
     let mut position: u16 = 0;
     let mut bank = crate::empty_bank();
     let mut tasks: usize = 0;
-    let mut i: usize = 0;
-    while i < units {
+    for i in 0..units {
         let next = simulator::step(u, plan, position, bank);
         out[at + i] = start_cell(next.started, tasks);
         tasks += next.started as usize;
         position = next.position;
         bank = next.bank;
-        i += 1;
     }
     at + units
 }
@@ -107,11 +103,9 @@ fn cell_at(
     ensures { result ≡ cells_in bytes.now from marks columns segment i }
 {
     let mut cell = b'.';
-    let mut c: usize = 0;
-    while c < columns {
-        let is_marked = words::test(marks[c] as u32, segment);
+    for (c, word) in marks[..columns].iter().enumerate() {
+        let is_marked = words::test(*word as u32, segment);
         cell = next_cell(bytes, from, i, c, is_marked, cell);
-        c += 1;
     }
     cell
 }
@@ -131,12 +125,10 @@ fn put_cells(
     ensures out_after { out.new ≡ placed out.old at (list_below units (cells_in out.old from marks columns segment)) }
 {
     let mut count: usize = 0;
-    let mut i: usize = 0;
-    while i < units {
+    for i in 0..units {
         let cell = cell_at(out, from, i, marks, columns, segment);
         out[at + i] = cell;
         count += (cell != b'.') as usize;
-        i += 1;
     }
     count
 }
@@ -149,6 +141,7 @@ fn spaces_before(number: u32, most: u32) -> usize
     let mut rest = number;
     let mut room = most;
     let mut spaces: usize = 0;
+    // A while: both numbers lose a digit in each turn, and none is counted up to.
     while 10 <= room {
         if rest < 10 {
             spaces += 1;
@@ -225,10 +218,8 @@ fn put_segments(
     ensures { Put (line_length units * segments) out.old at (lines_text out.old (row_from units) marks columns units segments) out.new result }
 {
     let mut end = at;
-    let mut segment: u32 = 0;
-    while segment < segments {
+    for segment in 0..segments {
         end = put_segment(out, end, units, marks, columns, segment);
-        segment += 1;
     }
     end
 }

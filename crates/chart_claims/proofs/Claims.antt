@@ -1,5 +1,6 @@
 -- What a chart shows. The argument: the k-th start is the k-th of the cycle, because between two starts of it there is none; a cell that has a task by
 -- one start has it by no other, because no two tasks meet. Assumes nothing.
+use Rattle.std.proofs.Common.{Result, Ok, Err}
 use Prim.Native.Nat.{ℕ, zero, suc, ◌+◌, ◌-◌, ◌*◌, ◌%◌, ◌≤◌, ◌<◌}
 use mathlib.Core.Path.{◌≡◌, refl, sym, ap, ◌∙◌, subst}
 use mathlib.Core.Bool.{Bool, true, false, cond, not, ◌&&◌, ◌||◌}
@@ -19,8 +20,7 @@ use Rattle.unit.specs.declared.Plan.{Plan}
 use Rattle.unit.specs.declared.FunctionUnit.{FunctionUnit}
 use Rattle.unit.specs.declared.Refusal.{Refusal}
 use Rattle.unit.specs.declared.Refusal.TheVariants.{NotSound, NoSuchTag, BadRecord, NotGranted, ShortOutput}
-use Rattle.unit.specs.declared.Answer.{Answer}
-use Rattle.unit.specs.declared.Answer.TheVariants.{Done, Refused}
+use Rattle.unit.specs.Answers.{Answer}
 use Rattle.unit.specs.Numbers.{number_of, number_in}
 use Rattle.unit.specs.Unit.{inside, somewhere, marked, sound_of}
 use Rattle.unit.specs.Calls.{check, and_then, tag_answer}
@@ -40,8 +40,6 @@ use Rattle.simulator.specs.Step.{bit_of, position_after, step_answer, playing, p
 use Rattle.simulator.specs.Play.{place_after, unit_after}
 use Rattle.simulator.specs.Claims.{FallsOn, Plays, FoundPlan}
 use Rattle.simulator.proofs.Claims.{every_search_plays}
-use Rattle.chart.specs.declared.Charted.{Charted}
-use Rattle.chart.specs.declared.Charted.TheVariants as Charted
 use Rattle.chart.specs.Cells.{letter, none, tasks_before, start_cell, cell_of, segment_cell}
 use Rattle.chart.specs.Text.{chart_of}
 use Rattle.chart.specs.Answers.{plan_answer, units_answer, charted, chart_refusal, chart_answer, simulate_refusal, simulate_answer}
@@ -93,12 +91,12 @@ letters_apart u sound q cycle rising r s time j k h x y e =
     omega (arith, letter_place j k e, near)
 
 abbrev why_of : Answer → Refusal
-why_of Done = NotGranted
-why_of (Refused why) = why
+why_of (Ok _) = NotGranted
+why_of (Err why) = why
 
 step_says : (a : Answer) (u : FunctionUnit) (p : Plan) (i : ℕ) (b : Bank) → (playing a u p i b).answer ≡ a
-step_says Done u p i b = refl
-step_says (Refused why) u p i b = refl
+step_says (Ok _) u p i b = refl
+step_says (Err why) u p i b = refl
 
 -- Starts
 
@@ -107,7 +105,7 @@ module _ (u : FunctionUnit) (p : Plan) (plays : Plays u p) where
   unfolding play_of step_answer
   ready =
       let place = place_after u p 0 in
-      let done : step_answer u p place.position place.bank ≡ Done =
+      let done : step_answer u p place.position place.bank ≡ Ok tt =
       sym (step_says (step_answer u p place.position place.bank) u p place.position place.bank) ∙ (plays.each 0).accepted in
       let rest = check_next (sound_of u) NotSound _ done in
       let ring = check_ok (holds_cycle p && ltb place.position p.sum) BadRecord _ (check_next (inside p.tag u.functions) NoSuchTag _ rest) in
@@ -277,7 +275,7 @@ module _ (u : FunctionUnit) (p : Plan) (plays : Plays u p) where
         (λ d e. let h = hit_has d e in h.letter_is ∙ ap letter (one_task s (n + 1) h.task k h.serves x))
         c (omega arith) here
 
-  shown_played : (n : ℕ) → units_answer u p n ≡ Done
+  shown_played : (n : ℕ) → units_answer u p n ≡ Ok tt
   shown_played zero = units_none u p
   shown_played (suc n) =
       ap (units_answer u p) (sym (add-one n)) ∙ units_more u p n ∙ ap (λ (a : Answer). and_then a (unit_after u p n).answer) (shown_played n) ∙ (plays.each n).accepted
@@ -312,10 +310,10 @@ module _ (u : FunctionUnit) (p : Plan) (r : Ready u p) where
   place_below (suc n) = go (step_answer u p (place_after u p n).position (place_after u p n).bank) (place_below n)
     where
       go : (a : Answer) → (place_after u p n).position < p.sum → (playing a u p (place_after u p n).position (place_after u p n).bank).position < p.sum
-      go Done h = after_below (place_after u p n).position h
-      go (Refused why) h = h
+      go (Ok _) h = after_below (place_after u p n).position h
+      go (Err why) h = h
 
-  ten_step : (i : ℕ) (b : Bank) (why : Refusal) → i < p.sum → (play_of u p i b).answer ≡ Refused why → why ≡ NotGranted
+  ten_step : (i : ℕ) (b : Bank) (why : Refusal) → i < p.sum → (play_of u p i b).answer ≡ Err why → why ≡ NotGranted
   unfolding play_of step_answer
   ten_step i b why h e =
       let a = tag_accepted u p.tag r.tag in
@@ -323,21 +321,21 @@ module _ (u : FunctionUnit) (p : Plan) (r : Ready u p) where
       (and_true r.holds (lt-ltb i p.sum h)) (sym (step_says (step_answer u p i b) u p i b) ∙ e)
     where
       go : (s m l g : Bool) → s ≡ true → m ≡ true → l ≡ true
-          → check s NotSound (check m NoSuchTag (check l BadRecord (check g NotGranted Done))) ≡ Refused why → why ≡ NotGranted
+          → check s NotSound (check m NoSuchTag (check l BadRecord (check g NotGranted (Ok tt)))) ≡ Err why → why ≡ NotGranted
       go true true true true x y z e = never_done (sym e)
       go true true true false x y z e = sym (ap why_of e)
       go true true false g x y z e = nowhere z
       go true false l g x y z e = nowhere y
       go false m l g x y z e = nowhere x
 
-  ten_units : (n : ℕ) (why : Refusal) → units_answer u p n ≡ Refused why → why ≡ NotGranted
+  ten_units : (n : ℕ) (why : Refusal) → units_answer u p n ≡ Err why → why ≡ NotGranted
   unfolding units_answer
   ten_units zero why e = never_done (sym e)
   ten_units (suc n) why e = go (units_answer u p n) refl e (ten_units n why)
     where
-      go : (a : Answer) → units_answer u p n ≡ a → and_then a (unit_after u p n).answer ≡ Refused why → (units_answer u p n ≡ Refused why → why ≡ NotGranted) → why ≡ NotGranted
-      go Done d e f = ten_step (place_after u p n).position (place_after u p n).bank why (place_below n) e
-      go (Refused w) d e f = f (d ∙ e)
+      go : (a : Answer) → units_answer u p n ≡ a → and_then a (unit_after u p n).answer ≡ Err why → (units_answer u p n ≡ Err why → why ≡ NotGranted) → why ≡ NotGranted
+      go (Ok _) d e f = ten_step (place_after u p n).position (place_after u p n).bank why (place_below n) e
+      go (Err w) d e f = f (d ∙ e)
 
 pub ten_alone : TenAlone
 ten_alone u p n why d e = ten_units u p (plan_ready u p d) n why e
@@ -355,16 +353,16 @@ search_charted u after q before words s n room h =
     let shows = plays_shown after plan plays in
     let a = tag_accepted u q (then_both (tag_answer u q) _ (sym s.says)).0 in
     let own : plan.tag ≡ q = ap (λ (x : FunctionUnit). x.plan.tag) f.unit in
-    let known : tag_answer after q ≡ Done = subst (λ k. tag_answer after k ≡ Done) own (ready after plan plays).tag in
+    let known : tag_answer after q ≡ Ok tt = subst (λ k. tag_answer after k ≡ Ok tt) own (ready after plan plays).tag in
     simp ((own_exactly after q known).done.1 own, shows.plan, le-leb (length (chart_of after plan n)) room h, shows.played n)
 
 -- Room
 
 -- no step is refused by 6
 abbrev NotShort : Answer → Type 0
-NotShort a = a ≡ Refused ShortOutput → ⊥
+NotShort a = a ≡ Err ShortOutput → ⊥
 
-done_not : NotShort Done
+done_not : NotShort (Ok tt)
 done_not e = never_done (sym e)
 
 check_not : (b : Bool) (why : Refusal) (rest : Answer) → (number_of why ≡ 6 → ⊥) → NotShort rest → NotShort (check b why rest)
@@ -372,8 +370,8 @@ check_not true why rest n r = r
 check_not false why rest n r = λ e. n (ap number_in e)
 
 then_not : (a b : Answer) → NotShort a → NotShort b → NotShort (and_then a b)
-then_not Done b x y = y
-then_not (Refused why) b x y = x
+then_not (Ok _) b x y = y
+then_not (Err why) b x y = x
 
 step_not : (u : FunctionUnit) (p : Plan) (i : ℕ) (b : Bank) → NotShort (play_of u p i b).answer
 unfolding play_of step_answer
@@ -381,30 +379,30 @@ step_not u p i b e =
     check_not (sound_of u) NotSound _ (λ z. omega (arith, z))
     (check_not (inside p.tag u.functions) NoSuchTag _ (λ z. omega (arith, z))
     (check_not (holds_cycle p && ltb i p.sum) BadRecord _ (λ z. omega (arith, z))
-    (check_not (bit_of p i || granted b p.tag) NotGranted Done (λ z. omega (arith, z)) done_not)))
+    (check_not (bit_of p i || granted b p.tag) NotGranted (Ok tt) (λ z. omega (arith, z)) done_not)))
     (sym (step_says (step_answer u p i b) u p i b) ∙ e)
 
 plan_not : (u : FunctionUnit) (p : Plan) → NotShort (plan_answer u p)
 unfolding plan_answer tag_answer
 plan_not u p =
     then_not (tag_answer u p.tag) _
-    (check_not (sound_of u) NotSound _ (λ z. omega (arith, z)) (check_not (inside p.tag u.functions) NoSuchTag Done (λ z. omega (arith, z)) done_not))
-    (check_not (holds_cycle p) BadRecord Done (λ z. omega (arith, z)) done_not)
+    (check_not (sound_of u) NotSound _ (λ z. omega (arith, z)) (check_not (inside p.tag u.functions) NoSuchTag (Ok tt) (λ z. omega (arith, z)) done_not))
+    (check_not (holds_cycle p) BadRecord (Ok tt) (λ z. omega (arith, z)) done_not)
 
 units_not : (u : FunctionUnit) (p : Plan) (n : ℕ) → NotShort (units_answer u p n)
 unfolding units_answer
 units_not u p zero = done_not
 units_not u p (suc n) = then_not (units_answer u p n) _ (units_not u p n) (step_not u p (place_after u p n).position (place_after u p n).bank)
 
-abbrev why_not : Charted → Answer
-why_not (Charted.Length n) = Done
-why_not (Charted.Refused why) = Refused why
+abbrev why_not : Result ℕ Refusal → Answer
+why_not (Ok n) = Ok tt
+why_not (Err why) = Err why
 
 pub chart_fits : ChartFits
 unfolding chart_answer chart_refusal
 chart_fits u p n room h r e = go (plan_answer u p) refl (leb (length (chart_of u p n)) room) refl (units_answer u p n) refl e
   where
-    short : plan_answer u p ≡ Done → length (chart_of u p n) ≤ room
+    short : plan_answer u p ≡ Ok tt → length (chart_of u p n) ≤ room
     short d =
         let ready = plan_ready u p d in
         let digits = decimal_length n 4 (omega arith) (omega arith) in
@@ -414,8 +412,8 @@ chart_fits u p n room h r e = go (plan_answer u p) refl (leb (length (chart_of u
         omega (arith, chart_length u p ready n (omega arith), all)
 
     go : (a : Answer) → plan_answer u p ≡ a → (b : Bool) → leb (length (chart_of u p n)) room ≡ b → (c : Answer) → units_answer u p n ≡ c
-        → charted (and_then a (check b ShortOutput c)) (chart_of u p n) ≡ Charted.Refused ShortOutput → ⊥
-    go (Refused why) d b t c f e = plan_not u p (d ∙ ap why_not e)
-    go Done d true t Done f e = done_not (ap why_not e)
-    go Done d true t (Refused why) f e = units_not u p n (f ∙ ap why_not e)
-    go Done d false t c f e = absurd (omega (arith, leb-false (length (chart_of u p n)) room t, short d))
+        → charted (and_then a (check b ShortOutput c)) (chart_of u p n) ≡ Err ShortOutput → ⊥
+    go (Err why) d b t c f e = plan_not u p (d ∙ ap why_not e)
+    go (Ok _) d true t (Ok _) f e = done_not (ap why_not e)
+    go (Ok _) d true t (Err why) f e = units_not u p n (f ∙ ap why_not e)
+    go (Ok _) d false t c f e = absurd (omega (arith, leb-false (length (chart_of u p n)) room t, short d))

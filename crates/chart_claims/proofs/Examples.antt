@@ -1,4 +1,5 @@
 -- Charts worked out by hand, and what no chart shows. Assumes nothing.
+use Rattle.std.proofs.Common.{Ok, Err}
 use Prim.Native.Nat.{ℕ, ◌+◌, ◌*◌}
 use mathlib.Core.Path.{◌≡◌, refl, sym, ap, ◌∙◌}
 use mathlib.Core.List.{[], ◌∷◌, ◌++◌}
@@ -8,7 +9,6 @@ use Rattle.words.specs.Below.{some_below, count_below, word_below, list_below, j
 use Rattle.text.specs.Text.{ascii, digits, decimal, same}
 use Rattle.unit.specs.declared.FunctionUnit.{FunctionUnit}
 use Rattle.unit.specs.declared.Refusal.TheVariants.{NotSound, NoSuchTag, BadRecord, NotGranted, ShortOutput, NoPlan}
-use Rattle.unit.specs.declared.Answer.TheVariants.{Done, Refused}
 use Rattle.unit.specs.Unit.{marked, marks_inside, sound_of}
 use Rattle.unit.specs.Calls.{tag_answer, no_plan}
 use Rattle.unit.proofs.Laws.{never_done}
@@ -22,8 +22,6 @@ use Rattle.function_plan.specs.Own.{own_answer}
 use Rattle.simulator.specs.Step.{step_answer, play_of}
 use Rattle.simulator.specs.Play.{place_after}
 use Rattle.simulator.proofs.Examples.{plan, marked1, figure1, three_four, twice, one}
-use Rattle.chart.specs.declared.Charted.{Charted}
-use Rattle.chart.specs.declared.Charted.TheVariants as Charted
 use Rattle.chart.specs.Cells.{letter, tasks_before, start_cell, cell_of, segment_cell}
 use Rattle.chart.specs.Text.{segment_line, chart_text, chart_of}
 use Rattle.chart.specs.Answers.{plan_answer, units_answer, charted, chart_refusal, chart_answer, chart_area, simulate_refusal, simulate_answer}
@@ -47,15 +45,15 @@ no_units = refl
 -- Answers, by the lowest number that applies
 
 -- two lines of 10 bytes and five of 19 for one unit: 115 bytes are enough, 114 are refused by 6
-pub just_room : (chart_answer figure1 three_four 1 115 ≡ Charted.Length 115) × (chart_answer figure1 three_four 1 114 ≡ Charted.Refused ShortOutput)
+pub just_room : (chart_answer figure1 three_four 1 115 ≡ Ok 115) × (chart_answer figure1 three_four 1 114 ≡ Err ShortOutput)
 unfolding no_plan chart_answer chart_refusal plan_answer tag_answer units_answer place_after play_of step_answer sound_of marks_inside marked some_below holds_cycle recordable same ring_of ring_byte starts list_below word_below register moved row_for row_word collides chart_text segment_line start_cell tasks_before cell_of count_below join_below decimal digits
 just_room = (refl, refl)
 
 -- a unit that is not sound, a tag that it has not, a plan that holds no cycle: before the room
 pub before_room :
-    (chart_answer (marked1 0) (plan 2 2 8) 1 0 ≡ Charted.Refused NotSound)
-    × (chart_answer figure1 (plan 2 2 8) 1 0 ≡ Charted.Refused NoSuchTag)
-    × (chart_answer figure1 (plan 1 2 8) 1 0 ≡ Charted.Refused BadRecord)
+    (chart_answer (marked1 0) (plan 2 2 8) 1 0 ≡ Err NotSound)
+    × (chart_answer figure1 (plan 2 2 8) 1 0 ≡ Err NoSuchTag)
+    × (chart_answer figure1 (plan 1 2 8) 1 0 ≡ Err BadRecord)
 unfolding chart_answer chart_refusal plan_answer tag_answer sound_of marks_inside marked some_below holds_cycle recordable
 before_room = (refl, refl, refl)
 
@@ -63,7 +61,7 @@ before_room = (refl, refl, refl)
 abbrev unplanned : FunctionUnit
 unplanned = record { functions = 1; segments = 5; columns = 9; marks = figure1.marks; plan = plan 0 2 8 }
 
-pub no_plan_lem : (simulate_answer unplanned 1 1 0 ≡ Charted.Refused NoPlan) × (simulate_answer unplanned 2 1 0 ≡ Charted.Refused NoSuchTag)
+pub no_plan_lem : (simulate_answer unplanned 1 1 0 ≡ Err NoPlan) × (simulate_answer unplanned 2 1 0 ≡ Err NoSuchTag)
 unfolding simulate_answer simulate_refusal own_answer tag_answer read_answer sound_of marks_inside marked some_below
 no_plan_lem = (refl, refl)
 
@@ -71,18 +69,18 @@ no_plan_lem = (refl, refl)
 
 -- the first unit is drawn, and the second refused by 10, unless the room is too short
 pub two_units :
-    (chart_answer twice one 1 39 ≡ Charted.Length 39)
-    × (chart_answer twice one 2 42 ≡ Charted.Refused NotGranted)
-    × (chart_answer twice one 2 41 ≡ Charted.Refused ShortOutput)
+    (chart_answer twice one 1 39 ≡ Ok 39)
+    × (chart_answer twice one 2 42 ≡ Err NotGranted)
+    × (chart_answer twice one 2 41 ≡ Err ShortOutput)
 unfolding no_plan chart_answer chart_refusal plan_answer tag_answer units_answer place_after play_of step_answer sound_of marks_inside marked some_below holds_cycle recordable same ring_of ring_byte starts list_below word_below register moved row_for row_word collides chart_text segment_line start_cell tasks_before cell_of count_below join_below decimal digits
 two_units = (refl, refl, refl)
 
-refused_2 : units_answer twice one 2 ≡ Refused NotGranted
+refused_2 : units_answer twice one 2 ≡ Err NotGranted
 unfolding no_plan units_answer place_after play_of step_answer sound_of marks_inside marked some_below holds_cycle recordable same ring_of ring_byte starts list_below word_below register moved row_for row_word collides
 refused_2 = refl
 
 -- and on a unit that is not sound a unit is refused by 1
-pub not_ten : units_answer (marked1 0) three_four 1 ≡ Refused NotSound
+pub not_ten : units_answer (marked1 0) three_four 1 ≡ Err NotSound
 unfolding units_answer place_after play_of step_answer sound_of
 not_ten = refl
 
@@ -103,7 +101,7 @@ not_there f = let e : ◌≡◌ {A = ℕ} 65 66 = f (record { column = 1; marked
 abbrev wide : FunctionUnit
 wide = record { functions = 1; segments = 16; columns = 1; marks = replicate 128 0; plan = one }
 
-wide_done : plan_answer wide one ≡ Done
+wide_done : plan_answer wide one ≡ Ok tt
 unfolding plan_answer tag_answer sound_of marks_inside marked some_below holds_cycle recordable same
 wide_done = refl
 
@@ -111,7 +109,7 @@ wide_length : top_length 8193 + line_length 8193 * 16 ≡ 147876
 unfolding line_length decimal digits
 wide_length = refl
 
-pub too_long : chart_answer wide one 8193 chart_area ≡ Charted.Refused ShortOutput
+pub too_long : chart_answer wide one 8193 chart_area ≡ Err ShortOutput
 unfolding chart_answer
 too_long = ap (λ a. charted a (chart_of wide one 8193)) (sym (refused_short wide one 8193 chart_area (omega arith) wide_done 147876 (sym wide_length) (omega arith)))
 

@@ -1,11 +1,10 @@
 -- Sets of whole numbers of which every two differ by a forbidden latency. Two tasks never start as far apart as two of the numbers, so that the times
 -- of all starts, each moved by every number, are different: the size of the set is a lower bound on the average latency (`lower`, proofs/LowerLaws.antt).
-use Rattle.std.specs.Prelude.{◌≡◌, true, ◌↔◌, List, ℕ, ◌-◌, ◌≤◌, ◌<◌, length, get_or}
+use Rattle.std.specs.Prelude.{◌≡◌, true, ◌↔◌, List, ℕ, ◌-◌, ◌≤◌, ◌<◌, length, get_or, Ok}
 use Rattle.words.specs.Below.{count_below}
 use Rattle.unit.specs.declared.FunctionUnit.{FunctionUnit}
 use Rattle.unit.specs.Table.{Table}
 use Rattle.unit.specs.Unit.{marked}
-use Rattle.collision.specs.declared.Number.TheVariants as Number
 use Rattle.collision.specs.Pipeline.{Forbidden}
 use Rattle.collision.specs.Answers.{marks_answer, bound_answer}
 use Rattle.diagram.specs.States.{Distinct}
@@ -40,8 +39,8 @@ pub record IsRowMaximum (T : Table) (q n : ℕ) : Type 0 where
 
 -- a bound is the size of the largest set, and the paper's row maximum (`every_bound`, proofs/RowLaws.antt)
 abbrev pub EveryBound : Type 0
-EveryBound = (u : FunctionUnit) (q n : ℕ) → bound_answer u q ≡ Number.Value n → IsLargestClique (marked u) q n × IsRowMaximum (marked u) q n
+EveryBound = (u : FunctionUnit) (q n : ℕ) → bound_answer u q ≡ Ok n → IsLargestClique (marked u) q n × IsRowMaximum (marked u) q n
 
 -- no segment has more marks than the bound (`every_marks`, proofs/SegmentLaws.antt)
 abbrev pub EveryMarks : Type 0
-EveryMarks = (u : FunctionUnit) (q l n : ℕ) → marks_answer u q ≡ Number.Value l → bound_answer u q ≡ Number.Value n → l ≤ n
+EveryMarks = (u : FunctionUnit) (q l n : ℕ) → marks_answer u q ≡ Ok l → bound_answer u q ≡ Ok n → l ≤ n

@@ -8,25 +8,14 @@ ghost use Rattle.collision.specs.Vector.{row_of_columns, row_word};
 ghost use Rattle.collision.specs.Answers.{tags_answer, vector_answer, row_answer};
 ghost use Rattle.collision.specs.Inner.{SameWords, Joins, Common};
 
-use unit::{Answer, FunctionUnit, Refusal, Tag};
-
-// A number that was asked for, or why there is none.
-#[derive(Clone, Copy)]
-pub enum Number {
-    Value(u32),
-    Refused(Refusal),
-}
+use unit::{FunctionUnit, Refusal, Tag};
 
 // The columns of a function, with as many empty ones after them.
 fn padded(columns: [u16; 32]) -> [u16; 64]
     ensures { SameWords columns result }
 {
     let mut wide = [0u16; 64];
-    let mut i: usize = 0;
-    while i < 32 {
-        wide[i] = columns[i];
-        i += 1;
-    }
+    wide[..32].copy_from_slice(&columns);
     wide
 }
 
@@ -36,10 +25,8 @@ fn join_column(common: &mut [u16; 32], earlier: &[u16; 64], column: usize, word:
     requires { (column < 32) × (length common.old ≡ 32) }
     ensures { Joins earlier.now column word common.old common.new }
 {
-    let mut apart: usize = 0;
-    while apart < 32 {
+    for apart in 0..32 {
         common[apart] = common[apart] | (word & earlier[column + apart]);
-        apart += 1;
     }
 }
 
@@ -50,10 +37,8 @@ fn common_segments(later: [u16; 32], earlier: [u16; 32]) -> [u16; 32]
 {
     let wide = padded(earlier);
     let mut common = [0u16; 32];
-    let mut passed: usize = 0;
-    while passed < 32 {
-        join_column(&mut common, &wide, passed, later[passed]);
-        passed += 1;
+    for (passed, word) in later.iter().enumerate() {
+        join_column(&mut common, &wide, passed, *word);
     }
     common
 }
@@ -65,12 +50,10 @@ pub fn row_of(later: [u16; 32], earlier: [u16; 32]) -> u32
 {
     let common = common_segments(later, earlier);
     let mut row: u32 = 0;
-    let mut latency: u32 = 1;
-    while latency < 32 {
+    for latency in 1..32 {
         if common[latency as usize] != 0 {
             row = words::set(row, latency - 1);
         }
-        latency += 1;
     }
     row
 }
@@ -85,34 +68,25 @@ fn row_of_tags(u: FunctionUnit, later: Tag, earlier: Tag) -> u32
 }
 
 // What a question about two functions tries first: the unit, then either tag.
-fn check_tags(u: FunctionUnit, one: Tag, other: Tag) -> Answer
+fn check_tags(u: FunctionUnit, one: Tag, other: Tag) -> Result<(), Refusal>
     ensures { result ≡ tags_answer u one.0 other.0 }
 {
-    let first = unit::check_tag(u, one);
-    match first {
-        Answer::Refused(why) => Answer::Refused(why),
-        Answer::Done => unit::check_tag(u, other),
-    }
+    unit::check_tag(u, one)?;
+    unit::check_tag(u, other)
 }
 
 // The collision vector of a function: bit t - 1 is 1 exactly where the latency t is forbidden.
-pub fn vector(u: FunctionUnit, tag: Tag) -> Number
+pub fn vector(u: FunctionUnit, tag: Tag) -> Result<u32, Refusal>
     ensures { result ≡ vector_answer u tag.0 }
 {
-    let answer = unit::check_tag(u, tag);
-    match answer {
-        Answer::Refused(why) => Number::Refused(why),
-        Answer::Done => Number::Value(row_of_tags(u, tag, tag)),
-    }
+    unit::check_tag(u, tag)?;
+    Ok(row_of_tags(u, tag, tag))
 }
 
 // Row q of the matrix M_r: bit t - 1 is 1 exactly where q, started t after r, would collide with it.
-pub fn matrix_row(u: FunctionUnit, q: Tag, r: Tag) -> Number
+pub fn matrix_row(u: FunctionUnit, q: Tag, r: Tag) -> Result<u32, Refusal>
     ensures { result ≡ row_answer u q.0 r.0 }
 {
-    let answer = check_tags(u, q, r);
-    match answer {
-        Answer::Refused(why) => Number::Refused(why),
-        Answer::Done => Number::Value(row_of_tags(u, q, r)),
-    }
+    check_tags(u, q, r)?;
+    Ok(row_of_tags(u, q, r))
 }

@@ -22,11 +22,9 @@ fn write_columns(out: &mut [u8], at: usize, columns: u32, word: u32) -> usize
     ensures { Wrote out.old at (column_text columns word) out.new result }
 {
     let mut end = at;
-    let mut written = 0;
-    while written < columns {
-        out[end] = column_byte(word, columns - 1 - written);
+    for index in (0..columns).rev() {
+        out[end] = column_byte(word, index);
         end += 1;
-        written += 1;
     }
     end
 }

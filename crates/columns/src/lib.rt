@@ -8,7 +8,7 @@ ghost use Rattle.unit.specs.Inner.{Somewhere};
 ghost use Rattle.unit.specs.Unit.{place, columns_of};
 ghost use Rattle.unit.specs.Calls.{with_word, column_answer, column_of};
 
-use unit::{Answer, FunctionUnit, Outcome, Refusal, Tag};
+use unit::{FunctionUnit, Outcome, Refusal, Tag};
 
 // The index of the word of a tag in a column.
 fn place_of(tag: u8, column: u8) -> usize
@@ -37,23 +37,18 @@ fn with_word(u: FunctionUnit, tag: u8, column: u8, word: u16) -> FunctionUnit
 }
 
 // Whether a column's word can be given to a function.
-fn check_column(u: FunctionUnit, tag: Tag, column: u8, word: u16) -> Answer
+fn check_column(u: FunctionUnit, tag: Tag, column: u8, word: u16) -> Result<(), Refusal>
     ensures { result ≡ column_answer u tag.0 column word }
 {
-    let first = unit::check_tag(u, tag);
-    match first {
-        Answer::Refused(why) => Answer::Refused(why),
-        Answer::Done => {
-            let top: u32 = 1 << u.segments;
-            if top <= (word as u32) {
-                return Answer::Refused(Refusal::NoSuchSegment);
-            }
-            if !words::is_inside(column, u.columns) {
-                return Answer::Refused(Refusal::NoSuchColumn);
-            }
-            Answer::Done
-        }
+    unit::check_tag(u, tag)?;
+    let top: u32 = 1 << u.segments;
+    if top <= (word as u32) {
+        return Err(Refusal::NoSuchSegment);
     }
+    if !words::is_inside(column, u.columns) {
+        return Err(Refusal::NoSuchColumn);
+    }
+    Ok(())
 }
 
 // Gives a function all its marks in one column at once, bit r - 1 for segment r, and drops the plan.
@@ -62,14 +57,14 @@ pub fn with_column(u: FunctionUnit, tag: Tag, column: u8, word: u16) -> Outcome
 {
     let answer = check_column(u, tag, column, word);
     match answer {
-        Answer::Refused(why) => Outcome {
-            answer: Answer::Refused(why),
+        Err(why) => Outcome {
+            answer: Err(why),
             unit: u,
         },
-        Answer::Done => {
+        Ok(()) => {
             let filled = with_word(u, tag.0, column, word);
             Outcome {
-                answer: Answer::Done,
+                answer: Ok(()),
                 unit: filled,
             }
         }
@@ -85,12 +80,7 @@ pub fn columns_of(u: FunctionUnit, tag: Tag) -> [u16; 32]
     if !words::is_inside(tag.0, 4) {
         return columns;
     }
-    let marks = u.marks;
     let first = (tag.0 as usize - 1) * 32;
-    let mut i: usize = 0;
-    while i < 32 {
-        columns[i] = marks[first + i];
-        i += 1;
-    }
+    columns.copy_from_slice(&u.marks[first..first + 32]);
     columns
 }

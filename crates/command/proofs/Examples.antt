@@ -1,4 +1,5 @@
 -- Lines and what they say, worked out by hand. Assumes nothing.
+use Rattle.std.proofs.Common.{Ok, Err, Some, None}
 use mathlib.Core.Path.{◌≡◌, refl}
 use mathlib.Core.Bool.{true, false}
 use mathlib.Core.List.{[], ◌∷◌}
@@ -9,16 +10,14 @@ use Rattle.command_table.specs.declared.Ask.TheVariants as Ask
 use Rattle.command_table.specs.declared.Show.TheVariants as Show
 use Rattle.command_table.specs.declared.View.TheVariants as View
 use Rattle.command_table.specs.declared.Verb.{Verb}
-use Rattle.command_table.specs.declared.Verb.TheVariants as Verb
 use Rattle.command_table.specs.declared.Form.TheVariants as Form
 use Rattle.command_table.specs.Commands.{row_at, name_at, among, command_of}
 use Rattle.command.specs.declared.Trouble.TheVariants as Trouble
-use Rattle.command.specs.declared.Parsed.{Parsed}
-use Rattle.command.specs.declared.Parsed.TheVariants as Parsed
+use Rattle.command.specs.Parsed.{Parsed}
 use Rattle.command.specs.Lines.{text_of, parts_of, words_of, digits_only, is_number, number_said, all_numbers, fits, said, meaning, latencies_in, tags_in, word_in}
 
 abbrev command : Verb → ℕ → ℕ → ℕ → ℕ → Parsed
-command v count first second third = Parsed.Command (record { verb = v; count = count; first = first; second = second; third = third })
+command v count first second third = Ok (Some (record { verb = v; count = count; first = first; second = second; third = third }))
 
 pub three_numbers : meaning (ascii "mark 1 2 3") ≡ command (Verb.Act Act.Mark) 3 1 2 3
 unfolding meaning text_of said words_of parts_of command_of among same name_at row_at all_numbers is_number digits_only number_said value
@@ -36,31 +35,31 @@ pub blank_before_the_return : meaning (ascii "read \r") ≡ command (Verb.Act Ac
 unfolding meaning text_of said words_of parts_of command_of among same name_at row_at all_numbers is_number digits_only number_said value
 blank_before_the_return = refl
 
-pub return_inside : meaning (ascii "search 1\r ") ≡ Parsed.Bad (Trouble.Usage 3)
+pub return_inside : meaning (ascii "search 1\r ") ≡ Err (Trouble.Usage 3)
 unfolding meaning text_of said words_of parts_of command_of among same name_at row_at all_numbers is_number digits_only number_said value
 return_inside = refl
 
-pub two_returns : meaning (ascii "search 1\r\r") ≡ Parsed.Bad (Trouble.Usage 3)
+pub two_returns : meaning (ascii "search 1\r\r") ≡ Err (Trouble.Usage 3)
 unfolding meaning text_of said words_of parts_of command_of among same name_at row_at all_numbers is_number digits_only number_said value
 two_returns = refl
 
-pub a_comment : meaning (ascii "#x") ≡ Parsed.Nothing
+pub a_comment : meaning (ascii "#x") ≡ Ok None
 unfolding meaning text_of said words_of parts_of command_of among same name_at row_at all_numbers is_number digits_only number_said value
 a_comment = refl
 
-pub comment_after_blanks : meaning (ascii " \t # x") ≡ Parsed.Nothing
+pub comment_after_blanks : meaning (ascii " \t # x") ≡ Ok None
 unfolding meaning text_of said words_of parts_of command_of among same name_at row_at all_numbers is_number digits_only number_said value
 comment_after_blanks = refl
 
-pub empty_line : meaning (ascii "") ≡ Parsed.Nothing
+pub empty_line : meaning (ascii "") ≡ Ok None
 unfolding meaning text_of said words_of parts_of command_of among same name_at row_at all_numbers is_number digits_only number_said value
 empty_line = refl
 
-pub only_blanks : meaning (ascii " \t \r") ≡ Parsed.Nothing
+pub only_blanks : meaning (ascii " \t \r") ≡ Ok None
 unfolding meaning text_of said words_of parts_of command_of among same name_at row_at all_numbers is_number digits_only number_said value
 only_blanks = refl
 
-pub above_a_word : meaning (ascii "search 4294967296") ≡ Parsed.Bad (Trouble.Usage 3)
+pub above_a_word : meaning (ascii "search 4294967296") ≡ Err (Trouble.Usage 3)
 unfolding meaning text_of said words_of parts_of command_of among same name_at row_at all_numbers is_number digits_only number_said value
 above_a_word = refl
 
@@ -76,7 +75,7 @@ pub a_cycle : meaning (ascii "judge 0 3 4 7") ≡ command (Verb.Ask Ask.Judge) 4
 unfolding meaning text_of said words_of parts_of command_of among same name_at row_at all_numbers is_number digits_only number_said value
 a_cycle = refl
 
-pub no_tag : meaning (ascii "judge") ≡ Parsed.Bad (Trouble.Usage 12)
+pub no_tag : meaning (ascii "judge") ≡ Err (Trouble.Usage 12)
 unfolding meaning text_of said words_of parts_of command_of among same name_at row_at all_numbers is_number digits_only number_said value
 no_tag = refl
 
@@ -84,7 +83,7 @@ pub no_words : meaning (ascii "read") ≡ command (Verb.Act Act.Read) 0 0 0 0
 unfolding meaning text_of said words_of parts_of command_of among same name_at row_at all_numbers is_number digits_only number_said value
 no_words = refl
 
-pub no_command : meaning (ascii "nonsense") ≡ Parsed.Bad Trouble.NoCommand
+pub no_command : meaning (ascii "nonsense") ≡ Err Trouble.NoCommand
 unfolding meaning text_of said words_of parts_of command_of among same name_at row_at all_numbers is_number digits_only number_said value
 no_command = refl
 
@@ -92,7 +91,7 @@ pub a_file : meaning (ascii "load units/a.unit") ≡ command Verb.Load 1 0 0 0
 unfolding meaning text_of said words_of parts_of command_of among same name_at row_at all_numbers is_number digits_only number_said value
 a_file = refl
 
-pub two_files : meaning (ascii "save a b") ≡ Parsed.Bad (Trouble.Usage 17)
+pub two_files : meaning (ascii "save a b") ≡ Err (Trouble.Usage 17)
 unfolding meaning text_of said words_of parts_of command_of among same name_at row_at all_numbers is_number digits_only number_said value
 two_files = refl
 
@@ -100,7 +99,7 @@ pub a_record : meaning (ascii "record 1 plan") ≡ command (Verb.Show Show.Recor
 unfolding meaning text_of said words_of parts_of command_of among same name_at row_at all_numbers is_number digits_only number_said value
 a_record = refl
 
-pub record_of_a_letter : meaning (ascii "record x plan") ≡ Parsed.Bad (Trouble.Usage 22)
+pub record_of_a_letter : meaning (ascii "record x plan") ≡ Err (Trouble.Usage 22)
 unfolding meaning text_of said words_of parts_of command_of among same name_at row_at all_numbers is_number digits_only number_said value
 record_of_a_letter = refl
 
@@ -108,7 +107,7 @@ pub file_of_digits : meaning (ascii "record 1 2") ≡ command (Verb.Show Show.Re
 unfolding meaning text_of said words_of parts_of command_of among same name_at row_at all_numbers is_number digits_only number_said value
 file_of_digits = refl
 
-pub no_file : meaning (ascii "record 1") ≡ Parsed.Bad (Trouble.Usage 22)
+pub no_file : meaning (ascii "record 1") ≡ Err (Trouble.Usage 22)
 unfolding meaning text_of said words_of parts_of command_of among same name_at row_at all_numbers is_number digits_only number_said value
 no_file = refl
 
@@ -120,7 +119,7 @@ pub a_ring : meaning (ascii "ring plan") ≡ command (Verb.View View.Ring) 1 0 0
 unfolding meaning text_of said words_of parts_of command_of among same name_at row_at all_numbers is_number digits_only number_said value
 a_ring = refl
 
-pub no_digits : meaning (ascii "row 1 x") ≡ Parsed.Bad (Trouble.Usage 6)
+pub no_digits : meaning (ascii "row 1 x") ≡ Err (Trouble.Usage 6)
 unfolding meaning text_of said words_of parts_of command_of among same name_at row_at all_numbers is_number digits_only number_said value
 no_digits = refl
 
@@ -132,7 +131,7 @@ pub no_tags : meaning (ascii "loop") ≡ command (Verb.Show Show.Loop) 0 0 0 0
 unfolding meaning text_of said words_of parts_of command_of among same name_at row_at all_numbers is_number digits_only number_said value
 no_tags = refl
 
-pub a_tag_in_letters : meaning (ascii "loop 1 b") ≡ Parsed.Bad (Trouble.Usage 21)
+pub a_tag_in_letters : meaning (ascii "loop 1 b") ≡ Err (Trouble.Usage 21)
 unfolding meaning text_of said words_of parts_of command_of among same name_at row_at all_numbers is_number digits_only number_said value
 a_tag_in_letters = refl
 
@@ -140,7 +139,7 @@ pub a_simulation : meaning (ascii "simulate 1 21") ≡ command (Verb.Show Show.S
 unfolding meaning text_of said words_of parts_of command_of among same name_at row_at all_numbers is_number digits_only number_said value
 a_simulation = refl
 
-pub no_units : meaning (ascii "simulate 1") ≡ Parsed.Bad (Trouble.Usage 25)
+pub no_units : meaning (ascii "simulate 1") ≡ Err (Trouble.Usage 25)
 unfolding meaning text_of said words_of parts_of command_of among same name_at row_at all_numbers is_number digits_only number_said value
 no_units = refl
 
@@ -156,15 +155,15 @@ pub delays_with_a_file_of_digits : meaning (ascii "delays 1 3 8") ≡ command (V
 unfolding meaning text_of said words_of parts_of command_of among same name_at row_at all_numbers is_number digits_only number_said value
 delays_with_a_file_of_digits = refl
 
-pub delays_of_a_tag_alone : meaning (ascii "delays 1") ≡ Parsed.Bad (Trouble.Usage 26)
+pub delays_of_a_tag_alone : meaning (ascii "delays 1") ≡ Err (Trouble.Usage 26)
 unfolding meaning text_of said words_of parts_of command_of among same name_at row_at all_numbers is_number digits_only number_said value
 delays_of_a_tag_alone = refl
 
-pub delays_of_a_letter : meaning (ascii "delays 1 x") ≡ Parsed.Bad (Trouble.Usage 26)
+pub delays_of_a_letter : meaning (ascii "delays 1 x") ≡ Err (Trouble.Usage 26)
 unfolding meaning text_of said words_of parts_of command_of among same name_at row_at all_numbers is_number digits_only number_said value
 delays_of_a_letter = refl
 
-pub delays_with_two_files : meaning (ascii "delays 1 3 f g") ≡ Parsed.Bad (Trouble.Usage 26)
+pub delays_with_two_files : meaning (ascii "delays 1 3 f g") ≡ Err (Trouble.Usage 26)
 unfolding meaning text_of said words_of parts_of command_of among same name_at row_at all_numbers is_number digits_only number_said value
 delays_with_two_files = refl
 

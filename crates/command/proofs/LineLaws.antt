@@ -1,8 +1,9 @@
 -- What a line says, from its name on. Assumes nothing.
+use Rattle.std.proofs.Common.{Option, Some, Ok, Err, None}
 use mathlib.Core.Path.{◌≡◌, refl, sym, ap, subst, ◌∙◌}
 use mathlib.Core.Bool.{Bool, true, false, cond, ◌&&◌}
-use mathlib.Core.List.{List, [], ◌∷◌, ◌++◌}
-use Prim.Native.Nat.{ℕ, zero, suc, ◌+◌, ◌-◌, ◌≤◌, ◌<◌, min}
+use mathlib.Core.List.{List, [], ◌∷◌}
+use Prim.Native.Nat.{ℕ, ◌+◌, ◌-◌, ◌≤◌, ◌<◌, min}
 use native.Mathlib.Omega.{arith}
 use borrow.Author.Tests.{eq-eqb, ne_eqb, eqb-true, eqb-false, le-leb, lt-leb, leb-true}
 use lib.Dec.{leb, eqb}
@@ -10,18 +11,14 @@ use lib.ListN.{length, get_or, take, drop}
 use lib.Seq.{take_all, drop-drop, get_or-drop}
 use Rattle.words.proofs.Tests.{by_test}
 use Rattle.command_table.specs.declared.Form.{Form}
-use Rattle.command_table.specs.declared.Form.TheVariants as Form
 use Rattle.command_table.specs.declared.Verb.{Verb}
 use Rattle.command_table.specs.declared.Entry.{Entry}
-use Rattle.command_table.specs.declared.Named.{Named}
-use Rattle.command_table.specs.declared.Named.TheVariants as Named
 use Rattle.command_table.specs.Commands.{command_of}
 use Rattle.command.specs.declared.Trouble.TheVariants as Trouble
 use Rattle.command.specs.declared.Request.{Request}
-use Rattle.command.specs.declared.Parsed.{Parsed}
-use Rattle.command.specs.declared.Parsed.TheVariants as Parsed
+use Rattle.command.specs.Parsed.{Parsed}
 use Rattle.command.specs.declared.scan.Scan.{Scan}
-use Rattle.command.specs.Lines.{text_of, is_blank, words_of, word_at, all_numbers, fits, requested, named, is_comment, said, meaning, narrowed, latencies_in, tags_in, in_front, word_in}
+use Rattle.command.specs.Lines.{text_of, words_of, word_at, all_numbers, fits, requested, named, is_comment, said, meaning, narrowed, latencies_in, tags_in, in_front, word_in}
 use Rattle.command.specs.Inner.{word_from, words_from, TextEnd, Begins, Passes, scanned, scan_fits}
 use Rattle.command.proofs.WordLaws.{part, word_byte, word_part, words_end, words_here, begins_first}
 
@@ -138,19 +135,19 @@ module _ (e : Entry) (words : List (List ℕ)) {s : Scan} {fit : Bool} (told : s
   fits_told = sym (fitting ∙ ap (scan_fits e.form) told ∙ scan_fits_lem e.form words)
 
   pub rest_command : fit ≡ true
-      → Parsed.Command (record { verb = e.verb; count = s.count; first = s.first; second = s.second; third = s.third }) ≡ named (Named.Known e) words
+      → Ok (Some (record { verb = e.verb; count = s.count; first = s.first; second = s.second; third = s.third })) ≡ named (Some e) words
   rest_command t =
-      ap (λ x. Parsed.Command (request_in e.verb x)) told
-      ∙ sym (ap (λ b. cond b (Parsed.Command (requested e.verb words)) (Parsed.Bad (Trouble.Usage e.row))) (fits_told ∙ t))
+      ap (λ x. Ok (Some (request_in e.verb x))) told
+      ∙ sym (ap (λ b. cond b (Ok (Some (requested e.verb words))) (Err (Trouble.Usage e.row))) (fits_told ∙ t))
 
-  pub rest_usage : fit ≡ false → Parsed.Bad (Trouble.Usage e.row) ≡ named (Named.Known e) words
-  rest_usage t = sym (ap (λ b. cond b (Parsed.Command (requested e.verb words)) (Parsed.Bad (Trouble.Usage e.row))) (fits_told ∙ t))
+  pub rest_usage : fit ≡ false → Err (Trouble.Usage e.row) ≡ named (Some e) words
+  rest_usage t = sym (ap (λ b. cond b (Ok (Some (requested e.verb words))) (Err (Trouble.Usage e.row))) (fits_told ∙ t))
 
 -- The text of a line
 
 module _ (text : List ℕ) (from : ℕ) (b : Begins text 0 from) where
   -- no words
-  pub said_nothing : from ≡ length text → Parsed.Nothing ≡ said (words_of text)
+  pub said_nothing : from ≡ length text → Ok None ≡ said (words_of text)
   unfolding said
   said_nothing e = sym (ap said (sym b.same ∙ words_end text from (omega arith)))
 
@@ -161,27 +158,27 @@ module _ (text : List ℕ) (from : ℕ) (b : Begins text 0 from) where
     byte_first : word_from text from ≡ get_or text from 0 ∷ word_from text (from + 1)
     byte_first = word_byte text from inside (b.here inside)
 
-    pub said_comment : get_or text from 0 ≡ 35 → Parsed.Nothing ≡ said (words_of text)
+    pub said_comment : get_or text from 0 ≡ 35 → Ok None ≡ said (words_of text)
     unfolding said
     said_comment e =
         let end : ℕ = from + length (word_from text from) in
         let c : is_comment (word_from text from) ≡ true = ap is_comment byte_first ∙ eq-eqb (get_or text from 0) 35 e in
         sym (ap said (sym b.same ∙ words_here text from end refl inside (b.here inside))
-        ∙ ap (λ t. cond t Parsed.Nothing (named (command_of (word_from text from)) (words_from text end))) c)
+        ∙ ap (λ t. cond t (Ok None) (named (command_of (word_from text from)) (words_from text end))) c)
 
-    pub said_named : (end : ℕ) (name : Named) → (get_or text from 0 ≡ 35 → ⊥) → end ≡ from + length (word_from text from) → name ≡ command_of (part from end text)
+    pub said_named : (end : ℕ) (name : (Option Entry)) → (get_or text from 0 ≡ 35 → ⊥) → end ≡ from + length (word_from text from) → name ≡ command_of (part from end text)
         → named name (words_from text end) ≡ said (words_of text)
     unfolding said
     said_named end name n e q =
         let c : is_comment (word_from text from) ≡ false = ap is_comment byte_first ∙ ne_eqb (get_or text from 0) 35 n in
         let same : name ≡ command_of (word_from text from) = q ∙ ap command_of (word_part text from end e) in
         sym (ap said (sym b.same ∙ words_here text from end e inside (b.here inside))
-        ∙ ap (λ t. cond t Parsed.Nothing (named (command_of (word_from text from)) (words_from text end))) c
+        ∙ ap (λ t. cond t (Ok None) (named (command_of (word_from text from)) (words_from text end))) c
         ∙ ap (λ x. named x (words_from text end)) (sym same))
 
 -- A line
 
-pub meaning_long : (line : List ℕ) → 4096 < length line → Parsed.Bad Trouble.TooLong ≡ meaning line
+pub meaning_long : (line : List ℕ) → 4096 < length line → Err Trouble.TooLong ≡ meaning line
 unfolding meaning
 meaning_long line h = rw (lt-leb (length line) 4096 h)
 

@@ -1,18 +1,17 @@
 -- The number that a word says, read digit by digit. Assumes nothing.
+use Rattle.std.proofs.Common.{Some, None}
 use mathlib.Core.Path.{◌≡◌, refl, sym, ap, ◌∙◌}
 use mathlib.Core.Bool.{Bool, true, false, cond, ◌&&◌}
-use mathlib.Core.List.{List, [], ◌∷◌, ◌++◌, foldl}
-use Prim.Native.Nat.{ℕ, zero, suc, ◌+◌, ◌-◌, ◌*◌, ◌≤◌, ◌<◌}
+use mathlib.Core.List.{List, [], ◌∷◌, foldl}
+use Prim.Native.Nat.{ℕ, suc, ◌+◌, ◌-◌, ◌*◌, ◌≤◌, ◌<◌}
 use native.Mathlib.Numerals.{add-one}
 use native.Mathlib.Omega.{arith}
 use borrow.Author.Tests.{le-leb, lt-leb}
 use lib.Dec.{leb}
 use lib.ListN.{length, get_or, drop, drop_of_length-le}
 use lib.Seq.{drop-cons}
-use Rattle.words.proofs.Tests.{and_true, nowhere}
+use Rattle.words.proofs.Tests.{and_true}
 use Rattle.text.specs.Text.{value}
-use Rattle.command.specs.declared.scan.Numeral.{Numeral}
-use Rattle.command.specs.declared.scan.Numeral.TheVariants as Numeral
 use Rattle.command.specs.Lines.{is_digit, digits_only, is_number, number_said}
 use Rattle.command.specs.Inner.{numeral}
 
@@ -66,11 +65,11 @@ read_more {word} {i} r h l m s = record {
 
 -- What it says
 
-number_other : (word : List ℕ) → is_number word ≡ false → Numeral.Other ≡ numeral word
+number_other : (word : List ℕ) → is_number word ≡ false → None ≡ numeral word
 number_other word e = rw e
 
 -- an empty word
-pub other_empty : (word : List ℕ) → length word ≡ 0 → Numeral.Other ≡ numeral word
+pub other_empty : (word : List ℕ) → length word ≡ 0 → None ≡ numeral word
 unfolding is_number
 other_empty word e = number_other word (ap (λ t. t && (digits_only word && leb (value word) 4294967295)) (lt-leb 1 (length word) (omega arith)))
 
@@ -83,17 +82,17 @@ and_last true true d e = e
 and_last true false d e = refl
 and_last false b d e = refl
 
-other_digits : (word : List ℕ) → digits_only word ≡ false → Numeral.Other ≡ numeral word
+other_digits : (word : List ℕ) → digits_only word ≡ false → None ≡ numeral word
 unfolding is_number
 other_digits word e = number_other word (and_false (leb 1 (length word)) (digits_only word) (leb (value word) 4294967295) e)
 
 -- a byte below the digits, and one above them
-pub other_below : {word : List ℕ} {i number : ℕ} → Read word i number → i < length word → get_or word i 0 < 48 → Numeral.Other ≡ numeral word
+pub other_below : {word : List ℕ} {i number : ℕ} → Read word i number → i < length word → get_or word i 0 < 48 → None ≡ numeral word
 other_below {word} {i} r h l =
     let e : leb 48 (get_or word i 0) ≡ false = lt-leb 48 (get_or word i 0) l in
     other_digits word (read_digits r h ∙ ap (λ t. (t && leb (get_or word i 0) 57) && digits_only (drop (i + 1) word)) e)
 
-pub other_above : {word : List ℕ} {i number : ℕ} → Read word i number → i < length word → 57 < get_or word i 0 → Numeral.Other ≡ numeral word
+pub other_above : {word : List ℕ} {i number : ℕ} → Read word i number → i < length word → 57 < get_or word i 0 → None ≡ numeral word
 other_above {word} {i} r h l =
     let e : leb (get_or word i 0) 57 ≡ false = lt-leb (get_or word i 0) 57 l in
     let g : leb 48 (get_or word i 0) ≡ true = le-leb 48 (get_or word i 0) (omega arith) in
@@ -101,7 +100,7 @@ other_above {word} {i} r h l =
 
 -- too large a number
 pub other_large : {word : List ℕ} {i number : ℕ} → Read word i number → i < length word → 4294967295 < number * 10 + (get_or word i 0 - 48)
-    → Numeral.Other ≡ numeral word
+    → None ≡ numeral word
 unfolding is_number
 other_large {word} {i} {number} r h l =
     let g = value_grows (number * 10 + (get_or word i 0 - 48)) (drop (i + 1) word) in
@@ -113,7 +112,7 @@ unfolding is_number
 number_true word l d v = and_true (le-leb 1 (length word) l) (and_true d (le-leb (value word) 4294967295 v))
 
 -- all bytes are digits
-pub read_end : {word : List ℕ} {i number : ℕ} → Read word i number → length word ≤ i → 1 ≤ length word → Numeral.Number number ≡ numeral word
+pub read_end : {word : List ℕ} {i number : ℕ} → Read word i number → length word ≤ i → 1 ≤ length word → Some number ≡ numeral word
 unfolding digits_only
 read_end {word} {i} {number} r h l =
     let none : drop i word ≡ [] = drop_of_length-le word h in
@@ -124,19 +123,19 @@ read_end {word} {i} {number} r h l =
 
 -- What a caller learns
 
-told_number : (t : Bool) (v n : ℕ) → Numeral.Number n ≡ cond t (Numeral.Number v) Numeral.Other → (t ≡ true) × (n ≡ cond t v 0)
+told_number : (t : Bool) (v n : ℕ) → Some n ≡ cond t (Some v) None → (t ≡ true) × (n ≡ cond t v 0)
 told_number true v n e = (refl, cc)
 told_number false v n e = let z : ◌≡◌ {A = ℕ} 0 1 = cc in absurd (omega arith)
 
-told_other : (t : Bool) (v : ℕ) → Numeral.Other ≡ cond t (Numeral.Number v) Numeral.Other → (t ≡ false) × (0 ≡ cond t v 0)
+told_other : (t : Bool) (v : ℕ) → None ≡ cond t (Some v) None → (t ≡ false) × (0 ≡ cond t v 0)
 told_other true v e = let z : ◌≡◌ {A = ℕ} 0 1 = cc in absurd (omega arith)
 told_other false v e = (refl, refl)
 
-pub number_told_lem : (word : List ℕ) (n : ℕ) → Numeral.Number n ≡ numeral word → (is_number word ≡ true) × (n ≡ number_said word)
+pub number_told_lem : (word : List ℕ) (n : ℕ) → Some n ≡ numeral word → (is_number word ≡ true) × (n ≡ number_said word)
 unfolding number_said
 number_told_lem word n e = told_number (is_number word) (value word) n e
 
-pub other_told : (word : List ℕ) → Numeral.Other ≡ numeral word → (is_number word ≡ false) × (0 ≡ number_said word)
+pub other_told : (word : List ℕ) → None ≡ numeral word → (is_number word ≡ false) × (0 ≡ number_said word)
 unfolding number_said
 other_told word e = told_other (is_number word) (value word) e
 

@@ -2,14 +2,13 @@
 use mathlib.Core.Path.{◌≡◌, refl, sym, ap, ◌∙◌}
 use mathlib.Core.Bool.{Bool, true, false, cond, ◌&&◌}
 use mathlib.Core.List.{List, [], ◌∷◌}
-use Prim.Native.Nat.{ℕ, zero, suc, ◌+◌, ◌-◌, ◌≤◌, ◌<◌}
+use Prim.Native.Nat.{ℕ, suc, ◌+◌, ◌-◌, ◌≤◌, ◌<◌}
 use native.Mathlib.Omega.{arith}
-use borrow.Author.Tests.{eq-eqb, ne_eqb}
+use borrow.Author.Tests.{ne_eqb}
 use lib.Dec.{eqb}
 use lib.ListN.{length, get_or, take}
-use Rattle.text.specs.Text.{value}
 use Rattle.command.specs.declared.scan.Scan.{Scan}
-use Rattle.command.specs.Lines.{is_blank, word_at, is_number, number_said, all_numbers}
+use Rattle.command.specs.Lines.{is_blank, is_number, number_said, all_numbers}
 use Rattle.command.specs.Inner.{word_from, words_from, Begins, noted, with_word, before_last, scanned}
 use Rattle.command.proofs.WordLaws.{part, word_part, word_some, words_end, words_here}
 

@@ -1,8 +1,8 @@
 -- The words of a text, and the text walked from an index on. Assumes nothing.
-use mathlib.Core.Path.{◌≡◌, refl, sym, ap, subst, ◌∙◌}
-use mathlib.Core.Bool.{Bool, true, false, cond}
-use mathlib.Core.List.{List, [], ◌∷◌, ◌++◌}
-use Prim.Native.Nat.{ℕ, zero, suc, ◌+◌, ◌-◌, ◌≤◌, ◌<◌}
+use mathlib.Core.Path.{◌≡◌, refl, sym, ap, ◌∙◌}
+use mathlib.Core.Bool.{true, false, cond}
+use mathlib.Core.List.{List, [], ◌∷◌}
+use Prim.Native.Nat.{ℕ, suc, ◌+◌, ◌-◌, ◌≤◌, ◌<◌}
 use native.Mathlib.Decide.{dec_lt}
 use native.Mathlib.Numerals.{add-one}
 use native.Mathlib.Omega.{arith}
@@ -190,17 +190,8 @@ pub record Skipped (text : List ℕ) (from at : ℕ) : Type 0 where
   pub inside : at ≤ length text
   pub same : words_from text at ≡ words_from text from
 
-pub skip_start : (text : List ℕ) (from : ℕ) → from ≤ length text → Skipped text from from
-skip_start text from h = record { after = omega arith; inside = h; same = refl }
-
 pub skip_more : {text : List ℕ} {from at : ℕ} → Skipped text from at → at < length text → is_blank (get_or text at 0) ≡ true → Skipped text from (at + 1)
 skip_more {text} {from} {at} s h e = record { after = omega (arith, s.after); inside = omega arith; same = words_skip text at h e ∙ s.same }
-
-pub skip_here : {text : List ℕ} {from at : ℕ} → Skipped text from at → is_blank (get_or text at 0) ≡ false → Begins text from at
-skip_here s e = record { after = s.after; inside = s.inside; same = s.same; here = λ h. e }
-
-pub skip_end : {text : List ℕ} {from at : ℕ} → Skipped text from at → length text ≤ at → Begins text from at
-skip_end s h = record { after = s.after; inside = s.inside; same = s.same; here = λ l. absurd (omega arith) }
 
 -- the first word from an index on
 pub begins_first : {text : List ℕ} {from at : ℕ} → Begins text from at → word_at (words_from text from) 0 ≡ word_from text at
@@ -229,18 +220,12 @@ pub record Passing (text : List ℕ) (count at passed : ℕ) : Type 0 where
   pub few : passed ≤ count
   pub passes : Passes text 0 passed at
 
-pub passing_start : (text : List ℕ) (count : ℕ) → Passing text count 0 0
-passing_start text count = record { few = omega arith; passes = record { inside = omega arith; rest = refl } }
-
 pub passing_more : {text : List ℕ} {count at passed : ℕ} (end : ℕ) → Passing text count at passed → passed < count → Passes text at 1 end
     → Passing text count end (passed + 1)
 passing_more {text} {count} {at} {passed} end p h q = record {
   few = omega arith;
   passes = record { inside = q.inside; rest = q.rest ∙ ap (drop 1) p.passes.rest ∙ drop-drop 1 passed (words_of text) };
 }
-
-pub passing_all : {text : List ℕ} {count at passed : ℕ} → Passing text count at passed → count ≤ passed → Passes text 0 count at
-passing_all {text} {count} {at} {passed} p h = let e : passed ≡ count = omega (arith, p.few) in subst (λ k. Passes text 0 k at) e p.passes
 
 -- at the end of the text there are no more
 pub passing_end : {text : List ℕ} {count at passed : ℕ} → Passing text count at passed → at ≡ length text → Passes text 0 count at

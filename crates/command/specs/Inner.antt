@@ -1,11 +1,8 @@
 -- What the private functions find. No public contract cites this file.
-use Rattle.std.specs.Prelude.{◌≡◌, Bool, false, cond, ◌&&◌, List, ℕ, ◌+◌, ◌-◌, ◌≤◌, ◌<◌, leb, eqb, length, get_or, take, drop}
+use Rattle.std.specs.Prelude.{◌≡◌, Bool, false, cond, ◌&&◌, List, ℕ, ◌+◌, ◌-◌, ◌≤◌, ◌<◌, leb, eqb, length, get_or, take, drop, Option, Some, None}
 use Rattle.text.specs.Text.{value}
 use Rattle.command_table.specs.declared.Form.{Form}
-use Rattle.command_table.specs.declared.Form.TheVariants as Form
 use Rattle.command.specs.declared.scan.Scan.{Scan}
-use Rattle.command.specs.declared.scan.Numeral.{Numeral}
-use Rattle.command.specs.declared.scan.Numeral.TheVariants as Numeral
 use Rattle.command.specs.Lines.{text_of, is_blank, parts_of, words_of, word_at, is_number, number_said, all_numbers}
 
 -- the bytes of a text from an index up to the next blank
@@ -34,8 +31,8 @@ pub record Passes (text : List ℕ) (from count end : ℕ) : Type 0 where
   pub rest : words_from text end ≡ drop count (words_from text from)
 
 -- the number that a word says, if it says one
-abbrev pub numeral : List ℕ → Numeral
-numeral word = cond (is_number word) (Numeral.Number (value word)) Numeral.Other
+abbrev pub numeral : List ℕ → Option ℕ
+numeral word = cond (is_number word) (Some (value word)) None
 
 -- one number more
 abbrev pub noted : Scan → Bool → ℕ → Scan

@@ -1,17 +1,14 @@
 -- What a line of the console says.
-use Rattle.std.specs.Prelude.{Bool, true, false, cond, ◌&&◌, ◌||◌, List, [], ◌∷◌, ◌++◌, map, ℕ, ◌+◌, ◌-◌, leb, eqb, length, get_or, take, drop}
+use Rattle.std.specs.Prelude.{Bool, true, false, cond, ◌&&◌, ◌||◌, List, [], ◌∷◌, ◌++◌, map, ℕ, ◌+◌, ◌-◌, leb, eqb, length, get_or, take, drop, Option, Some, None, Ok, Err}
 use Rattle.words.specs.Bytes.{narrow}
 use Rattle.text.specs.Text.{value}
 use Rattle.command_table.specs.declared.Form.{Form}
-use Rattle.command_table.specs.declared.Form.TheVariants as Form
 use Rattle.command_table.specs.declared.Verb.{Verb}
-use Rattle.command_table.specs.declared.Named.{Named}
-use Rattle.command_table.specs.declared.Named.TheVariants as Named
 use Rattle.command_table.specs.Commands.{command_of}
 use Rattle.command.specs.declared.Trouble.TheVariants as Trouble
 use Rattle.command.specs.declared.Request.{Request}
-use Rattle.command.specs.declared.Parsed.{Parsed}
-use Rattle.command.specs.declared.Parsed.TheVariants as Parsed
+use Rattle.command.specs.Parsed.{Parsed}
+use Rattle.command_table.specs.declared.Entry.{Entry}
 
 -- Words
 
@@ -89,9 +86,9 @@ requested v words = record {
   third = number_said (word_at words 2);
 }
 
-abbrev pub named : Named → List (List ℕ) → Parsed
-named Named.Unknown words = Parsed.Bad Trouble.NoCommand
-named (Named.Known e) words = cond (fits e.form words) (Parsed.Command (requested e.verb words)) (Parsed.Bad (Trouble.Usage e.row))
+abbrev pub named : Option Entry → List (List ℕ) → Parsed
+named None words = Err Trouble.NoCommand
+named (Some e) words = cond (fits e.form words) (Ok (Some (requested e.verb words))) (Err (Trouble.Usage e.row))
 
 -- a word that begins with #
 abbrev pub is_comment : List ℕ → Bool
@@ -100,12 +97,12 @@ is_comment (b ∷ word) = eqb b 35
 
 -- no words, and words of which the first begins with #, say nothing
 unfoldable pub said : List (List ℕ) → Parsed
-said [] = Parsed.Nothing
-said (w ∷ words) = cond (is_comment w) Parsed.Nothing (named (command_of w) words)
+said [] = Ok None
+said (w ∷ words) = cond (is_comment w) (Ok None) (named (command_of w) words)
 
 -- what a line says
 unfoldable pub meaning : List ℕ → Parsed
-meaning line = cond (leb (length line) 4096) (said (words_of (text_of line))) (Parsed.Bad Trouble.TooLong)
+meaning line = cond (leb (length line) 4096) (said (words_of (text_of line))) (Err Trouble.TooLong)
 
 -- The rest of some lines
 

@@ -4,12 +4,11 @@
 
 mod scan;
 
-ghost use Rattle.std.specs.Prelude.{◌≡◌, min, ◌≤◌, length};
-ghost use Rattle.command_table.specs.declared.Named.TheVariants.{Known};
+ghost use Rattle.std.specs.Prelude.{◌≡◌, min, ◌≤◌, length, Some};
 ghost use Rattle.command.specs.Lines.{named, said, meaning, words_of, latencies_in, tags_in, in_front, word_in};
 ghost use Rattle.command.specs.Inner.{words_from, scan_fits, TextEnd, Passes};
 
-use command_table::{Entry, Form, Named, Verb};
+use command_table::{Entry, Form, Verb};
 use scan::Scan;
 
 // A command, how many words come after its name, and the numbers that the first three say, 0 where one says none.
@@ -28,14 +27,6 @@ pub enum Trouble {
     TooLong,
     NoCommand,
     Usage(usize),
-}
-
-// What a line says: nothing, no command, or a command.
-#[derive(Clone, Copy)]
-pub enum Parsed {
-    Nothing,
-    Bad(Trouble),
-    Command(Request),
 }
 
 // Whether there are so many numbers, or one more.
@@ -89,40 +80,38 @@ fn is_fit(form: Form, words: Scan) -> bool
 }
 
 // What the words after the name of a command say. The name ends at an index.
-fn parse_rest(text: &[u8], from: usize, entry: Entry) -> Parsed
+fn parse_rest(text: &[u8], from: usize, entry: Entry) -> Result<Option<Request>, Trouble>
     requires { from ≤ length text.now }
-    ensures { result ≡ named (Known entry) (words_from text.now from) }
+    ensures { result ≡ named (Some entry) (words_from text.now from) }
 {
     let words = scan::scan_words(text, from);
-    let form = entry.form;
-    let verb = entry.verb;
-    if is_fit(form, words) {
-        return Parsed::Command(Request {
-            verb,
+    if is_fit(entry.form, words) {
+        return Ok(Some(Request {
+            verb: entry.verb,
             count: words.count,
             first: words.first,
             second: words.second,
             third: words.third,
-        });
+        }));
     }
-    Parsed::Bad(Trouble::Usage(entry.row))
+    Err(Trouble::Usage(entry.row))
 }
 
 // What the text of a line says.
-fn parse_text(text: &[u8]) -> Parsed
+fn parse_text(text: &[u8]) -> Result<Option<Request>, Trouble>
     ensures { result ≡ said (words_of text.now) }
 {
     let from = scan::word_start(text, 0);
     if from == text.len() {
-        return Parsed::Nothing;
+        return Ok(None);
     }
     if text[from] == 35 {
-        return Parsed::Nothing;
+        return Ok(None);
     }
     let end = scan::word_end(text, from);
     let name = command_table::find(&text[from..end]);
-    let Named::Known(entry) = name else {
-        return Parsed::Bad(Trouble::NoCommand);
+    let Some(entry) = name else {
+        return Err(Trouble::NoCommand);
     };
     parse_rest(text, end, entry)
 }
@@ -141,12 +130,12 @@ fn text_end(line: &[u8]) -> usize
     length
 }
 
-// What a line says.
-pub fn parse(line: &[u8]) -> Parsed
+// What a line says: nothing, or a request; or what is wrong with it.
+pub fn parse(line: &[u8]) -> Result<Option<Request>, Trouble>
     ensures { result ≡ meaning line.now }
 {
     if 4096 < line.len() {
-        return Parsed::Bad(Trouble::TooLong);
+        return Err(Trouble::TooLong);
     }
     let end = text_end(line);
     parse_text(&line[..end])
@@ -166,13 +155,11 @@ fn past_words(text: &[u8], count: usize) -> usize
     ensures { Passes text.now 0 count result }
 {
     let mut at = 0;
-    let mut passed = 0;
-    while passed < count {
+    for _passed in 0..count {
         if at == text.len() {
             return at;
         }
         at = past_word(text, at);
-        passed += 1;
     }
     at
 }

@@ -16,13 +16,6 @@ pub struct Scan {
     pub third: u32,
 }
 
-// The number that a word says, if it says one.
-#[derive(Clone, Copy)]
-pub enum Numeral {
-    Number(u32),
-    Other,
-}
-
 // A space or a tab.
 fn is_blank(byte: u8) -> bool
     ensures { result ≡ is_blank byte }
@@ -35,14 +28,12 @@ pub fn word_start(text: &[u8], from: usize) -> usize
     requires { from ≤ length text.now }
     ensures { Begins text.now from result }
 {
-    let mut at = from;
-    while at < text.len() {
+    for at in from..text.len() {
         if !is_blank(text[at]) {
             return at;
         }
-        at += 1;
     }
-    at
+    text.len()
 }
 
 // The index at which the word from an index on ends: that of the next blank, or of the text's end.
@@ -50,40 +41,35 @@ pub fn word_end(text: &[u8], from: usize) -> usize
     requires { from ≤ length text.now }
     ensures { result ≡ from + length (word_from text.now from) }
 {
-    let mut at = from;
-    while at < text.len() {
+    for at in from..text.len() {
         if is_blank(text[at]) {
             return at;
         }
-        at += 1;
     }
-    at
+    text.len()
 }
 
 // The number that a word says: one or more digits, and not above 4294967295. The digits so far say no more than all of them.
-fn number_of(word: &[u8]) -> Numeral
+fn number_of(word: &[u8]) -> Option<u32>
     ensures { result ≡ numeral word.now }
 {
     if word.len() == 0 {
-        return Numeral::Other;
+        return None;
     }
     let mut number: u64 = 0;
-    let mut i = 0;
-    while i < word.len() {
-        let byte = word[i];
+    for &byte in word {
         if byte < 48 {
-            return Numeral::Other;
+            return None;
         }
         if 57 < byte {
-            return Numeral::Other;
+            return None;
         }
         number = number * 10 + (byte - 48) as u64;
         if 4294967295 < number {
-            return Numeral::Other;
+            return None;
         }
-        i += 1;
     }
-    Numeral::Number(number as u32)
+    Some(number as u32)
 }
 
 // The number at a place among the first three: that of the word that comes there, or the one that is there already.
@@ -119,8 +105,8 @@ fn with_word(words: Scan, word: &[u8]) -> Scan
 {
     let numeral = number_of(word);
     match numeral {
-        Numeral::Number(number) => note(words, words.good, number),
-        Numeral::Other => note(words, false, 0),
+        Some(number) => note(words, words.good, number),
+        None => note(words, false, 0),
     }
 }
 
@@ -138,6 +124,7 @@ pub fn scan_words(text: &[u8], from: usize) -> Scan
         third: 0,
     };
     let mut at = word_start(text, from);
+    // A while: the next index is where the next word begins.
     while at < text.len() {
         let end = word_end(text, at);
         words = with_word(words, &text[at..end]);
@@ -150,7 +137,7 @@ pub fn scan_words(text: &[u8], from: usize) -> Scan
 fn byte_of(word: &[u8]) -> u8
     ensures { result ≡ narrow (number_said word.now) }
 {
-    let Numeral::Number(number) = number_of(word) else {
+    let Some(number) = number_of(word) else {
         return 0;
     };
     words::byte(number)
@@ -164,6 +151,7 @@ pub fn bytes_after(text: &[u8], from: usize, list: &mut [u8]) -> usize
 {
     let mut count = 0;
     let mut at = word_start(text, from);
+    // A while: the next index is where the next word begins.
     while at < text.len() {
         if count == list.len() {
             return count;

@@ -1,7 +1,7 @@
 -- Some names and usages, worked out by hand. Assumes nothing.
+use Rattle.std.proofs.Common.{Some, None}
 use mathlib.Core.Path.{◌≡◌, refl}
 use Rattle.text.specs.Text.{ascii, same}
-use Rattle.command_table.specs.declared.Named.TheVariants as Named
 use Rattle.command_table.specs.Commands.{row_at, name_at, usage_at, entry_at, among, command_of}
 
 pub name_of_mark : name_at 1 ≡ ascii "mark"
@@ -40,30 +40,30 @@ pub usage_of_small : usage_at 33 ≡ ascii "small S C [NUMBER]"
 unfolding usage_at row_at
 usage_of_small = refl
 
-pub mark_is_found : command_of (ascii "mark") ≡ Named.Known (entry_at 1)
+pub mark_is_found : command_of (ascii "mark") ≡ Some (entry_at 1)
 unfolding command_of among same name_at row_at
 mark_is_found = refl
 
-pub delays_is_found : command_of (ascii "delays") ≡ Named.Known (entry_at 26)
+pub delays_is_found : command_of (ascii "delays") ≡ Some (entry_at 26)
 unfolding command_of among same name_at row_at
 delays_is_found = refl
 
-pub queue_is_found : command_of (ascii "queue") ≡ Named.Known (entry_at 29)
+pub queue_is_found : command_of (ascii "queue") ≡ Some (entry_at 29)
 unfolding command_of among same name_at row_at
 queue_is_found = refl
 
-pub turn_is_found : command_of (ascii "turn") ≡ Named.Known (entry_at 32)
+pub turn_is_found : command_of (ascii "turn") ≡ Some (entry_at 32)
 unfolding command_of among same name_at row_at
 turn_is_found = refl
 
-pub small_is_found : command_of (ascii "small") ≡ Named.Known (entry_at 33)
+pub small_is_found : command_of (ascii "small") ≡ Some (entry_at 33)
 unfolding command_of among same name_at row_at
 small_is_found = refl
 
-pub part_of_a_name : command_of (ascii "mar") ≡ Named.Unknown
+pub part_of_a_name : command_of (ascii "mar") ≡ None
 unfolding command_of among same name_at row_at
 part_of_a_name = refl
 
-pub capitals : command_of (ascii "Mark") ≡ Named.Unknown
+pub capitals : command_of (ascii "Mark") ≡ None
 unfolding command_of among same name_at row_at
 capitals = refl

@@ -1,25 +1,23 @@
 -- What holds of every row of the table, by tests that are computed over the whole of it. Assumes nothing.
-use mathlib.Core.Path.{◌≡◌, refl, sym, ap, subst, ◌∙◌}
+use Rattle.std.proofs.Common.{Option, Some, None}
+use mathlib.Core.Path.{◌≡◌, refl, sym, ap, ◌∙◌}
 use mathlib.Core.Bool.{Bool, true, false, cond, ◌&&◌}
-use mathlib.Core.List.{List, [], ◌∷◌, ◌++◌, map, append_assoc}
-use Prim.Native.Nat.{ℕ, zero, suc, ◌+◌, ◌-◌, ◌*◌, ◌≤◌, ◌<◌}
+use mathlib.Core.List.{List, [], ◌∷◌, ◌++◌, map}
+use Prim.Native.Nat.{ℕ, zero, suc, ◌≤◌, ◌<◌}
 use native.Mathlib.Decide.{dec_lt}
-use native.Mathlib.Nat.{suc-mul}
 use native.Mathlib.Omega.{arith}
 use borrow.Author.Tests.{leb-true, eqb-true}
-use lib.Dec.{leb, ltb, eqb}
-use lib.ListN.{length, get_or, take, drop, replicate, length-append, length-drop, length-replicate, get_or-map}
-use lib.Seq.{take_at, drop_at, drop-drop, get_or-drop}
+use lib.Dec.{leb, eqb}
+use lib.ListN.{length, get_or, get_or-map}
+use Rattle.std.proofs.lemmas.List.{get_or_default}
 use Rattle.words.proofs.Tests.{and_left, and_right, nowhere}
 use Rattle.text.specs.Text.{ascii, same}
+use Rattle.command_table.specs.declared.Form.{Form}
 use Rattle.command_table.specs.declared.Verb.{Verb}
 use Rattle.command_table.specs.declared.Verb.TheVariants as Verb
-use Rattle.command_table.specs.declared.Form.{Form}
+use Rattle.command_table.specs.declared.Row.{Row as Stored}
 use Rattle.command_table.specs.declared.Entry.{Entry}
-use Rattle.command_table.specs.declared.Named.{Named}
-use Rattle.command_table.specs.declared.Named.TheVariants as Named
 use Rattle.command_table.specs.Commands.{Row, rows, no_row, row_at, name_at, usage_at, entry_at, among, command_of}
-use Rattle.command_table.specs.Inner.{form_of, form_number, row_bytes, joined, table_bytes}
 
 -- A test of every row
 
@@ -32,93 +30,76 @@ every_at f [] i e h = absurd (omega arith)
 every_at f (r ∷ l) zero e h = and_left (f r) (every f l) e
 every_at f (r ∷ l) (suc i) e h = every_at f l i (and_right (f r) (every f l) e) (omega arith)
 
--- The bytes of a row
+-- The rows of the code
 
--- a row has 48 bytes
-abbrev wide : Row → Bool
-wide r = eqb (length (row_bytes r)) 48
+-- what one of them holds, as one of all that they hold
+module _ (items : List Stored) (i : ℕ) (d : Stored) where
+  pub read_name : (get_or items i d).name.now ≡ get_or (map (λ (r : Stored). r.name.now) items) i d.name.now
+  read_name = sym (get_or-map (λ (r : Stored). r.name.now) items i d)
 
-drop_row : (l : List Row) (i : ℕ) → every wide l ≡ true → i < length l → drop (i * 48) (joined l) ≡ row_bytes (get_or l i no_row) ++ joined (drop (suc i) l)
-drop_row [] i e h = absurd (omega arith)
-drop_row (r ∷ l) zero e h = refl
-drop_row (r ∷ l) (suc i) e h =
-    let step : suc i * 48 ≡ 48 + i * 48 = omega (arith, suc-mul i 48) in
-    let long : length (row_bytes r) ≡ 48 = eqb-true (length (row_bytes r)) 48 (and_left (wide r) (every wide l) e) in
-    ap (λ k. drop k (row_bytes r ++ joined l)) step ∙ sym (drop-drop (i * 48) 48 (row_bytes r ++ joined l))
-    ∙ ap (drop (i * 48)) (drop_at (row_bytes r) (joined l) 48 long) ∙ drop_row l i (and_right (wide r) (every wide l) e) (omega arith)
+  pub read_usage : (get_or items i d).usage.now ≡ get_or (map (λ (r : Stored). r.usage.now) items) i d.usage.now
+  read_usage = sym (get_or-map (λ (r : Stored). r.usage.now) items i d)
 
--- what the code finds in the bytes of a table
-pub record Held (table : List ℕ) (i : ℕ) : Type 0 where
-  pub room : i * 48 + 48 ≤ length table
-  pub names : get_or table (i * 48) 0 ≡ length (name_at i)
-  pub usages : get_or table (i * 48 + 1) 0 ≡ length (usage_at i)
-  pub form : form_of (get_or table (i * 48 + 2) 0) ≡ (row_at i).form
-  pub name : take (length (name_at i)) (drop (i * 48 + 3) table) ≡ name_at i
-  pub usage : take (length (usage_at i)) (drop (i * 48 + 3) table) ≡ usage_at i
-  pub front : length (name_at i) ≤ length (usage_at i)
-  pub short : length (usage_at i) ≤ 45
+  pub read_form : (get_or items i d).form ≡ get_or (map (λ (r : Stored). r.form) items) i d.form
+  read_form = sym (get_or-map (λ (r : Stored). r.form) items i d)
+
+  pub read_verb : (get_or items i d).verb ≡ get_or (map (λ (r : Stored). r.verb) items) i d.verb
+  read_verb = sym (get_or-map (λ (r : Stored). r.verb) items i d)
+
+-- what the definition tells of a row, as one of all that it tells, whatever is read beyond them
+told : {A : Type 0} (f : Row → A) (i : ℕ) (d : A) → i < length rows → get_or (map f rows) i d ≡ f (row_at i)
+unfolding row_at
+told f i d h = get_or_default (map f rows) i d (f no_row) h ∙ get_or-map f rows i no_row
+
+abbrev pub names : List (List ℕ)
+names = map (λ (r : Row). ascii r.name) rows
+
+abbrev pub usages : List (List ℕ)
+usages = map (λ (r : Row). ascii r.name ++ ascii r.wanted) rows
+
+abbrev pub forms : List Form
+forms = map (λ (r : Row). r.form) rows
+
+abbrev pub verbs : List Verb
+verbs = map (λ (r : Row). r.verb) rows
 
 module _ (i : ℕ) (h : i < length rows) where
-  abbrev r : Row
-  r = row_at i
+  pub name_told : (d : List ℕ) → get_or names i d ≡ name_at i
+  unfolding name_at
+  name_told d = told (λ (r : Row). ascii r.name) i d h
 
-  abbrev rest : List ℕ
-  rest = joined (drop (suc i) rows)
+  pub usage_told : (d : List ℕ) → get_or usages i d ≡ usage_at i
+  unfolding usage_at
+  usage_told d = told (λ (r : Row). ascii r.name ++ ascii r.wanted) i d h
 
-  abbrev name : List ℕ
-  name = ascii r.name
+  pub entry_told : (f : Form) (v : Verb) → ◌≡◌ {A = Entry} (record { row = i; form = get_or forms i f; verb = get_or verbs i v }) (entry_at i)
+  entry_told f v = λ j. record { row = i; form = told (λ (r : Row). r.form) i f h j; verb = told (λ (r : Row). r.verb) i v h j }
 
-  abbrev wanted : List ℕ
-  wanted = ascii r.wanted
+-- rows that hold the names, the usages, the forms and the verbs of the table
+pub record Rows (items : List Stored) : Type 0 where
+  pub all_names : map (λ (r : Stored). r.name.now) items ≡ names
+  pub all_usages : map (λ (r : Stored). r.usage.now) items ≡ usages
+  pub all_forms : map (λ (r : Stored). r.form) items ≡ forms
+  pub all_verbs : map (λ (r : Stored). r.verb) items ≡ verbs
 
-  row_here : drop (i * 48) table_bytes ≡ row_bytes r ++ rest
-  unfolding table_bytes row_at
-  row_here = drop_row rows i refl h
+-- what the code finds in its rows, whatever is read beyond them
+pub record Held (items : List Stored) (i : ℕ) : Type 0 where
+  pub name : (d : Stored) → (get_or items i d).name.now ≡ name_at i
+  pub usage : (d : Stored) → (get_or items i d).usage.now ≡ usage_at i
+  pub form : (d : Stored) → (get_or items i d).form ≡ (row_at i).form
+  pub verb : (d : Stored) → (get_or items i d).verb ≡ (row_at i).verb
 
-  row_wide : length (row_bytes r) ≡ 48
-  unfolding row_at
-  row_wide = eqb-true (length (row_bytes r)) 48 (every_at wide rows i refl h)
-
-  byte_here : (k : ℕ) → get_or table_bytes (i * 48 + k) 0 ≡ get_or (row_bytes r ++ rest) k 0
-  byte_here k = sym (get_or-drop (i * 48) table_bytes k 0) ∙ ap (λ l. get_or l k 0) row_here
-
-  text_here : drop (i * 48 + 3) table_bytes ≡ name ++ (wanted ++ (replicate (45 - length (name ++ wanted)) 32 ++ rest))
-  text_here =
-      sym (drop-drop 3 (i * 48) table_bytes) ∙ ap (drop 3) row_here ∙ append_assoc name (wanted ++ replicate (45 - length (name ++ wanted)) 32) rest
-      ∙ ap (λ l. name ++ l) (append_assoc wanted (replicate (45 - length (name ++ wanted)) 32) rest)
-
-  form_here : form_of (form_number r.form) ≡ r.form
-  unfolding row_at form_of
-  form_here =
-      sym (get_or-map (λ (x : Row). form_of (form_number x.form)) rows i no_row)
-      ∙ get_or-map (λ (x : Row). x.form) rows i no_row
-
-  row_short : length (name ++ wanted) ≤ 45
-  row_short =
-      let l : length (name ++ (wanted ++ replicate (45 - length (name ++ wanted)) 32)) ≡ length name + (length wanted + (45 - length (name ++ wanted))) =
-      simp (length-append, length-replicate)
-      in
-      omega (arith, row_wide, length-append name wanted)
-
-  pub held : (table : List ℕ) → table ≡ table_bytes → Held table i
-  unfolding name_at usage_at
-  held table e = subst (λ t. Held t i) (sym e) (record {
-    room = omega (arith, ap length row_here, length-append (row_bytes r) rest, length-drop (i * 48) table_bytes, row_wide);
-    names = let z : i * 48 ≡ i * 48 + 0 = omega arith in ap (λ k. get_or table_bytes k 0) z ∙ byte_here 0;
-    usages = byte_here 1;
-    form = ap form_of (byte_here 2) ∙ form_here;
-    name = ap (take (length name)) text_here ∙ take_at name (wanted ++ (replicate (45 - length (name ++ wanted)) 32 ++ rest)) (length name) refl;
-    usage =
-        ap (take (length (name ++ wanted))) (text_here ∙ sym (append_assoc name wanted (replicate (45 - length (name ++ wanted)) 32 ++ rest)))
-        ∙ take_at (name ++ wanted) (replicate (45 - length (name ++ wanted)) 32 ++ rest) (length (name ++ wanted)) refl;
-    front = omega (arith, length-append name wanted);
-    short = row_short;
-  })
+pub held : (items : List Stored) (i : ℕ) → Rows items → i < length rows → Held items i
+held items i r h = record {
+  name = λ d. read_name items i d ∙ ap (λ l. get_or l i d.name.now) r.all_names ∙ name_told i h d.name.now;
+  usage = λ d. read_usage items i d ∙ ap (λ l. get_or l i d.usage.now) r.all_usages ∙ usage_told i h d.usage.now;
+  form = λ d. read_form items i d ∙ ap (λ l. get_or l i d.form) r.all_forms ∙ told (λ (r : Row). r.form) i d.form h;
+  verb = λ d. read_verb items i d ∙ ap (λ l. get_or l i d.verb) r.all_verbs ∙ told (λ (r : Row). r.verb) i d.verb h;
+}
 
 -- what a command does
 pub verb_here : (i : ℕ) → i < length rows → get_or (map (λ (r : Row). r.verb) rows) i Verb.Fresh ≡ (row_at i).verb
-unfolding row_at
-verb_here i h = get_or-map (λ (r : Row). r.verb) rows i no_row
+verb_here i h = told (λ (r : Row). r.verb) i Verb.Fresh h
 
 -- beyond the table
 beyond_default : (l : List Row) (i : ℕ) → length l ≤ i → get_or l i no_row ≡ no_row
@@ -134,11 +115,15 @@ pub usage_beyond : (i : ℕ) → length rows ≤ i → usage_at i ≡ []
 unfolding usage_at row_at
 usage_beyond i h = ap (λ (r : Row). ascii r.name ++ ascii r.wanted) (beyond_default rows i h)
 
+abbrev short : Row → Bool
+short r = leb (length (ascii r.name ++ ascii r.wanted)) 45
+
 pub usage_short : (i : ℕ) → length (usage_at i) ≤ 45
+unfolding usage_at row_at
 usage_short i = go (dec_lt i (length rows))
   where
-    go : Dec (i < length rows) → length (usage_at i) ≤ 45
-    go (yes h) = (held i h table_bytes refl).short
+    go : Dec (i < length rows) → length (ascii (row_at i).name ++ ascii (row_at i).wanted) ≤ 45
+    go (yes h) = leb-true _ 45 (every_at short rows i refl h)
     go (no h) = omega (arith, ap length (usage_beyond i (omega arith)))
 
 -- Names
@@ -179,17 +164,17 @@ below_at (suc n) f i e h = go (dec_lt i n) (below_at n f i (and_right (f n) (all
     go (no l) r = let q : i ≡ n = omega arith in rw q (and_left (f n) (all_below n f) e)
 
 -- the command that was found is that of a row
-abbrev is_row : ℕ → Named → Bool
-is_row i Named.Unknown = false
-is_row i (Named.Known e) = eqb e.row i
+abbrev is_row : ℕ → Option Entry → Bool
+is_row i None = false
+is_row i (Some e) = eqb e.row i
 
-among_entry : (n i : ℕ) (word : List ℕ) (e : Entry) → among n i word ≡ Named.Known e → e ≡ entry_at e.row
+among_entry : (n i : ℕ) (word : List ℕ) (e : Entry) → among n i word ≡ Some e → e ≡ entry_at e.row
 unfolding among
 among_entry zero i word e q = let z : ◌≡◌ {A = ℕ} 0 1 = cc in absurd (omega arith)
 among_entry (suc n) i word e q = go (same word (name_at i)) q (among_entry n (suc i) word e)
   where
-    go : (t : Bool) → cond t (Named.Known (entry_at i)) (among n (suc i) word) ≡ Named.Known e
-        → (among n (suc i) word ≡ Named.Known e → e ≡ entry_at e.row) → e ≡ entry_at e.row
+    go : (t : Bool) → cond t (Some (entry_at i)) (among n (suc i) word) ≡ Some e
+        → (among n (suc i) word ≡ Some e → e ≡ entry_at e.row) → e ≡ entry_at e.row
     go true p r = let s : entry_at i ≡ e = cc in sym s ∙ ap (λ (x : Entry). entry_at x.row) s
     go false p r = r p
 
@@ -198,11 +183,11 @@ unfolding command_of among same name_at row_at
 first_row i h = below_at (length rows) (λ k. is_row k (command_of (name_at k))) i refl h
 
 -- no two commands have one name
-pub name_command : (i : ℕ) → i < length rows → command_of (name_at i) ≡ Named.Known (entry_at i)
+pub name_command : (i : ℕ) → i < length rows → command_of (name_at i) ≡ Some (entry_at i)
 unfolding command_of
 name_command i h = go (command_of (name_at i)) refl (first_row i h)
   where
-    go : (x : Named) → command_of (name_at i) ≡ x → is_row i x ≡ true → x ≡ Named.Known (entry_at i)
-    go Named.Unknown e t = nowhere t
-    go (Named.Known entry) e t =
-        ap Named.Known (among_entry (length rows) 0 (name_at i) entry e ∙ ap entry_at (eqb-true entry.row i t))
+    go : (x : (Option Entry)) → command_of (name_at i) ≡ x → is_row i x ≡ true → x ≡ Some (entry_at i)
+    go None e t = nowhere t
+    go (Some entry) e t =
+        ap Some (among_entry (length rows) 0 (name_at i) entry e ∙ ap entry_at (eqb-true entry.row i t))

@@ -1,5 +1,5 @@
 -- The commands of the console, one row for each: its name, what a designer is told to write after it, what comes after the name, and what it does.
-use Rattle.std.specs.Prelude.{cond, List, [], ◌∷◌, ◌++◌, ℕ, zero, suc, length, get_or}
+use Rattle.std.specs.Prelude.{cond, List, [], ◌∷◌, ◌++◌, ℕ, zero, suc, length, get_or, Option, Some, None}
 use Prim.Native.String.{String}
 use Rattle.text.specs.Text.{ascii, same}
 use Rattle.command_table.specs.declared.Act.TheVariants as Act
@@ -9,12 +9,8 @@ use Rattle.command_table.specs.declared.View.TheVariants as View
 use Rattle.command_table.specs.declared.Issue.TheVariants as Issue
 use Rattle.command_table.specs.declared.Share.TheVariants as Share
 use Rattle.command_table.specs.declared.Verb.{Verb}
-use Rattle.command_table.specs.declared.Verb.TheVariants as Verb
 use Rattle.command_table.specs.declared.Form.{Form}
-use Rattle.command_table.specs.declared.Form.TheVariants as Form
 use Rattle.command_table.specs.declared.Entry.{Entry}
-use Rattle.command_table.specs.declared.Named.{Named}
-use Rattle.command_table.specs.declared.Named.TheVariants as Named
 
 -- The table
 
@@ -85,10 +81,10 @@ abbrev pub entry_at : ℕ → Entry
 entry_at index = record { row = index; form = (row_at index).form; verb = (row_at index).verb }
 
 -- the first command from an index on that has the name; so many are left
-unfoldable pub among : ℕ → ℕ → List ℕ → Named
-among zero index word = Named.Unknown
-among (suc n) index word = cond (same word (name_at index)) (Named.Known (entry_at index)) (among n (suc index) word)
+unfoldable pub among : ℕ → ℕ → List ℕ → Option Entry
+among zero index word = None
+among (suc n) index word = cond (same word (name_at index)) (Some (entry_at index)) (among n (suc index) word)
 
 -- the command that has the name, if any has
-unfoldable pub command_of : List ℕ → Named
+unfoldable pub command_of : List ℕ → Option Entry
 command_of word = among (length rows) 0 word

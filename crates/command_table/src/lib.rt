@@ -3,10 +3,9 @@
 // Every public function here is proved, total and without a `requires`.
 #![tactic(auto)]
 
-ghost use Rattle.std.specs.Prelude.{◌≡◌, ◌<◌, length};
-ghost use Rattle.text.specs.Text.{put_in, put_end, same};
-ghost use Rattle.command_table.specs.Commands.{rows, row_at, name_at, usage_at, entry_at, command_of};
-ghost use Rattle.command_table.specs.Inner.{table_bytes, form_of};
+ghost use Rattle.std.specs.Prelude.{◌≡◌};
+ghost use Rattle.text.specs.Text.{put_in, put_end};
+ghost use Rattle.command_table.specs.Commands.{name_at, usage_at, command_of};
 
 // What changes or tells the unit and the bank of a session.
 #[derive(Clone, Copy)]
@@ -103,208 +102,237 @@ pub struct Entry {
     pub verb: Verb,
 }
 
-// The command that has a name, if any has.
+// A row of the table: the name of a command, its usage (the name, and what a designer is told to write after it), what comes after the name, and what it does.
 #[derive(Clone, Copy)]
-pub enum Named {
-    Known(Entry),
-    Unknown,
+struct Row {
+    name: &'static [u8],
+    usage: &'static [u8],
+    form: Form,
+    verb: Verb,
 }
 
-// How many commands there are, and how many bytes a row has.
-const COUNT: usize = 34;
-
-const WIDTH: usize = 48;
-
-// A row: how many bytes the name has, how many the usage, a number for what comes after the name (so many numbers; 16 more where one more may
-// follow, 32 more where a file follows, 48 more where a file may follow; 64 for a cycle, 65 for a list), and the usage, with spaces after it.
-const TABLE: [u8; COUNT * WIDTH] = *b"\
-\x05\x0b\x03fresh P S C                                  \
-\x04\x0a\x03mark Q R C                                   \
-\x06\x0c\x03unmark Q R C                                 \
-\x06\x08\x01search Q                                     \
-\x04\x04\x00read                                         \
-\x06\x08\x01vector Q                                     \
-\x03\x07\x02row Q R                                      \
-\x06\x08\x01states Q                                     \
-\x06\x08\x01greedy Q                                     \
-\x05\x07\x01bound Q                                      \
-\x05\x07\x01upper Q                                      \
-\x08\x0a\x01constant Q                                   \
-\x05\x0e\x40judge Q L L ..                               \
-\x04\x04\x00tick                                         \
-\x05\x07\x01start Q                                      \
-\x04\x04\x00bank                                         \
-\x04\x09\x20load FILE                                    \
-\x04\x09\x20save FILE                                    \
-\x04\x04\x00list                                         \
-\x05\x07\x01table Q                                      \
-\x07\x09\x01diagram Q                                    \
-\x04\x0b\x41loop Q Q ..                                  \
-\x06\x0d\x21record Q FILE                                \
-\x06\x0b\x20report FILE                                  \
-\x04\x09\x20ring FILE                                    \
-\x08\x10\x02simulate Q UNITS                             \
-\x06\x11\x32delays Q M [FILE]                            \
-\x06\x0f\x02arrive Q TICKET                              \
-\x04\x04\x00pass                                         \
-\x05\x05\x00queue                                        \
-\x07\x09\x01callers C                                    \
-\x04\x0f\x03call I Q TICKET                              \
-\x04\x04\x00turn                                         \
-\x05\x12\x12small S C [NUMBER]                           \
-";
-
-// What each command does, in the order of the rows.
-const VERBS: [Verb; COUNT] = [
-    Verb::Fresh,
-    Verb::Act(Act::Mark),
-    Verb::Act(Act::Unmark),
-    Verb::Act(Act::Search),
-    Verb::Act(Act::Read),
-    Verb::Ask(Ask::Vector),
-    Verb::Ask(Ask::Row),
-    Verb::Ask(Ask::States),
-    Verb::Ask(Ask::Greedy),
-    Verb::Ask(Ask::Bound),
-    Verb::Ask(Ask::Upper),
-    Verb::Ask(Ask::Constant),
-    Verb::Ask(Ask::Judge),
-    Verb::Act(Act::Tick),
-    Verb::Act(Act::Start),
-    Verb::Act(Act::Bank),
-    Verb::Load,
-    Verb::Show(Show::Save),
-    Verb::Show(Show::List),
-    Verb::Show(Show::Table),
-    Verb::Show(Show::Diagram),
-    Verb::Show(Show::Loop),
-    Verb::Show(Show::Record),
-    Verb::View(View::Report),
-    Verb::View(View::Ring),
-    Verb::Show(Show::Simulate),
-    Verb::Show(Show::Delays),
-    Verb::Issue(Issue::Arrive),
-    Verb::Issue(Issue::Pass),
-    Verb::Issue(Issue::Queue),
-    Verb::Share(Share::Callers),
-    Verb::Share(Share::Call),
-    Verb::Share(Share::Turn),
-    Verb::Small,
+// The table, a row for each command.
+const ROWS: [Row; 34] = [
+    Row {
+        name: b"fresh",
+        usage: b"fresh P S C",
+        form: Form::Numbers(3),
+        verb: Verb::Fresh,
+    },
+    Row {
+        name: b"mark",
+        usage: b"mark Q R C",
+        form: Form::Numbers(3),
+        verb: Verb::Act(Act::Mark),
+    },
+    Row {
+        name: b"unmark",
+        usage: b"unmark Q R C",
+        form: Form::Numbers(3),
+        verb: Verb::Act(Act::Unmark),
+    },
+    Row {
+        name: b"search",
+        usage: b"search Q",
+        form: Form::Numbers(1),
+        verb: Verb::Act(Act::Search),
+    },
+    Row {
+        name: b"read",
+        usage: b"read",
+        form: Form::Numbers(0),
+        verb: Verb::Act(Act::Read),
+    },
+    Row {
+        name: b"vector",
+        usage: b"vector Q",
+        form: Form::Numbers(1),
+        verb: Verb::Ask(Ask::Vector),
+    },
+    Row {
+        name: b"row",
+        usage: b"row Q R",
+        form: Form::Numbers(2),
+        verb: Verb::Ask(Ask::Row),
+    },
+    Row {
+        name: b"states",
+        usage: b"states Q",
+        form: Form::Numbers(1),
+        verb: Verb::Ask(Ask::States),
+    },
+    Row {
+        name: b"greedy",
+        usage: b"greedy Q",
+        form: Form::Numbers(1),
+        verb: Verb::Ask(Ask::Greedy),
+    },
+    Row {
+        name: b"bound",
+        usage: b"bound Q",
+        form: Form::Numbers(1),
+        verb: Verb::Ask(Ask::Bound),
+    },
+    Row {
+        name: b"upper",
+        usage: b"upper Q",
+        form: Form::Numbers(1),
+        verb: Verb::Ask(Ask::Upper),
+    },
+    Row {
+        name: b"constant",
+        usage: b"constant Q",
+        form: Form::Numbers(1),
+        verb: Verb::Ask(Ask::Constant),
+    },
+    Row {
+        name: b"judge",
+        usage: b"judge Q L L ..",
+        form: Form::Cycle,
+        verb: Verb::Ask(Ask::Judge),
+    },
+    Row {
+        name: b"tick",
+        usage: b"tick",
+        form: Form::Numbers(0),
+        verb: Verb::Act(Act::Tick),
+    },
+    Row {
+        name: b"start",
+        usage: b"start Q",
+        form: Form::Numbers(1),
+        verb: Verb::Act(Act::Start),
+    },
+    Row {
+        name: b"bank",
+        usage: b"bank",
+        form: Form::Numbers(0),
+        verb: Verb::Act(Act::Bank),
+    },
+    Row {
+        name: b"load",
+        usage: b"load FILE",
+        form: Form::File(0),
+        verb: Verb::Load,
+    },
+    Row {
+        name: b"save",
+        usage: b"save FILE",
+        form: Form::File(0),
+        verb: Verb::Show(Show::Save),
+    },
+    Row {
+        name: b"list",
+        usage: b"list",
+        form: Form::Numbers(0),
+        verb: Verb::Show(Show::List),
+    },
+    Row {
+        name: b"table",
+        usage: b"table Q",
+        form: Form::Numbers(1),
+        verb: Verb::Show(Show::Table),
+    },
+    Row {
+        name: b"diagram",
+        usage: b"diagram Q",
+        form: Form::Numbers(1),
+        verb: Verb::Show(Show::Diagram),
+    },
+    Row {
+        name: b"loop",
+        usage: b"loop Q Q ..",
+        form: Form::List,
+        verb: Verb::Show(Show::Loop),
+    },
+    Row {
+        name: b"record",
+        usage: b"record Q FILE",
+        form: Form::File(1),
+        verb: Verb::Show(Show::Record),
+    },
+    Row {
+        name: b"report",
+        usage: b"report FILE",
+        form: Form::File(0),
+        verb: Verb::View(View::Report),
+    },
+    Row {
+        name: b"ring",
+        usage: b"ring FILE",
+        form: Form::File(0),
+        verb: Verb::View(View::Ring),
+    },
+    Row {
+        name: b"simulate",
+        usage: b"simulate Q UNITS",
+        form: Form::Numbers(2),
+        verb: Verb::Show(Show::Simulate),
+    },
+    Row {
+        name: b"delays",
+        usage: b"delays Q M [FILE]",
+        form: Form::OptionalFile(2),
+        verb: Verb::Show(Show::Delays),
+    },
+    Row {
+        name: b"arrive",
+        usage: b"arrive Q TICKET",
+        form: Form::Numbers(2),
+        verb: Verb::Issue(Issue::Arrive),
+    },
+    Row {
+        name: b"pass",
+        usage: b"pass",
+        form: Form::Numbers(0),
+        verb: Verb::Issue(Issue::Pass),
+    },
+    Row {
+        name: b"queue",
+        usage: b"queue",
+        form: Form::Numbers(0),
+        verb: Verb::Issue(Issue::Queue),
+    },
+    Row {
+        name: b"callers",
+        usage: b"callers C",
+        form: Form::Numbers(1),
+        verb: Verb::Share(Share::Callers),
+    },
+    Row {
+        name: b"call",
+        usage: b"call I Q TICKET",
+        form: Form::Numbers(3),
+        verb: Verb::Share(Share::Call),
+    },
+    Row {
+        name: b"turn",
+        usage: b"turn",
+        form: Form::Numbers(0),
+        verb: Verb::Share(Share::Turn),
+    },
+    Row {
+        name: b"small",
+        usage: b"small S C [NUMBER]",
+        form: Form::Optional(2),
+        verb: Verb::Small,
+    },
 ];
 
-// The table as bytes.
-fn table() -> [u8; COUNT * WIDTH]
-    ensures { result ≡ table_bytes }
-{
-    TABLE
-}
-
-// The name of a command, a part of the table.
-fn name_in<'a>(table: &'a [u8], index: usize) -> &'a [u8]
-    requires table_value { table.now ≡ table_bytes }
-    requires index_in_bounds { index < length rows }
-    ensures { result.now ≡ name_at index }
-{
-    let from = index * WIDTH;
-    let start = from + 3;
-    let end = start + table[from] as usize;
-    &table[start..end]
-}
-
-// The usage of a command, a part of the table.
-fn usage_in<'a>(table: &'a [u8], index: usize) -> &'a [u8]
-    requires table_value { table.now ≡ table_bytes }
-    requires index_in_bounds { index < length rows }
-    ensures { result.now ≡ usage_at index }
-{
-    let from = index * WIDTH;
-    let start = from + 3;
-    let end = start + table[from + 1] as usize;
-    &table[start..end]
-}
-
-// What comes after a name, by its number in the table.
-fn form_of(number: u8) -> Form
-    ensures { result ≡ form_of number }
-{
-    if number < 16 {
-        return Form::Numbers(number as usize);
-    }
-    if number < 32 {
-        return Form::Optional((number - 16) as usize);
-    }
-    if number < 48 {
-        return Form::File((number - 32) as usize);
-    }
-    if number < 64 {
-        return Form::OptionalFile((number - 48) as usize);
-    }
-    if number == 64 {
-        return Form::Cycle;
-    }
-    Form::List
-}
-
-// What a command does.
-fn verb_at(index: usize) -> Verb
-    requires { index < length rows }
-    ensures { result ≡ (row_at index).verb }
-{
-    VERBS[index]
-}
-
-fn entry_at(table: &[u8], index: usize) -> Entry
-    requires table_value { table.now ≡ table_bytes }
-    requires index_in_bounds { index < length rows }
-    ensures { result ≡ entry_at index }
-{
-    let form = form_of(table[index * WIDTH + 2]);
-    let verb = verb_at(index);
-    Entry {
-        row: index,
-        form,
-        verb,
-    }
-}
-
-// Whether two texts are the same, byte by byte.
-fn is_same(word: &[u8], name: &[u8]) -> bool
-    ensures { result ≡ same word.now name.now }
-{
-    if word.len() != name.len() {
-        return false;
-    }
-    let mut i = 0;
-    while i < word.len() {
-        if word[i] != name[i] {
-            return false;
-        }
-        i += 1;
-    }
-    true
-}
-
-// The command that has the name, if any has, looked for in the table.
-fn find_in(table: &[u8], word: &[u8]) -> Named
-    requires { table.now ≡ table_bytes }
-    ensures { result ≡ command_of word.now }
-{
-    let mut index = 0;
-    while index < COUNT {
-        if is_same(word, name_in(table, index)) {
-            return Named::Known(entry_at(table, index));
-        }
-        index += 1;
-    }
-    Named::Unknown
-}
-
 // The command that has the name, if any has.
-pub fn find(word: &[u8]) -> Named
+pub fn find(word: &[u8]) -> Option<Entry>
     ensures { result ≡ command_of word.now }
 {
-    let table = table();
-    find_in(&table, word)
+    for (row, command) in ROWS.iter().enumerate() {
+        if command.name == word {
+            return Some(Entry {
+                row,
+                form: command.form,
+                verb: command.verb,
+            });
+        }
+    }
+    None
 }
 
 // Puts the name of a command.
@@ -312,11 +340,10 @@ pub fn put_name(out: &mut [u8], at: usize, index: usize) -> usize
     ensures value { result ≡ put_end out.old at (name_at index) }
     ensures out_after { out.new ≡ put_in out.old at (name_at index) }
 {
-    if COUNT <= index {
-        return at;
+    match ROWS.get(index) {
+        Some(row) => text::put(out, at, row.name),
+        None => at,
     }
-    let table = table();
-    text::put(out, at, name_in(&table, index))
 }
 
 // Puts the usage of a command: its name, and what a designer is told to write after it.
@@ -324,9 +351,8 @@ pub fn put_usage(out: &mut [u8], at: usize, index: usize) -> usize
     ensures value { result ≡ put_end out.old at (usage_at index) }
     ensures out_after { out.new ≡ put_in out.old at (usage_at index) }
 {
-    if COUNT <= index {
-        return at;
+    match ROWS.get(index) {
+        Some(row) => text::put(out, at, row.usage),
+        None => at,
     }
-    let table = table();
-    text::put(out, at, usage_in(&table, index))
 }

@@ -1,4 +1,5 @@
 -- A command written and parsed is the command again. Assumes nothing.
+use Rattle.std.proofs.Common.{Some, Ok, Err, None}
 use mathlib.Core.Path.{◌≡◌, refl, sym, ap, ◌∙◌}
 use mathlib.Core.Bool.{Bool, true, false, cond, not, ◌&&◌}
 use mathlib.Core.List.{List, [], ◌∷◌, ◌++◌, map, append_assoc, append-nil}
@@ -17,13 +18,11 @@ use Rattle.text.proofs.DecimalLaws.{decimal_some, decimal_value, decimal_digits}
 use Rattle.command_table.specs.declared.Verb.{Verb}
 use Rattle.command_table.specs.declared.Form.{Form}
 use Rattle.command_table.specs.declared.Form.TheVariants as Form
-use Rattle.command_table.specs.declared.Named.TheVariants as Named
 use Rattle.command_table.specs.Commands.{rows, row_at, name_at, entry_at, command_of}
 use Rattle.command_table.proofs.TableLaws.{is_letter, letters_only, name_some, name_letters, name_command}
 use Rattle.command.specs.declared.Trouble.TheVariants as Trouble
 use Rattle.command.specs.declared.Request.{Request}
-use Rattle.command.specs.declared.Parsed.{Parsed}
-use Rattle.command.specs.declared.Parsed.TheVariants as Parsed
+use Rattle.command.specs.Parsed.{Parsed}
 use Rattle.command.specs.Lines.{text_of, is_blank, parts_of, words_of, word_at, is_number, number_said, all_numbers, fits, requested, named, is_comment, said, meaning, narrowed, latencies_in, tags_in, word_in}
 use Rattle.command.proofs.WordLaws.{first_byte, first_blank, first_none, words_none, words_blank, words_first}
 use Rattle.command.proofs.NumberLaws.{digits_each, number_is}
@@ -207,22 +206,22 @@ module _ (row : ℕ) (listed : row < length rows) where
   letters : letters_only (name_at row) ≡ true
   letters = name_letters row listed
 
-  said_name : (words : List (List ℕ)) → said (name_at row ∷ words) ≡ named (Named.Known (entry_at row)) words
+  said_name : (words : List (List ℕ)) → said (name_at row ∷ words) ≡ named (Some (entry_at row)) words
   unfolding said
   said_name words =
-      ap (λ t. cond t Parsed.Nothing (named (command_of (name_at row)) words)) (letters_no_comment (name_at row) letters)
+      ap (λ t. cond t (Ok None) (named (command_of (name_at row)) words)) (letters_no_comment (name_at row) letters)
       ∙ ap (λ x. named x words) (name_command row listed)
 
   -- what a line of the name and words says
   line_says : (rest : List ℕ) (words : List (List ℕ)) → length (name_at row ++ rest) ≤ 4096 → returnless rest ≡ true
       → words_of (name_at row ++ rest) ≡ name_at row ∷ words → fits (row_at row).form words ≡ true
-      → meaning (name_at row ++ rest) ≡ Parsed.Command (requested (row_at row).verb words)
+      → meaning (name_at row ++ rest) ≡ Ok (Some (requested (row_at row).verb words))
   line_says rest words l r w f =
       let text : text_of (name_at row ++ rest) ≡ name_at row ++ rest =
       whole_text (name_at row ++ rest) (returnless_join (name_at row) rest (letters_returnless (name_at row) letters) r)
       in
       meaning_said (name_at row ++ rest) l ∙ ap (λ x. said (words_of x)) text ∙ ap said w ∙ said_name words
-      ∙ ap (λ b. cond b (Parsed.Command (requested (row_at row).verb words)) (Parsed.Bad (Trouble.Usage row))) f
+      ∙ ap (λ b. cond b (Ok (Some (requested (row_at row).verb words))) (Err (Trouble.Usage row))) f
 
   number_words : (numbers : List ℕ) → words_of (number_line row numbers) ≡ name_at row ∷ map decimal numbers
   number_words numbers = words_numbers (name_at row) numbers (name_some row listed) (letters_blankless (name_at row) letters)
@@ -261,10 +260,10 @@ same_request v p q r s = λ i. request v (p i) (q i) (r i) (s i)
 pub numbers_parsed : (row : ℕ) (numbers : List ℕ) → row < length rows → ((i : ℕ) → i < length numbers → get_or numbers i 0 < 2 ^ 32)
     → suits (row_at row).form numbers ≡ true → length (number_line row numbers) ≤ 4096
     → meaning (number_line row numbers)
-    ≡ Parsed.Command (record { verb = (row_at row).verb; count = length numbers; first = get_or numbers 0 0; second = get_or numbers 1 0; third = get_or numbers 2 0 })
+    ≡ Ok (Some (record { verb = (row_at row).verb; count = length numbers; first = get_or numbers 0 0; second = get_or numbers 1 0; third = get_or numbers 2 0 }))
 numbers_parsed row numbers h s e l =
     line_says row h (spaced numbers) (map decimal numbers) l (spaced_returnless numbers) (number_words row h numbers) (suits_fits (row_at row).form numbers s e)
-    ∙ ap Parsed.Command
+    ∙ ap (λ w. Ok (Some w))
     (same_request (row_at row).verb (count_decimal numbers) (number_at numbers 0 s) (number_at numbers 1 s) (number_at numbers 2 s))
 
 -- and so are the latencies of a cycle
@@ -323,13 +322,13 @@ pub file_parsed : (row : ℕ) (numbers file : List ℕ) → row < length rows �
     → ((i : ℕ) → i < length file → is_blank (get_or file i 0) ≡ false) → ((i : ℕ) → i < length file → get_or file i 0 ≡ 13 → ⊥)
     → length (file_line row numbers file) ≤ 4096
     → (meaning (file_line row numbers file)
-    ≡ Parsed.Command (record {
+    ≡ Ok (Some (record {
       verb = (row_at row).verb;
       count = length numbers + 1;
       first = get_or (numbers ++ (number_said file ∷ [])) 0 0;
       second = get_or (numbers ++ (number_said file ∷ [])) 1 0;
       third = get_or (numbers ++ (number_said file ∷ [])) 2 0;
-    }))
+    })))
     × (word_in (file_line row numbers file) (length numbers + 1) ≡ file)
 unfolding word_in
 file_parsed row numbers file h e s some each none l =
@@ -342,7 +341,7 @@ file_parsed row numbers file h e s some each none l =
     whole_text (file_line row numbers file) (returnless_join (name_at row) rest (letters_returnless (name_at row) (letters row h)) plain)
     in (
       line_says row h rest (file_words numbers file) l plain words (file_fits (row_at row).form numbers file s e)
-          ∙ ap Parsed.Command
+          ∙ ap (λ w. Ok (Some w))
           (same_request (row_at row).verb (file_count numbers file) (number_before numbers file 0 s) (number_before numbers file 1 s) (number_before numbers file 2 s)),
       ap (λ x. word_at (words_of x) (length numbers + 1)) text ∙ ap (λ w. word_at w (length numbers + 1)) words ∙ file_last (name_at row) numbers file,
     )

@@ -3,7 +3,6 @@
 
 ghost use Rattle.std.specs.Prelude.{◌≤◌, length};
 
-use listing::Listed;
 use std::io::{Input, Print, Read};
 
 // Reads some of the input, and answers how many bytes of the buffer it filled: 0 at the end of the input, or where it can't be read.
@@ -18,6 +17,7 @@ fn read_full(input: &mut impl Read, buffer: &mut [u8]) -> usize
     ensures { result ≤ length buffer.new }
 {
     let mut done = 0;
+    // A while: each read fills as much of the rest as it can.
     while done < buffer.len() {
         let count = read_some(input, &mut buffer[done..]);
         if count == 0 {
@@ -60,7 +60,7 @@ fn main(rt: HostRuntime) {
     let mut area = [0u8; listing::AREA];
     let listed = listing::list_file(&file[..count], &mut area);
     match listed {
-        Listed::Length(length) => print_text(&rt, &area, length as usize),
-        Listed::Refused(_) => {}
+        Ok(length) => print_text(&rt, &area, length as usize),
+        Err(_) => {}
     }
 }

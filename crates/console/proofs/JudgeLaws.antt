@@ -1,4 +1,5 @@
 -- The latencies of a line that are handed on: 257 suffice, since more than 256 are refused. Assumes nothing.
+use Rattle.std.proofs.Common.{Ok, Err}
 use mathlib.Core.Path.{◌≡◌, refl, sym, ap, ◌∙◌}
 use mathlib.Core.Bool.{Bool, true, false}
 use mathlib.Core.List.{List}
@@ -10,8 +11,7 @@ use lib.ListN.{length, take}
 use lib.Seq.{take_all, length-take-le}
 use Rattle.text.specs.Text.{put_in, put_end}
 use Rattle.unit.specs.declared.FunctionUnit.{FunctionUnit}
-use Rattle.unit.specs.declared.Answer.{Answer}
-use Rattle.unit.specs.declared.Answer.TheVariants.{Done, Refused}
+use Rattle.unit.specs.Answers.{Answer}
 use Rattle.unit.specs.Unit.{marked}
 use Rattle.unit.specs.Calls.{tag_answer}
 use Rattle.judge.specs.Judge.{good_cycle, meets, verdict, cycle_answer, judge_answer}
@@ -35,8 +35,8 @@ long_bad l h = rw (le-leb 1 (length l) (omega arith), lt-leb (length l) 256 h)
 -- cycles that are both bad are judged alike
 bad_alike : (a : Answer) (l m : List ℕ) (b c : Bool) → good_cycle l ≡ false → good_cycle m ≡ false → verdict (cycle_answer a l) b ≡ verdict (cycle_answer a m) c
 unfolding cycle_answer
-bad_alike Done l m b c e f = rw (e, f)
-bad_alike (Refused why) l m b c e f = refl
+bad_alike (Ok _) l m b c e f = rw (e, f)
+bad_alike (Err why) l m b c e f = refl
 
 long_cut : (u : FunctionUnit) (q : ℕ) (l : List ℕ) → 256 < length l → judge_answer u q (take 257 l) ≡ judge_answer u q l
 unfolding judge_answer

@@ -1,4 +1,5 @@
 -- What a command answers, and the session that it leaves. Assumes nothing.
+use Rattle.std.proofs.Common.{Ok, Err}
 use mathlib.Core.Path.{◌≡◌, refl, sym, ap, ◌∙◌, subst}
 use mathlib.Core.Bool.{Bool, true, false, not}
 use mathlib.Core.List.{List}
@@ -13,16 +14,15 @@ use Rattle.unit.specs.declared.Plan.{Plan}
 use Rattle.unit.specs.declared.Outcome.{Outcome}
 use Rattle.unit.specs.declared.Refusal.{Refusal}
 use Rattle.unit.specs.declared.Refusal.TheVariants.{NotSound, NoPlan}
-use Rattle.unit.specs.declared.Answer.{Answer}
-use Rattle.unit.specs.declared.Answer.TheVariants.{Done, Refused}
+use Rattle.unit.specs.Answers.{Answer}
 use Rattle.unit.specs.Unit.{sound_of}
 use Rattle.unit.specs.Calls.{check}
 use Rattle.unit.proofs.SoundLaws.{sound_means}
 use Rattle.controller.specs.declared.Event.{Event}
 use Rattle.controller.specs.declared.Stepped.{Stepped}
 use Rattle.controller.specs.Bank.{step_of}
-use Rattle.planner.specs.declared.Handed.{Handed}
-use Rattle.planner.specs.Plans.{search_answer, Found, SearchPromise, read_answer, handing, read_of}
+use Rattle.planner.specs.Plans.{search_answer, Found, SearchPromise, read_answer, read_of}
+use Rattle.planner.proofs.ReadLaws.{read_refused, read_done}
 use Rattle.questions.specs.Replies.{answered}
 use Rattle.session.specs.declared.Session.{Session}
 use Rattle.session.specs.declared.Reply.{Reply}
@@ -69,50 +69,40 @@ sought s {q} {made} zeros n p l =
 
 -- A read
 
-handing_answer : (a : Answer) (p : Plan) → (handing a p).answer ≡ a
-handing_answer Done p = refl
-handing_answer (Refused why) p = refl
-
-read_says : (u : FunctionUnit) {h : Handed} → h ≡ read_of u → h.answer ≡ read_answer u
-unfolding read_of
-read_says u e = ap (λ (x : Handed). x.answer) e ∙ handing_answer (read_answer u) u.plan
-
-read_plan : (u : FunctionUnit) {h : Handed} → h ≡ read_of u → h.answer ≡ Done → h.plan ≡ u.plan
-unfolding read_of
-read_plan u e d = ap (λ (x : Handed). x.plan) e ∙ ap (λ a. (handing a u.plan).plan) (sym (read_says u e) ∙ d)
-
 -- a sound unit with a plan
 record Planned (u : FunctionUnit) : Type 0 where
   sound : sound_of u ≡ true
   tag : eqb u.plan.tag 0 ≡ false
 
-read_done : (u : FunctionUnit) → read_answer u ≡ Done → Planned u
+planned : (u : FunctionUnit) → read_answer u ≡ Ok tt → Planned u
 unfolding read_answer
-read_done u e = go (sound_of u) (eqb u.plan.tag 0) refl refl e
+planned u e = go (sound_of u) (eqb u.plan.tag 0) refl refl e
   where
-    go : (b t : Bool) → sound_of u ≡ b → eqb u.plan.tag 0 ≡ t → check b NotSound (check (not t) NoPlan Done) ≡ Done → Planned u
+    go : (b t : Bool) → sound_of u ≡ b → eqb u.plan.tag 0 ≡ t → check b NotSound (check (not t) NoPlan (Ok tt)) ≡ Ok tt → Planned u
     go true false s n h = record { sound = s; tag = n }
     go true true s n h = let z : ◌≡◌ {A = ℕ} 0 1 = cc in absurd (omega arith)
     go false t s n h = let z : ◌≡◌ {A = ℕ} 0 1 = cc in absurd (omega arith)
 
 -- a plan that is handed out has at most 256 latencies
-pub read_few : (u : FunctionUnit) {h : Handed} → h ≡ read_of u → h.answer ≡ Done → h.plan.count ≤ 256
-read_few u {h} e d =
-    let p = read_done u (sym (read_says u e) ∙ d) in
-    subst (λ (x : Plan). x.count ≤ 256) (sym (read_plan u e d))
+pub read_few : (u : FunctionUnit) {plan : Plan} → read_of u ≡ Ok plan → plan.count ≤ 256
+read_few u e =
+    let d = read_done u e in
+    let p = planned u d.0 in
+    subst (λ (x : Plan). x.count ≤ 256) d.1
     (((sound_means u).0 p.sound).plan (λ z. nowhere (sym p.tag ∙ eq-eqb u.plan.tag 0 z))).1
 
-pub plan_refused : {s : Session} {h : Handed} {why : Refusal} {before after : List ℕ} {end : ℕ} → h ≡ read_of s.unit → h.answer ≡ Refused why
-    → Line (answer_line (Refused why)) before after end
+pub plan_refused : {s : Session} {why : Refusal} {before after : List ℕ} {end : ℕ} → read_of s.unit ≡ Err why
+    → Line (answer_line (Err why)) before after end
     → Gives (answered (read_answer s.unit) (plan_line s.unit.plan)) (λ x. x ≡ s) before after record { session = s; end = end }
-plan_refused {s} e r l =
-    record { line = line_as (ap (λ a. answered a (plan_line s.unit.plan)) (sym r ∙ read_says s.unit e)) l; next = refl }
+plan_refused {s} e l =
+    record { line = line_as (ap (λ a. answered a (plan_line s.unit.plan)) (sym (read_refused s.unit e))) l; next = refl }
 
-pub plan_told : {s : Session} {h : Handed} {before after : List ℕ} {end : ℕ} → h ≡ read_of s.unit → h.answer ≡ Done
-    → Line (plan_line h.plan) before after end
+pub plan_told : {s : Session} {plan : Plan} {before after : List ℕ} {end : ℕ} → read_of s.unit ≡ Ok plan
+    → Line (plan_line plan) before after end
     → Gives (answered (read_answer s.unit) (plan_line s.unit.plan)) (λ x. x ≡ s) before after record { session = s; end = end }
-plan_told {s} e d l =
+plan_told {s} e l =
+    let d = read_done s.unit e in
     record {
-      line = line_as (ap plan_line (read_plan s.unit e d) ∙ ap (λ a. answered a (plan_line s.unit.plan)) (sym d ∙ read_says s.unit e)) l;
+      line = line_as (ap plan_line (sym d.1) ∙ ap (λ a. answered a (plan_line s.unit.plan)) (sym d.0)) l;
       next = refl;
     }

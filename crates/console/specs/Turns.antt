@@ -1,11 +1,10 @@
 -- The commands on a session with a unit: what each is answered, and what it leaves.
-use Rattle.std.specs.Prelude.{◌≡◌, Bool, true, false, cond, List, [], ◌++◌, ℕ, take}
+use Rattle.std.specs.Prelude.{◌≡◌, Bool, true, false, cond, List, [], ◌++◌, ℕ, take, Ok, Err}
 use Rattle.text.specs.Text.{ascii, decimal, spaced, put_in, put_end}
 use Rattle.unit.specs.declared.Plan.{Plan}
 use Rattle.unit.specs.declared.Outcome.{Outcome}
 use Rattle.unit.specs.declared.Refusal.{Refusal}
-use Rattle.unit.specs.declared.Answer.{Answer}
-use Rattle.unit.specs.declared.Answer.TheVariants.{Done, Refused}
+use Rattle.unit.specs.Answers.{Answer}
 use Rattle.unit.specs.Calls.{mark_of, unmark_of}
 use Rattle.controller.specs.declared.Bank.{Bank}
 use Rattle.controller.specs.declared.Event.{Event}
@@ -111,8 +110,8 @@ pub record Sought (s : Session) (q : ℕ) (after : Session) : Type 0 where
   pub bank : after.bank ≡ s.bank
   pub queue : after.queue ≡ s.queue
   pub shared : after.shared ≡ s.shared
-  pub kept : (why : Refusal) → search_answer s.unit q 16000 ≡ Refused why → after.unit ≡ s.unit
-  pub found : search_answer s.unit q 16000 ≡ Done → Found s.unit q after.unit
+  pub kept : (why : Refusal) → search_answer s.unit q 16000 ≡ Err why → after.unit ≡ s.unit
+  pub found : search_answer s.unit q 16000 ≡ Ok tt → Found s.unit q after.unit
 
 -- an accepted mark or unmark leaves another unit, an empty bank and empty queues, an event another bank; a refused call leaves what was there
 abbrev pub ActNext : Act → Session → Request → Session → Type 0

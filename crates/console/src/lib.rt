@@ -17,7 +17,7 @@ use command_table::{Act, Ask, Verb};
 use controller::Event;
 use questions::Question;
 use session::{Reply, Session};
-use unit::{Answer, Segment, Tag};
+use unit::{Segment, Tag};
 use words::byte;
 
 fn mark(session: Session, request: Request, out: &mut [u8]) -> Reply
@@ -67,16 +67,13 @@ fn seek(session: Session, tag: Tag, out: &mut [u8]) -> Reply
 fn tell_plan(session: Session, out: &mut [u8]) -> Reply
     ensures { Gives (answered (read_answer session.unit) (plan_line session.unit.plan)) (λ after. after ≡ session) out.old out.new result }
 {
-    let unit = session.unit;
-    let handed = planner::read(unit);
-    let answer = handed.answer;
-    match answer {
-        Answer::Refused(why) => {
-            let end = session::put_answer(out, Answer::Refused(why));
+    match planner::read(session.unit) {
+        Err(why) => {
+            let end = session::put_answer(out, Err(why));
             Reply { session, end }
         }
-        Answer::Done => {
-            let end = lines::put_plan(out, handed.plan);
+        Ok(plan) => {
+            let end = lines::put_plan(out, plan);
             Reply { session, end }
         }
     }

@@ -1,6 +1,7 @@
 -- A start is granted exactly when its task collides with none of the tasks granted before it.
 -- The argument: bit k of register r is 1 exactly when r, started k time units from now, would collide with a granted task. This holds of an
 -- empty bank, and every event keeps it. Assumes nothing.
+use Rattle.std.proofs.Common.{Ok, Err}
 use Prim.Native.Nat.{ℕ, ◌+◌, ◌-◌, ◌%◌, ◌≤◌, ◌<◌}
 use mathlib.Core.Path.{◌≡◌, refl, ap, ◌∙◌, sym, subst}
 use mathlib.Core.Bool.{true, false, ◌||◌}
@@ -13,8 +14,7 @@ use Rattle.words.specs.Bits.{bit, is_set}
 use Rattle.words.proofs.Tests.{nowhere, or_cases, or_true_left, or_true_right, not_passed}
 use Rattle.words.proofs.BitLaws.{bit_zero, unset_zero}
 use Rattle.unit.specs.declared.FunctionUnit.{FunctionUnit}
-use Rattle.unit.specs.declared.Answer.{Answer}
-use Rattle.unit.specs.declared.Answer.TheVariants.{Done, Refused}
+use Rattle.unit.specs.Answers.{Answer}
 use Rattle.unit.specs.Table.{Table}
 use Rattle.unit.specs.Unit.{inside, marked, sound_of}
 use Rattle.unit.proofs.Laws.{within, sound_has}
@@ -168,9 +168,9 @@ module _ (u : FunctionUnit) (sound : sound_of u ≡ true) where
     where
       go : (e : Event) (a : Answer) → event_answer u c.bank e ≡ a
           → Kept u (record { bank = bank_then a c.bank (moved u c.bank e); history = history_then a c.history e })
-      go e (Refused why) p = kept
-      go Tick Done p = kept_tick u c kept
-      go (Start q) Done p =
+      go e (Err why) p = kept
+      go Tick (Ok _) p = kept_tick u c kept
+      go (Start q) (Ok _) p =
           let s = start_accepted u c.bank q p in
           kept_start u c kept q.0 s.tag (within u.functions 4 (sound_has u sound).functions).most s.granted
 

@@ -1,4 +1,5 @@
 -- Ticks: the bits of a bank after some of them, and that a bank brought from empty by the unit's events has no bit from n on. Assumes nothing.
+use Rattle.std.proofs.Common.{Ok, Err}
 use mathlib.Core.Path.{◌≡◌, refl, sym, ap, ◌∙◌}
 use mathlib.Core.Bool.{Bool, true, false, cond}
 use Prim.Native.Nat.{ℕ, zero, suc, ◌+◌, ◌-◌, ◌/◌, ◌%◌, ◌^◌, ◌≤◌, ◌<◌}
@@ -11,8 +12,7 @@ use borrow.Author.Tests.{eqb-true, eq-eqb}
 use Rattle.words.specs.Bits.{bit, is_set}
 use Rattle.words.proofs.BitLaws.{bit_zero, unset_zero, zero_unset, bit_above}
 use Rattle.unit.specs.declared.FunctionUnit.{FunctionUnit}
-use Rattle.unit.specs.declared.Answer.{Answer}
-use Rattle.unit.specs.declared.Answer.TheVariants.{Done, Refused}
+use Rattle.unit.specs.Answers.{Answer}
 use Rattle.unit.specs.Unit.{marked, sound_of}
 use Rattle.unit.proofs.Laws.{within, sound_has}
 use Rattle.collision.specs.Vector.{row_word, largest_column}
@@ -27,7 +27,7 @@ use Rattle.controller.proofs.StepLaws.{step_done, start_accepted}
 -- a tick is never refused where the unit is sound, and shifts the bank
 
 module _ (u : FunctionUnit) (sound : sound_of u ≡ true) where
-  pub tick_answered : (b : Bank) → event_answer u b Tick ≡ Done
+  pub tick_answered : (b : Bank) → event_answer u b Tick ≡ Ok tt
   unfolding event_answer
   tick_answered b = simp sound
 
@@ -125,9 +125,9 @@ unfolding step_of moved
 step_below u b e sound below = go e (event_answer u b e) refl
   where
     go : (e : Event) (a : Answer) → event_answer u b e ≡ a → Below (largest_column (marked u)) (bank_then a b (moved u b e))
-    go e (Refused why) p = below
-    go Tick Done p = shifted_below (largest_column (marked u)) b below
-    go (Start q) Done p =
+    go e (Err why) p = below
+    go Tick (Ok _) p = shifted_below (largest_column (marked u)) b below
+    go (Start q) (Ok _) p =
         started_below u q.0 b
         (omega (arith, (within q.0 u.functions (start_accepted u b q p).tag).most, (within u.functions 4 (sound_has u sound).functions).most)) below
 

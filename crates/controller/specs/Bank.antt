@@ -1,10 +1,9 @@
 -- The issue controller's bank of four registers, and what an event answers and makes of it.
-use Rattle.std.specs.Prelude.{ℕ, zero, suc, ◌/◌, ◌%◌, Bool, cond, leb, eqb}
+use Rattle.std.specs.Prelude.{ℕ, zero, suc, ◌/◌, ◌%◌, Bool, cond, leb, eqb, Ok, Err}
 use Rattle.std.specs.Int.Bits.{bit_or}
 use Rattle.unit.specs.declared.FunctionUnit.{FunctionUnit}
 use Rattle.unit.specs.declared.Refusal.TheVariants.{NotSound, NoSuchTag, NotGranted}
-use Rattle.unit.specs.declared.Answer.{Answer}
-use Rattle.unit.specs.declared.Answer.TheVariants.{Done, Refused}
+use Rattle.unit.specs.Answers.{Answer}
 use Rattle.unit.specs.Unit.{inside, marked, sound_of}
 use Rattle.unit.specs.Calls.{check}
 use Rattle.collision.specs.Vector.{row_word}
@@ -53,11 +52,11 @@ granted b q = eqb (register b q % 2) 0
 
 -- the answer to an event: the lowest number that applies, of 1 for a tick, of 1, 2 and 10 for a start, or done
 unfoldable pub event_answer : FunctionUnit → Bank → Event → Answer
-event_answer u b Tick = check (sound_of u) NotSound Done
+event_answer u b Tick = check (sound_of u) NotSound (Ok tt)
 event_answer u b (Start q) =
     check (sound_of u) NotSound
     (check (inside q.0 u.functions) NoSuchTag
-    (check (granted b q.0) NotGranted Done))
+    (check (granted b q.0) NotGranted (Ok tt)))
 
 -- the bank after an accepted event
 unfoldable pub moved : FunctionUnit → Bank → Event → Bank
@@ -66,8 +65,8 @@ moved u b (Start q) = started u q.0 b
 
 -- a refused event leaves the bank as it was
 abbrev pub bank_then : Answer → Bank → Bank → Bank
-bank_then Done old new = new
-bank_then (Refused why) old new = old
+bank_then (Ok _) old new = new
+bank_then (Err why) old new = old
 
 -- one event, on any bank
 unfoldable pub step_of : FunctionUnit → Bank → Event → Stepped

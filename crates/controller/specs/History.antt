@@ -1,10 +1,9 @@
 -- The tasks that a list of events starts, and what it means that the controller grants exactly the starts that collide with none of them.
-use Rattle.std.specs.Prelude.{ℕ, ◌+◌, ◌≡◌, true, ◌↔◌}
+use Rattle.std.specs.Prelude.{ℕ, ◌+◌, ◌≡◌, true, ◌↔◌, Ok, Err}
 use mathlib.Core.List.{List, [], ◌∷◌, Memᴰ}
 use Rattle.unit.specs.declared.FunctionUnit.{FunctionUnit}
 use Rattle.unit.specs.declared.Tag.{Tag}
-use Rattle.unit.specs.declared.Answer.{Answer}
-use Rattle.unit.specs.declared.Answer.TheVariants.{Done, Refused}
+use Rattle.unit.specs.Answers.{Answer}
 use Rattle.unit.specs.Table.{Table}
 use Rattle.unit.specs.Unit.{inside, marked, sound_of}
 use Rattle.collision.specs.Pipeline.{Task, Clash}
@@ -29,8 +28,8 @@ accepted h (Start q) = record { time = h.time + 1; tasks = task_now h q.0 ∷ h.
 
 -- a refused event takes no time and changes nothing
 abbrev pub history_then : Answer → History → Event → History
-history_then Done h e = accepted h e
-history_then (Refused why) h e = h
+history_then (Ok _) h e = accepted h e
+history_then (Err why) h e = h
 
 -- the bank, with the history that led to it
 pub record Course : Type 0 where
@@ -73,7 +72,7 @@ Apart T (x ∷ tasks) = Free T x tasks × Apart T tasks
 abbrev pub GrantedExactly : Type 0
 GrantedExactly =
     (u : FunctionUnit) → sound_of u ≡ true → (events : List Event) (q : Tag) → inside q.0 u.functions ≡ true
-    → (event_answer u (bank_after u events) (Start q) ≡ Done)
+    → (event_answer u (bank_after u events) (Start q) ≡ Ok tt)
     ↔ Free (marked u) (task_now (history_after u events) q.0) (history_after u events).tasks
 
 -- so that no segment ever serves two tasks in one time unit (`granted_apart`, proofs/Demand2.antt)

@@ -7,7 +7,7 @@ ghost use Rattle.std.specs.Prelude.{◌≡◌, ◌/◌};
 ghost use Rattle.std.specs.Int.Bits.{bit_or};
 ghost use Rattle.controller.specs.Bank.{register, shifted, row_for, started, event_answer, step_of};
 
-use unit::{Answer, FunctionUnit, Refusal, Tag};
+use unit::{FunctionUnit, Refusal, Tag};
 
 // Register r belongs to the function of tag r.
 #[derive(Clone, Copy)]
@@ -28,7 +28,7 @@ pub enum Event {
 // The answer to an event, and the bank that it leaves.
 #[derive(Clone, Copy)]
 pub struct Stepped {
-    pub answer: Answer,
+    pub answer: Result<(), Refusal>,
     pub bank: Bank,
 }
 
@@ -98,32 +98,27 @@ fn ticked(u: FunctionUnit, bank: Bank) -> Stepped
 {
     if !unit::sound(u) {
         return Stepped {
-            answer: Answer::Refused(Refusal::NotSound),
+            answer: Err(Refusal::NotSound),
             bank,
         };
     }
     let later = shifted_bank(bank);
     Stepped {
-        answer: Answer::Done,
+        answer: Ok(()),
         bank: later,
     }
 }
 
 // Whether a function can start now: the unit, then the tag, then the lowest bit of its register.
-fn check_start(u: FunctionUnit, bank: Bank, q: Tag) -> Answer
+fn check_start(u: FunctionUnit, bank: Bank, q: Tag) -> Result<(), Refusal>
     ensures { result ≡ event_answer u bank (Event.Start q) }
 {
-    let first = unit::check_tag(u, q);
-    match first {
-        Answer::Refused(why) => Answer::Refused(why),
-        Answer::Done => {
-            let register = register_of(bank, q.0);
-            if register % 2 == 1 {
-                return Answer::Refused(Refusal::NotGranted);
-            }
-            Answer::Done
-        }
+    unit::check_tag(u, q)?;
+    let register = register_of(bank, q.0);
+    if register % 2 == 1 {
+        return Err(Refusal::NotGranted);
     }
+    Ok(())
 }
 
 // A start by value. The rows are built only where it is granted.
@@ -132,14 +127,14 @@ fn start(u: FunctionUnit, bank: Bank, q: Tag) -> Stepped
 {
     let answer = check_start(u, bank, q);
     match answer {
-        Answer::Refused(why) => Stepped {
-            answer: Answer::Refused(why),
+        Err(why) => Stepped {
+            answer: Err(why),
             bank,
         },
-        Answer::Done => {
+        Ok(()) => {
             let next = started_bank(u, q, bank);
             Stepped {
-                answer: Answer::Done,
+                answer: Ok(()),
                 bank: next,
             }
         }
@@ -157,7 +152,7 @@ pub fn step(u: FunctionUnit, bank: Bank, event: Event) -> Stepped
 }
 
 // A tick on a lent bank.
-pub fn tick(u: FunctionUnit, bank: &mut Bank) -> Answer
+pub fn tick(u: FunctionUnit, bank: &mut Bank) -> Result<(), Refusal>
     ensures { (result ≡ event_answer u bank.old Event.Tick) × (bank.new ≡ (step_of u bank.old Event.Tick).bank) }
 {
     let after = ticked(u, *bank);

@@ -21,9 +21,6 @@ pub record Trying (s n t : ℕ) : Type 0 where
   pub most : t ≤ n + 1
   pub skipped : (k : ℕ) → 1 ≤ k → k < t → is_set s (k - 1) ≡ true
 
-pub try_start : (s n : ℕ) → Trying s n 1
-try_start s n = record { least = omega arith; most = omega arith; skipped = λ k h l. absurd (omega arith) }
-
 module _ {s n t : ℕ} (r : Trying s n t) where
   pub try_more : t ≤ n → is_set s (t - 1) ≡ true → Trying s n (t + 1)
   try_more h e = record {

@@ -1,14 +1,14 @@
 -- The listed diagram in the words: it stands over words that changed elsewhere, and every arc leads to a listed state. Assumes nothing.
 use mathlib.Core.Path.{◌≡◌, sym, ap, subst, ◌∙◌}
 use mathlib.Core.List.{List, [], ◌∷◌}
-use Prim.Native.Nat.{ℕ, ◌+◌, ◌-◌, ◌≤◌, ◌<◌}
+use Prim.Native.Nat.{ℕ, ◌≤◌, ◌<◌}
 use native.Mathlib.Decide.{dec_lt}
 use native.Mathlib.Omega.{arith}
 use lib.ListN.{length, get_or, take}
 use lib.Seq.{get_or-take, length-take-le, ext_get_or}
 use Rattle.diagram.specs.Diagram.{width, next, Permits}
 use Rattle.diagram.specs.States.{states}
-use Rattle.diagram.specs.Work.{state_in, head_in, link_in, bucket, place_in, Indexed}
+use Rattle.diagram.specs.Work.{state_in, place_in}
 use Rattle.diagram.proofs.IndexLaws.{index_kept, place_some, place_listed}
 use Rattle.diagram.proofs.Listing.{list_extends, states_distinct, states_closed}
 use Rattle.cycles.specs.Inner.{Walkable}

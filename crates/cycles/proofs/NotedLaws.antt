@@ -1,13 +1,13 @@
 -- The turns of the loop that copies latencies to the bytes and adds them up. Assumes nothing.
-use mathlib.Core.Path.{◌≡◌, refl, sym, ap, ◌∙◌}
-use mathlib.Core.List.{List, ◌++◌}
+use mathlib.Core.Path.{◌≡◌, sym, ap, ◌∙◌}
+use mathlib.Core.List.{List}
 use Prim.Native.Nat.{ℕ, ◌+◌, ◌*◌, ◌≤◌, ◌<◌}
 use native.Mathlib.Omega.{arith}
 use lib.ListN.{length, get_or, set, take, drop, length-drop}
-use lib.Seq.{get_or-take, get_or-drop, length-take-le, take-length}
+use lib.Seq.{get_or-take, get_or-drop, length-take-le}
 use Rattle.collision.specs.Pipeline.{total}
 use Rattle.collision.proofs.StartLaws.{sum_more}
-use Rattle.diagram.proofs.CopyLaws.{front, front_length, front_more}
+use Rattle.diagram.proofs.CopyLaws.{front, front_more}
 use Rattle.cycles.specs.Inner.{noted_in, Copyable}
 
 -- i latencies are copied, and this is their sum
@@ -24,15 +24,7 @@ module _ (w : List ℕ) (from count : ℕ) (before : List ℕ) (h : Copyable w f
   noted_at : (i : ℕ) → i < count → get_or (noted_in w from count) i 0 ≡ get_or w (from + i) 0
   noted_at i l = get_or-take count (drop from w) i 0 l ∙ get_or-drop from w i 0
 
-  pub copy_start : Copying w from count before before 0 0
-  copy_start = record { most = omega arith; bytes = refl; adds = refl; small = omega arith }
-
   module _ (out : List ℕ) (sum i : ℕ) (r : Copying w from count before out sum i) where
-    pub copy_room : length out ≡ length before
-    copy_room =
-        ap length r.bytes
-        ∙ front_length (noted_in w from count) before i (omega (arith, long, r.most)) (omega (arith, h.fits, r.most))
-
     pub copy_more : i < count → Copying w from count before (set out i (get_or w (from + i) 0)) (sum + get_or w (from + i) 0) (i + 1)
     copy_more l = record {
       most = omega arith;
@@ -43,9 +35,3 @@ module _ (w : List ℕ) (from count : ℕ) (before : List ℕ) (h : Copyable w f
       adds = ap (λ x. sum + x) (sym (noted_at i l)) ∙ sum_more (noted_in w from count) i sum (omega (arith, long)) r.adds;
       small = omega (arith, r.small, h.low i l);
     }
-
-    pub copy_end : count ≤ i → (sum ≡ total (noted_in w from count)) × (out ≡ noted_in w from count ++ drop count before)
-    copy_end l =
-        let e : i ≡ count = omega (arith, r.most) in
-        let all : take i (noted_in w from count) ≡ noted_in w from count = ap (λ x. take x (noted_in w from count)) (e ∙ sym long) ∙ take-length (noted_in w from count) in
-        (r.adds ∙ ap total all, r.bytes ∙ ap (λ x. take i (noted_in w from count) ++ drop x before) e ∙ ap (λ x. x ++ drop count before) all)

@@ -9,7 +9,7 @@ use native.Mathlib.Numerals.{add-one}
 use native.Mathlib.Decide.{dec_lt}
 use native.Mathlib.Omega.{arith}
 use lib.Dec.{ltb, eqb}
-use lib.ListN.{length, get_or, drop, drop_of_length-le}
+use lib.ListN.{length, get_or, drop}
 use lib.Seq.{drop-cons}
 use borrow.Author.Count.{below_more}
 use borrow.Author.Tests.{lt-ltb, le-ltb, eq-eqb, ne_eqb, ltb-true, eqb-true}
@@ -83,11 +83,6 @@ module _ (l : List ℕ) (one other : ℕ) where
   -- what is left of the two lists decides
   abbrev pub Comparing : ℕ → Type 0
   Comparing i = comes_first (drop i (rotate l one)) (drop i (rotate l other)) ≡ comes_first (rotate l one) (rotate l other)
-
-  pub compare_end : (i : ℕ) → Comparing i → length l ≤ i → true ≡ comes_first (rotate l one) (rotate l other)
-  compare_end i r h =
-      let all : length (rotate l one) ≤ i = omega (arith, rotate_length l one) in
-      ap (λ a. comes_first a (drop i (rotate l other))) (sym (drop_of_length-le (rotate l one) all)) ∙ r
 
   module _ (i : ℕ) (r : Comparing i) (more : i < length l) (low : one < length l) (high : other < length l) where
     cut : (k : ℕ) → k < length l → drop i (rotate l k) ≡ turned l k i ∷ drop (suc i) (rotate l k)

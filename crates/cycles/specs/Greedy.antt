@@ -1,12 +1,11 @@
 -- The greedy cycle: from the first state always the least latency; the cycle starts at the first state of that walk that occurs again.
 -- g is the least interval between two starts (1 in every call of the base).
-use Rattle.std.specs.Prelude.{◌≡◌, cond, List, [], ◌∷◌, ◌++◌, ℕ, zero, suc, ◌≤◌, leb, eqb, length, get_or, drop}
+use Rattle.std.specs.Prelude.{◌≡◌, cond, List, [], ◌∷◌, ◌++◌, ℕ, zero, suc, ◌≤◌, leb, eqb, length, get_or, drop, Result, Ok, Err}
 use Rattle.words.specs.Below.{least_from}
 use Rattle.unit.specs.declared.FunctionUnit.{FunctionUnit}
 use Rattle.unit.specs.declared.Refusal.{Refusal}
 use Rattle.unit.specs.declared.Refusal.TheVariants.{ShortWork, ShortOutput, TooManyStates}
-use Rattle.unit.specs.declared.Answer.{Answer}
-use Rattle.unit.specs.declared.Answer.TheVariants.{Done, Refused}
+use Rattle.unit.specs.Answers.{Answer}
 use Rattle.unit.specs.Table.{Table}
 use Rattle.unit.specs.Unit.{marked}
 use Rattle.unit.specs.Calls.{check, and_then, tag_answer}
@@ -15,8 +14,7 @@ use Rattle.collision.specs.Vector.{vector_word}
 use Rattle.diagram.specs.Diagram.{width, next, longest}
 use Rattle.diagram.specs.States.{has, arc}
 use Rattle.diagram.specs.Answers.{few_states, written}
-use Rattle.cycles.specs.declared.GreedyAnswer.{GreedyAnswer}
-use Rattle.cycles.specs.declared.GreedyAnswer.TheVariants as GreedyAnswer
+use Rattle.cycles.specs.declared.Counted.{Counted}
 
 -- The cycle
 
@@ -54,11 +52,11 @@ greedy_refusal u q room out =
     (check (leb 256 out) ShortOutput (few_states 1 (marked u) q)))
 
 -- how many latencies the cycle has, and their sum
-abbrev pub counting : Answer → List ℕ → GreedyAnswer
-counting Done l = GreedyAnswer.Cycle (record { count = length l; sum = total l })
-counting (Refused why) l = GreedyAnswer.Refused why
+abbrev pub counting : Answer → List ℕ → Result Counted Refusal
+counting (Ok _) l = Ok (record { count = length l; sum = total l })
+counting (Err why) l = Err why
 
-unfoldable pub greedy_answer : FunctionUnit → ℕ → ℕ → ℕ → GreedyAnswer
+unfoldable pub greedy_answer : FunctionUnit → ℕ → ℕ → ℕ → Result Counted Refusal
 greedy_answer u q room out = counting (greedy_refusal u q room out) (greedy_of 1 (marked u) q)
 
 -- the cycle fills the front of the lent bytes, the others stay as before; a refused call changes none
@@ -69,7 +67,7 @@ greedy_out u q room bytes = written (greedy_refusal u q room (length bytes)) (gr
 pub record WordsAfter (free : ℕ) (answer : Answer) (before after : List ℕ) : Type 0 where
   pub size : length after ≡ length before
   pub beyond : (i : ℕ) → free ≤ i → get_or after i 0 ≡ get_or before i 0
-  pub kept : (why : Refusal) → answer ≡ Refused why → (why ≡ TooManyStates → ⊥) → after ≡ before
+  pub kept : (why : Refusal) → answer ≡ Err why → (why ≡ TooManyStates → ⊥) → after ≡ before
 
 -- greedy and search use the first 2,048
 abbrev pub WorkAfter : Answer → List ℕ → List ℕ → Type 0

@@ -9,7 +9,6 @@ ghost use Rattle.graphs.specs.Rotation.{rotate};
 ghost use Rattle.cycles.specs.Rotation.{comes_first, first_rotation};
 ghost use Rattle.cycles.specs.Inner.{noted_in, Unmarked, Ready, Stepped, Walkable, Walked, Copyable};
 
-use collision::Number;
 use unit::{FunctionUnit, Refusal, Tag};
 
 // How many latencies a cycle has, and their sum.
@@ -17,13 +16,6 @@ use unit::{FunctionUnit, Refusal, Tag};
 pub struct Counted {
     pub count: u32,
     pub sum: u32,
-}
-
-// The greedy cycle, whose latencies then stand in the lent bytes, or why there is none.
-#[derive(Clone, Copy)]
-pub enum GreedyAnswer {
-    Cycle(Counted),
-    Refused(Refusal),
 }
 
 // Where the latencies of a cycle stand in the working words.
@@ -38,11 +30,7 @@ fn clear_marks(work: &mut [u32])
     requires { 2048 ≤ length work.old }
     ensures { Unmarked work.old work.new }
 {
-    let mut slot = 768;
-    while slot < 1024 {
-        work[slot] = 0;
-        slot += 1;
-    }
+    work[768..1024].fill(0);
 }
 
 // The least latency that a state permits. Every state permits the one after the last column.
@@ -50,14 +38,12 @@ fn least_latency(state: u32, columns: u32) -> u32
     requires { columns ≤ 32 }
     ensures { result ≡ least_latency 1 columns state }
 {
-    let mut latency = 1;
-    while latency <= columns {
+    for latency in 1..=columns {
         if !words::test(state, latency - 1) {
             return latency;
         }
-        latency += 1;
     }
-    latency
+    columns + 1
 }
 
 // One step of the walk, from the state at a place: marks the state, notes its least latency, and answers the place to which that leads.
@@ -89,6 +75,7 @@ fn walk(work: &mut [u32], vector: u32, states: usize) -> Noted
     let columns = diagram::width_of(vector);
     let mut at = 0;
     let mut step = 0;
+    // A while: the walk ends at the first state that has a mark.
     while work[768 + at] == 0 {
         at = take_step(work, vector, columns, states, at, step);
         step += 1;
@@ -105,48 +92,46 @@ fn copy_latencies(work: &[u32], from: usize, count: usize, out: &mut [u8]) -> u3
     ensures { (result ≡ total (noted_in work.now from count)) × (out.new ≡ noted_in work.now from count ++ drop count out.old) }
 {
     let mut sum = 0;
-    let mut i = 0;
-    while i < count {
+    for i in 0..count {
         let latency = work[from + i];
         out[i] = latency as u8;
         sum += latency;
-        i += 1;
     }
     sum
 }
 
 // The greedy cycle of a function: from the first state always by the least latency. The cycle starts at the first state of that walk that
 // occurs again, and is written to the front of the lent bytes. It works over the listed diagram, in the first 2,048 working words.
-pub fn greedy(u: FunctionUnit, tag: Tag, work: &mut [u32], out: &mut [u8]) -> GreedyAnswer
+pub fn greedy(
+    u: FunctionUnit,
+    tag: Tag,
+    work: &mut [u32],
+    out: &mut [u8],
+) -> Result<Counted, Refusal>
     ensures { (result ≡ greedy_answer u tag.0 (length work.old) (length out.old))
         × (out.new ≡ greedy_out u tag.0 (length work.old) out.old)
         × WorkAfter (greedy_refusal u tag.0 (length work.old) (length out.old)) work.old work.new }
 {
-    let vector = collision::vector(u, tag);
-    match vector {
-        Number::Refused(why) => GreedyAnswer::Refused(why),
-        Number::Value(word) => {
-            if work.len() < 16000 {
-                return GreedyAnswer::Refused(Refusal::ShortWork);
-            }
-            if out.len() < 256 {
-                return GreedyAnswer::Refused(Refusal::ShortOutput);
-            }
-            let states = diagram::enlist(word, work);
-            if states == 0 {
-                return GreedyAnswer::Refused(Refusal::TooManyStates);
-            }
-            let cycle = walk(work, word, states);
-            let from = cycle.from;
-            let count = cycle.count;
-            let sum = copy_latencies(work, from, count, out);
-            let latencies = count as u32;
-            GreedyAnswer::Cycle(Counted {
-                count: latencies,
-                sum,
-            })
-        }
+    let word = collision::vector(u, tag)?;
+    if work.len() < 16000 {
+        return Err(Refusal::ShortWork);
     }
+    if out.len() < 256 {
+        return Err(Refusal::ShortOutput);
+    }
+    let states = diagram::enlist(word, work);
+    if states == 0 {
+        return Err(Refusal::TooManyStates);
+    }
+    let cycle = walk(work, word, states);
+    let from = cycle.from;
+    let count = cycle.count;
+    let sum = copy_latencies(work, from, count, out);
+    let latencies = count as u32;
+    Ok(Counted {
+        count: latencies,
+        sum,
+    })
 }
 
 // Whether one rotation of a cycle comes before another, or is the same list of numbers.
@@ -154,8 +139,7 @@ fn comes_first(cycle: &[u8], one: usize, other: usize) -> bool
     requires { (one < length cycle.now) × (other < length cycle.now) }
     ensures { result ≡ comes_first (rotate cycle.now one) (rotate cycle.now other) }
 {
-    let mut i = 0;
-    while i < cycle.len() {
+    for i in 0..cycle.len() {
         let a = cycle[(one + i) % cycle.len()];
         let b = cycle[(other + i) % cycle.len()];
         if a < b {
@@ -164,7 +148,6 @@ fn comes_first(cycle: &[u8], one: usize, other: usize) -> bool
         if b < a {
             return false;
         }
-        i += 1;
     }
     true
 }
@@ -175,12 +158,10 @@ pub fn first_rotation(cycle: &[u8]) -> usize
     ensures { result ≡ first_rotation cycle.now }
 {
     let mut first = 0;
-    let mut rotation = 1;
-    while rotation < cycle.len() {
+    for rotation in 1..cycle.len() {
         if !comes_first(cycle, first, rotation) {
             first = rotation;
         }
-        rotation += 1;
     }
     first
 }

@@ -1,4 +1,5 @@
 -- Where there is room, only 1, 2, 19, 20 and 21 refuse, and the file that is written is read as the unit with delays. Assumes nothing.
+use Rattle.std.proofs.Common.{Ok, Err}
 use mathlib.Core.Path.{◌≡◌, refl, sym, ap, ◌∙◌}
 use mathlib.Core.Bool.{true}
 use mathlib.Core.List.{List}
@@ -9,8 +10,7 @@ use lib.ListN.{length, take, drop}
 use lib.Seq.{take_at}
 use Rattle.unit.specs.declared.FunctionUnit.{FunctionUnit}
 use Rattle.unit.specs.declared.Outcome.{Outcome}
-use Rattle.unit.specs.declared.Answer.{Answer}
-use Rattle.unit.specs.declared.Answer.TheVariants.{Done, Refused}
+use Rattle.unit.specs.Answers.{Answer}
 use Rattle.unit.specs.Unit.{marked, sound_of}
 use Rattle.unit.specs.Calls.{and_then, tag_answer, unit_of, outcome}
 use Rattle.unit.proofs.Laws.{within, sound_has}
@@ -28,15 +28,15 @@ use Rattle.delay_text.specs.Shown.{delayed_table_refusal, delayed_file_refusal, 
 use Rattle.delay_text.specs.Claims.{TableFits, FileFits, SavedRead}
 
 -- tests that pass where others did leave those
-only_these : (a next : Answer) → (a ≡ Done → next ≡ Done) → and_then a next ≡ a
-only_these Done next e = e refl
-only_these (Refused why) next e = refl
+only_these : (a next : Answer) → (a ≡ Ok tt → next ≡ Ok tt) → and_then a next ≡ a
+only_these (Ok _) next e = e refl
+only_these (Err why) next e = refl
 
-module _ (u : FunctionUnit) (q m : ℕ) (d : delays_answer u q m ≡ Done) where
+module _ (u : FunctionUnit) (q m : ℕ) (d : delays_answer u q m ≡ Ok tt) where
   abbrev v : FunctionUnit
   v = delayed_unit u q m
 
-  pub made : delays_of u q m ≡ record { answer = Done; unit = v }
+  pub made : delays_of u q m ≡ record { answer = (Ok tt); unit = v }
   unfolding delays_of
   made = ap (λ (a : Answer). outcome a u v) d
 
@@ -46,11 +46,11 @@ module _ (u : FunctionUnit) (q m : ℕ) (d : delays_answer u q m ≡ Done) where
   sound : sound_of v ≡ true
   sound = ap sound_of (sym unit_is) ∙ (delays_permit u q m d).sound
 
-  tag : tag_answer v 1 ≡ Done
+  tag : tag_answer v 1 ≡ Ok tt
   unfolding tag_answer unit_of
   tag = rw sound
 
-  table_taken : (room : ℕ) → 1700 ≤ room → table_refusal v 1 room ≡ Done
+  table_taken : (room : ℕ) → 1700 ≤ room → table_refusal v 1 room ≡ Ok tt
   unfolding table_refusal
   table_taken room h = rw (tag, le-leb (length (unit_table v 1)) room (omega (arith, table_suffices v 1 tag)))
 
@@ -58,7 +58,7 @@ module _ (u : FunctionUnit) (q m : ℕ) (d : delays_answer u q m ≡ Done) where
   unfolding unit_of
   short = omega (arith, (within u.segments 16 (sound_has v sound).segments).most)
 
-  file_taken : (room : ℕ) → 70 ≤ room → write_refusal v room ≡ Done
+  file_taken : (room : ℕ) → 70 ≤ room → write_refusal v room ≡ Ok tt
   unfolding write_refusal unit_of
   file_taken room h = rw (sound, le-leb (file_length 1 u.segments) room (omega (arith, short)))
 
@@ -66,7 +66,7 @@ module _ (u : FunctionUnit) (q m : ℕ) (d : delays_answer u q m ≡ Done) where
   back : read_of (unit_file v) ≡ delays_of u q m
   back =
       let same = unit_of_same v (marked v) (unit_of_words 1 u.segments _ _) (ap (λ (w : FunctionUnit). w.plan) (sym unit_is) ∙ (delays_permit u q m d).plan) refl in
-      unit_read v sound ∙ ap (λ (w : FunctionUnit). record { answer = Done; unit = w }) (sym same) ∙ sym made
+      unit_read v sound ∙ ap (λ (w : FunctionUnit). record { answer = (Ok tt); unit = w }) (sym same) ∙ sym made
 
   -- its length
   size : length (unit_file v) ≡ file_length 1 u.segments

@@ -1,4 +1,5 @@
 -- The table and the file of marks 1 3 6 with m = 3, worked out by hand; the room of the largest; and what the claims do not say. Assumes nothing.
+use Rattle.std.proofs.Common.{Ok, Err}
 use Prim.Native.Nat.{ℕ}
 use mathlib.Core.Path.{◌≡◌, refl, ap}
 use mathlib.Core.List.{[], ◌∷◌}
@@ -11,11 +12,9 @@ use Rattle.unit.specs.declared.Outcome.{Outcome}
 use Rattle.unit.specs.declared.Refusal.TheVariants.{BadInterval, ShortOutput}
 use Rattle.unit.specs.Unit.{marked, marks_inside, sound_of}
 use Rattle.unit.specs.Calls.{no_plan, tag_answer, unit_of}
-use Rattle.unit_file.specs.declared.Written.TheVariants as Written
 use Rattle.unit_file.specs.File.{file_length, table_bytes, offset_bytes, file_of}
 use Rattle.unit_file.specs.Read.{read_answer, read_of}
 use Rattle.unit_file.specs.Write.{unit_file, write_refusal}
-use Rattle.drawing.specs.declared.Drawn.TheVariants as Drawn
 use Rattle.drawing.specs.Tables.{head_text, row_text, table_text}
 use Rattle.drawing.specs.Answers.{unit_table, table_refusal}
 use Rattle.collision.specs.Vector.{marks_of}
@@ -35,11 +34,11 @@ unfolding unit_of marked places next_place taken sharing some_below least_from m
 its_file = refl
 
 -- two lines of 28 bytes: 56 are enough, 55 are refused by 6
-pub table_room : (delayed_table_answer paper 1 3 56 ≡ Drawn.Length 56) × (delayed_table_answer paper 1 3 55 ≡ Drawn.Refused ShortOutput)
+pub table_room : (delayed_table_answer paper 1 3 56 ≡ Ok 56) × (delayed_table_answer paper 1 3 55 ≡ Err ShortOutput)
 unfolding delayed_table_answer delayed_table_refusal table_refusal delays_answer tag_answer sound_of marks_inside crowded marks_of max_below count_below no_plan unit_of marked places next_place taken sharing some_below least_from moved_table list_below word_below table_text head_text row_text join_below decimal digits
 table_room = (refl, refl)
 
-pub file_room : (delayed_file_answer paper 1 3 10 ≡ Written.Length 10) × (delayed_file_answer paper 1 3 9 ≡ Written.Refused ShortOutput)
+pub file_room : (delayed_file_answer paper 1 3 10 ≡ Ok 10) × (delayed_file_answer paper 1 3 9 ≡ Err ShortOutput)
 unfolding delayed_file_answer delayed_file_refusal write_refusal delays_answer tag_answer sound_of marks_inside crowded marks_of max_below count_below no_plan unit_of marked places next_place taken sharing some_below least_from moved_table list_below word_below
 file_room = (refl, refl)
 
@@ -49,7 +48,7 @@ unfolding delayed_file_out delayed_file_refusal write_refusal delays_answer tag_
 file_written = refl
 
 -- 20 is tried before the room
-pub before_room : (delayed_table_answer paper 1 2 0 ≡ Drawn.Refused BadInterval) × (delayed_file_answer paper 1 2 0 ≡ Written.Refused BadInterval)
+pub before_room : (delayed_table_answer paper 1 2 0 ≡ Err BadInterval) × (delayed_file_answer paper 1 2 0 ≡ Err BadInterval)
 unfolding delayed_table_answer delayed_table_refusal delayed_file_answer delayed_file_refusal
 before_room = (rw latency_2, rw latency_2)
 
@@ -59,11 +58,11 @@ before_room = (rw latency_2, rw latency_2)
 abbrev large : FunctionUnit
 large = having 1 16 32 (replicate 128 0)
 
-pub large_table : delayed_table_answer large 1 1 1699 ≡ Drawn.Refused ShortOutput
+pub large_table : delayed_table_answer large 1 1 1699 ≡ Err ShortOutput
 unfolding delayed_table_answer delayed_table_refusal table_refusal delays_answer tag_answer sound_of marks_inside crowded marks_of max_below count_below no_plan unit_of marked places next_place taken sharing some_below least_from moved_table list_below word_below table_text head_text row_text join_below decimal digits
 large_table = refl
 
-pub large_file : delayed_file_answer large 1 1 69 ≡ Written.Refused ShortOutput
+pub large_file : delayed_file_answer large 1 1 69 ≡ Err ShortOutput
 unfolding delayed_file_answer delayed_file_refusal write_refusal delays_answer tag_answer sound_of marks_inside crowded marks_of max_below count_below no_plan unit_of marked places next_place taken sharing some_below least_from moved_table list_below word_below
 large_file = refl
 

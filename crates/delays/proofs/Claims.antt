@@ -1,4 +1,5 @@
 -- The unit with delays: sound, its marks the old ones moved in order, and free of collisions at the wanted latency. Assumes nothing.
+use Rattle.std.proofs.Common.{Ok, Err}
 use Prim.Native.Nat.{ℕ, suc, ◌+◌, ◌-◌, ◌*◌, ◌%◌, ◌≤◌, ◌<◌}
 use mathlib.Core.Path.{◌≡◌, refl, sym, ap, ◌∙◌, subst}
 use mathlib.Core.Bool.{true, false, not, ◌&&◌}
@@ -15,8 +16,7 @@ use Rattle.words.proofs.Tests.{and_left, and_right, and_true, same_test}
 use Rattle.words.proofs.BelowLaws.{some_intro, some_elim}
 use Rattle.unit.specs.declared.FunctionUnit.{FunctionUnit}
 use Rattle.unit.specs.declared.Refusal.TheVariants.{TwoMarks, BadInterval, PlaceBeyond}
-use Rattle.unit.specs.declared.Answer.{Answer}
-use Rattle.unit.specs.declared.Answer.TheVariants.{Done, Refused}
+use Rattle.unit.specs.Answers.{Answer}
 use Rattle.unit.specs.Table.{Table}
 use Rattle.unit.specs.Unit.{inside, somewhere, good_counts, marked, sound_of, SoundUnit}
 use Rattle.unit.specs.Calls.{and_then, tag_answer, unit_of, outcome}
@@ -43,11 +43,11 @@ pub record Accepted (u : FunctionUnit) (q m : ℕ) : Type 0 where
   pub room : marks_of (marked u) q ≤ m
   pub near : width_of (marked u q) m u.columns ≤ 32
 
-then_first : (a next : Answer) → and_then a next ≡ Done → (a ≡ Done) × (next ≡ Done)
-then_first Done next e = (refl, e)
-then_first (Refused why) next e = never_done e
+then_first : (a next : Answer) → and_then a next ≡ Ok tt → (a ≡ Ok tt) × (next ≡ Ok tt)
+then_first (Ok _) next e = (refl, e)
+then_first (Err why) next e = never_done e
 
-pub accepted : (u : FunctionUnit) (q m : ℕ) → delays_answer u q m ≡ Done → Accepted u q m
+pub accepted : (u : FunctionUnit) (q m : ℕ) → delays_answer u q m ≡ Ok tt → Accepted u q m
 unfolding delays_answer
 accepted u q m e =
     let t = then_first (tag_answer u q) _ e in

@@ -1,4 +1,5 @@
 -- How a call ends: what is refused, the width that is reached, and the unit that is made. Assumes nothing.
+use Rattle.std.proofs.Common.{Result, Ok, Err}
 use Prim.Native.Nat.{ℕ, ◌+◌, ◌-◌, ◌^◌, ◌≤◌, ◌<◌}
 use mathlib.Core.Path.{◌≡◌, sym, ap, ◌∙◌, subst}
 use mathlib.Core.Bool.{true, false, ◌&&◌}
@@ -16,15 +17,12 @@ use Rattle.unit.specs.declared.FunctionUnit.{FunctionUnit}
 use Rattle.unit.specs.declared.Outcome.{Outcome}
 use Rattle.unit.specs.declared.Refusal.{Refusal}
 use Rattle.unit.specs.declared.Refusal.TheVariants.{TwoMarks, BadInterval, PlaceBeyond}
-use Rattle.unit.specs.declared.Answer.{Answer}
-use Rattle.unit.specs.declared.Answer.TheVariants.{Done, Refused}
+use Rattle.unit.specs.Answers.{Answer}
 use Rattle.unit.specs.Unit.{inside, place, word_at, marked, columns_of, SoundUnit}
 use Rattle.unit.specs.Calls.{check, tag_answer, unit_of, outcome}
 use Rattle.unit.proofs.Laws.{within, tag_accepted, tag_range}
 use Rattle.unit.proofs.SoundLaws.{Words, sound_means, sound_word}
 use Rattle.unit.proofs.ColumnLaws.{columns_word_lem}
-use Rattle.collision.specs.declared.Number.{Number}
-use Rattle.collision.specs.declared.Number.TheVariants as Number
 use Rattle.collision.specs.Vector.{marks_of}
 use Rattle.collision.specs.Answers.{answering, marks_answer}
 use Rattle.delays.specs.Delays.{Marks, place_of, places, width_of, moved_table, crowded, delays_answer, delays_of}
@@ -34,20 +32,20 @@ use Rattle.delays.proofs.WordLaws.{columns_say, crowded_words}
 
 -- The number of marks
 
-module _ (u : FunctionUnit) (q : ℕ) (t : tag_answer u q ≡ Done) (n : Number) (e : n ≡ marks_answer u q) where
-  value : n ≡ Number.Value (marks_of (marked u) q)
+module _ (u : FunctionUnit) (q : ℕ) (t : tag_answer u q ≡ Ok tt) (n : Result ℕ Refusal) (e : n ≡ marks_answer u q) where
+  value : n ≡ Ok (marks_of (marked u) q)
   unfolding marks_answer
   value = e ∙ ap (λ (a : Answer). answering a (marks_of (marked u) q)) t
 
-  pub marks_given : (w : ℕ) → n ≡ Number.Value w → w ≡ marks_of (marked u) q
-  marks_given w g = let same : Number.Value w ≡ Number.Value (marks_of (marked u) q) = sym g ∙ value in cc
+  pub marks_given : (w : ℕ) → n ≡ Ok w → w ≡ marks_of (marked u) q
+  marks_given w g = let same : Ok w ≡ Ok (marks_of (marked u) q) = sym g ∙ value in cc
 
-  pub marks_never : (why : Refusal) → n ≡ Number.Refused why → ⊥
-  marks_never why g = let never : Number.Refused why ≡ Number.Value (marks_of (marked u) q) = sym g ∙ value in let z : ◌≡◌ {A = ℕ} 0 1 = cc in omega arith
+  pub marks_never : (why : Refusal) → n ≡ Err why → ⊥
+  marks_never why g = let never : Err why ≡ Ok (marks_of (marked u) q) = sym g ∙ value in let z : ◌≡◌ {A = ℕ} 0 1 = cc in omega arith
 
 -- The words of a sound unit
 
-pub words_small : (u : FunctionUnit) (q : ℕ) → Words u → tag_answer u q ≡ Done → (i : ℕ) → i < 32 → get_or (columns_of u q) i 0 < 2 ^ u.segments
+pub words_small : (u : FunctionUnit) (q : ℕ) → Words u → tag_answer u q ≡ Ok tt → (i : ℕ) → i < 32 → get_or (columns_of u q) i 0 < 2 ^ u.segments
 words_small u q n t i h =
     let w = tag_range u q t in
     let e : i + 1 - 1 ≡ i = omega arith in
@@ -56,17 +54,17 @@ words_small u q n t i h =
     let below : place q (i + 1) < 128 = omega (arith, w.least, w.most) in
     subst (λ (k : ℕ). k < 2 ^ u.segments) (sym word) (sound_word u (place q (i + 1)) n (tag_accepted u q t).sound below)
 
-pub words_16 : (u : FunctionUnit) (q : ℕ) → Words u → tag_answer u q ≡ Done → (i : ℕ) → i < 32 → get_or (columns_of u q) i 0 < 2 ^ 16
+pub words_16 : (u : FunctionUnit) (q : ℕ) → Words u → tag_answer u q ≡ Ok tt → (i : ℕ) → i < 32 → get_or (columns_of u q) i 0 < 2 ^ 16
 words_16 u q n t i h =
     lt_of_lt_of_le (words_small u q n t i h) (pow_mono ((sound_means u).0 (tag_accepted u q t).sound).segments.1)
 
-pub crowded_is : (u : FunctionUnit) (q : ℕ) (columns : List ℕ) → Words u → tag_answer u q ≡ Done → columns ≡ columns_of u q
+pub crowded_is : (u : FunctionUnit) (q : ℕ) (columns : List ℕ) → Words u → tag_answer u q ≡ Ok tt → columns ≡ columns_of u q
     → some_below 32 (λ i. two_in (get_or columns i 0)) ≡ crowded (marked u q)
 crowded_is u q columns n t e =
     ap (λ (l : List ℕ). some_below 32 (λ i. two_in (get_or l i 0))) e ∙ crowded_words (columns_of u q) (words_16 u q n t)
     ∙ ap crowded (columns_say u q (tag_range u q t))
 
-pub suited : (u : FunctionUnit) (q m : ℕ) (columns : List ℕ) → Words u → tag_answer u q ≡ Done → columns ≡ columns_of u q
+pub suited : (u : FunctionUnit) (q m : ℕ) (columns : List ℕ) → Words u → tag_answer u q ≡ Ok tt → columns ≡ columns_of u q
     → inside m 32 && leb (marks_of (marked u) q) m ≡ true → Suited u columns m
 suited u q m columns n t e l =
     let w = within m 32 (and_left (inside m 32) _ l) in
@@ -123,20 +121,20 @@ module _ (u : FunctionUnit) (columns : List ℕ) (m : ℕ) (s : Suited u columns
 
     pub ends_placed : (r : FunctionUnit) → get_or spots (u.columns - 1) 0 ≤ 32
         → r ≡ unit_of 1 u.segments (get_or spots (u.columns - 1) 0) (moved_table R (places R m u.columns))
-        → ◌≡◌ {A = Outcome} (record { answer = Done; unit = r }) (placed_of u columns m)
+        → ◌≡◌ {A = Outcome} (record { answer = (Ok tt); unit = r }) (placed_of u columns m)
     unfolding placed_of
     ends_placed r h e =
         rw (le-leb (width_of R m u.columns) 32 (omega (arith, width_is)))
-        (ap (λ (x : FunctionUnit). record { answer = Done; unit = x }) (e ∙ ap (λ w. unit_of 1 u.segments w (moved_table R (places R m u.columns))) width_is))
+        (ap (λ (x : FunctionUnit). record { answer = (Ok tt); unit = x }) (e ∙ ap (λ w. unit_of 1 u.segments w (moved_table R (places R m u.columns))) width_is))
 
 -- The call
 
 module _ (u : FunctionUnit) (q m : ℕ) where
-  pub tag_left : (why : Refusal) → tag_answer u q ≡ Refused why → left u why ≡ delays_of u q m
+  pub tag_left : (why : Refusal) → tag_answer u q ≡ Err why → left u why ≡ delays_of u q m
   unfolding delays_of delays_answer
   tag_left why e = rw e
 
-  module _ (t : tag_answer u q ≡ Done) where
+  module _ (t : tag_answer u q ≡ Ok tt) where
     pub crowded_left : crowded (marked u q) ≡ true → left u TwoMarks ≡ delays_of u q m
     unfolding delays_of delays_answer
     crowded_left e = rw (t, e)
@@ -149,6 +147,6 @@ module _ (u : FunctionUnit) (q m : ℕ) where
       pub all_placed : (columns : List ℕ) → columns ≡ columns_of u q → inside m 32 && leb (marks_of (marked u) q) m ≡ true → placed_of u columns m ≡ delays_of u q m
       unfolding delays_of delays_answer placed_of
       all_placed columns c e =
-          ap (λ (R : Marks). outcome (check (leb (width_of R m u.columns) 32) PlaceBeyond Done) u (unit_of 1 u.segments (width_of R m u.columns) (moved_table R (places R m u.columns))))
+          ap (λ (R : Marks). outcome (check (leb (width_of R m u.columns) 32) PlaceBeyond (Ok tt)) u (unit_of 1 u.segments (width_of R m u.columns) (moved_table R (places R m u.columns))))
           (ap column_marks c ∙ columns_say u q (tag_range u q t))
           ∙ rw (t, single, e)

@@ -1,4 +1,5 @@
 -- The paper's marks 1 3 6 with m = 3; each refusal; a latency below the bound of the table that is there; and what is no unit with delays. Assumes nothing.
+use Rattle.std.proofs.Common.{Ok, Err}
 use Prim.Native.Nat.{ℕ, ◌<◌}
 use mathlib.Core.Path.{◌≡◌, refl, sym, ap, ◌∙◌}
 use mathlib.Core.List.{List, [], ◌∷◌, ◌++◌}
@@ -11,7 +12,6 @@ use Rattle.unit.specs.declared.FunctionUnit.{FunctionUnit}
 use Rattle.unit.specs.declared.Outcome.{Outcome}
 use Rattle.unit.specs.declared.Plan.{Plan}
 use Rattle.unit.specs.declared.Refusal.TheVariants.{NotSound, NoSuchTag, TwoMarks, BadInterval, PlaceBeyond}
-use Rattle.unit.specs.declared.Answer.TheVariants.{Done, Refused}
 use Rattle.unit.specs.Table.{Table}
 use Rattle.unit.specs.Unit.{marked, marks_inside, sound_of}
 use Rattle.unit.specs.Calls.{no_plan, tag_answer, unit_of}
@@ -35,12 +35,12 @@ pub one_three_six : places (marked paper 1) 3 6 ≡ 1 ∷ 2 ∷ 3 ∷ 4 ∷ 5 �
 unfolding places next_place taken sharing some_below least_from marked
 one_three_six = refl
 
-pub paper_accepted : delays_answer paper 1 3 ≡ Done
+pub paper_accepted : delays_answer paper 1 3 ≡ Ok tt
 unfolding delays_answer tag_answer sound_of marks_inside marked some_below crowded marks_of max_below count_below places next_place taken sharing least_from no_plan
 paper_accepted = refl
 
 -- they become 1 3 8
-pub one_three_eight : delays_of paper 1 3 ≡ record { answer = Done; unit = having 1 1 8 (1 ∷ 0 ∷ 1 ∷ 0 ∷ 0 ∷ 0 ∷ 0 ∷ 1 ∷ replicate 120 0) }
+pub one_three_eight : delays_of paper 1 3 ≡ record { answer = (Ok tt); unit = having 1 1 8 (1 ∷ 0 ∷ 1 ∷ 0 ∷ 0 ∷ 0 ∷ 0 ∷ 1 ∷ replicate 120 0) }
 unfolding delays_of delays_answer tag_answer sound_of marks_inside marked some_below crowded marks_of max_below count_below places next_place taken sharing least_from no_plan unit_of moved_table list_below word_below
 one_three_eight = refl
 
@@ -53,33 +53,33 @@ only_8 p r =
 
 -- Refusals
 
-pub no_function : delays_answer (having 0 1 6 (replicate 128 0)) 1 3 ≡ Refused NotSound
+pub no_function : delays_answer (having 0 1 6 (replicate 128 0)) 1 3 ≡ Err NotSound
 unfolding delays_answer tag_answer sound_of
 no_function = refl
 
-pub function_2 : delays_answer paper 2 0 ≡ Refused NoSuchTag
+pub function_2 : delays_answer paper 2 0 ≡ Err NoSuchTag
 unfolding delays_answer tag_answer sound_of marks_inside marked some_below no_plan
 function_2 = refl
 
 -- two marks in column 1
-pub two_marks : delays_answer (having 1 2 1 (3 ∷ replicate 127 0)) 1 0 ≡ Refused TwoMarks
+pub two_marks : delays_answer (having 1 2 1 (3 ∷ replicate 127 0)) 1 0 ≡ Err TwoMarks
 unfolding delays_answer tag_answer sound_of marks_inside marked some_below crowded no_plan
 two_marks = refl
 
-pub latency_0 : delays_answer paper 1 0 ≡ Refused BadInterval
+pub latency_0 : delays_answer paper 1 0 ≡ Err BadInterval
 unfolding delays_answer tag_answer sound_of marks_inside marked some_below crowded no_plan
 latency_0 = refl
 
-pub latency_33 : delays_answer paper 1 33 ≡ Refused BadInterval
+pub latency_33 : delays_answer paper 1 33 ≡ Err BadInterval
 unfolding delays_answer tag_answer sound_of marks_inside marked some_below crowded no_plan
 latency_33 = refl
 
-pub latency_2 : delays_answer paper 1 2 ≡ Refused BadInterval
+pub latency_2 : delays_answer paper 1 2 ≡ Err BadInterval
 unfolding delays_answer tag_answer sound_of marks_inside marked some_below crowded marks_of max_below count_below no_plan
 latency_2 = refl
 
 -- a refused call hands the unit back
-pub kept : delays_of paper 1 2 ≡ record { answer = Refused BadInterval; unit = paper }
+pub kept : delays_of paper 1 2 ≡ record { answer = Err BadInterval; unit = paper }
 unfolding delays_of
 kept = rw latency_2
 
@@ -87,7 +87,7 @@ kept = rw latency_2
 abbrev pub wide : FunctionUnit
 wide = having 1 1 32 (1 ∷ 0 ∷ 1 ∷ replicate 125 0)
 
-pub column_32 : delays_answer wide 1 2 ≡ Refused PlaceBeyond
+pub column_32 : delays_answer wide 1 2 ≡ Err PlaceBeyond
 unfolding delays_answer tag_answer sound_of marks_inside marked some_below crowded marks_of max_below count_below places next_place taken sharing least_from no_plan
 column_32 = refl
 
@@ -95,7 +95,7 @@ column_32 = refl
 abbrev pub full : FunctionUnit
 full = having 1 1 32 (1 ∷ 0 ∷ 1 ∷ 0 ∷ 1 ∷ replicate 123 0)
 
-pub before_21 : (delays_answer full 1 2 ≡ Refused BadInterval) × (32 < width_of (marked full 1) 2 32)
+pub before_21 : (delays_answer full 1 2 ≡ Err BadInterval) × (32 < width_of (marked full 1) 2 32)
 unfolding delays_answer tag_answer sound_of marks_inside marked some_below crowded marks_of max_below count_below places next_place taken sharing least_from no_plan
 before_21 = (refl, omega arith)
 
@@ -107,7 +107,7 @@ pub bound_4 : bound_of (marked apart) 1 ≡ 4
 unfolding bound_of largest_clique most_of row_word word_below collides some_below marked
 bound_4 = refl
 
-pub below_the_bound : delays_answer apart 1 2 ≡ Done
+pub below_the_bound : delays_answer apart 1 2 ≡ Ok tt
 unfolding delays_answer tag_answer sound_of marks_inside marked some_below crowded marks_of max_below count_below places next_place taken sharing least_from no_plan
 below_the_bound = refl
 

@@ -63,29 +63,14 @@ first_some spots n e = rw (ne_eqb n 0 e)
 
 -- The place that is found
 
--- all places tried were taken
-pub record Tried (columns spots : List ℕ) (n m place tries : ℕ) : Type 0 where
-  pub few : tries ≤ m
-  pub spot : place ≡ first_for spots n + tries
-  pub taken : (p : ℕ) → first_for spots n ≤ p → p < place → taken_at columns spots n m p ≡ true
-
-pub tried_more : (columns spots : List ℕ) (n m place tries : ℕ) → Tried columns spots n m place tries → tries < m → taken_at columns spots n m place ≡ true
-    → Tried columns spots n m (place + 1) (tries + 1)
-tried_more columns spots n m place tries t h e = record {
-  few = omega arith;
-  spot = omega (arith, t.spot);
-  taken = λ p l k. below p l k;
-}
-  where
-    below : (p : ℕ) → first_for spots n ≤ p → p < place + 1 → taken_at columns spots n m p ≡ true
-    below p l k = below_more (λ p. first_for spots n ≤ p → taken_at columns spots n m p ≡ true) place (λ p k l. t.taken p l k) (λ l. e) p k l
-
-pub tried_found : (columns spots : List ℕ) (n m place tries : ℕ) → Tried columns spots n m place tries
-    → (tries < m → taken_at columns spots n m place ≡ false) → place ≡ place_for columns spots n m
+-- all places before it were taken
+pub found_place : (columns spots : List ℕ) (n m first place : ℕ) → first ≡ first_for spots n → first ≤ place → place ≤ first + m
+    → ((p : ℕ) → first ≤ p → p < place → taken_at columns spots n m p ≡ true) → (place < first + m → taken_at columns spots n m place ≡ false)
+    → place ≡ place_for columns spots n m
 unfolding place_for
-tried_found columns spots n m place tries t e =
-    sym (least_is m (first_for spots n) (λ p. not (taken_at columns spots n m p)) place (omega (arith, t.spot)) (omega (arith, t.spot, t.few))
-    (λ p l k. ap not (t.taken p l k)) (λ k. ap not (e (omega (arith, t.spot)))))
+found_place columns spots n m first place f low high taken e =
+    sym (least_is m (first_for spots n) (λ p. not (taken_at columns spots n m p)) place (omega arith) (omega arith)
+    (λ p l k. ap not (taken p (omega arith) k)) (λ k. ap not (e (omega arith))))
 
 -- The marks that the words say
 

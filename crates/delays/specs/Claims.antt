@@ -1,8 +1,7 @@
 -- What the unit with delays is for: its marks are the old ones moved in order by the rule, and the wanted latency never collides in it. Proved in
 -- proofs/Claims.antt.
-use Rattle.std.specs.Prelude.{ℕ, ◌-◌, ◌%◌, ◌≤◌, ◌<◌, ◌≡◌, true, false, ◌↔◌, List, [], ◌∷◌, length}
+use Rattle.std.specs.Prelude.{ℕ, ◌-◌, ◌%◌, ◌≤◌, ◌<◌, ◌≡◌, true, false, ◌↔◌, List, [], ◌∷◌, length, Ok}
 use Rattle.unit.specs.declared.FunctionUnit.{FunctionUnit}
-use Rattle.unit.specs.declared.Answer.TheVariants.{Done}
 use Rattle.unit.specs.Unit.{marked, sound_of}
 use Rattle.unit.specs.Calls.{no_plan}
 use Rattle.collision.specs.Pipeline.{NeverCollides}
@@ -57,7 +56,7 @@ pub record Delayed (u : FunctionUnit) (q m : ℕ) (v : FunctionUnit) : Type 0 wh
 
 -- what an accepted call makes
 abbrev pub DelaysPermit : Type 0
-DelaysPermit = (u : FunctionUnit) (q m : ℕ) → delays_answer u q m ≡ Done → Delayed u q m (delays_of u q m).unit
+DelaysPermit = (u : FunctionUnit) (q m : ℕ) → delays_answer u q m ≡ Ok tt → Delayed u q m (delays_of u q m).unit
 
 -- that says all of it: no two units with delays differ in their counts or marks
 pub record Alike (v w : FunctionUnit) : Type 0 where

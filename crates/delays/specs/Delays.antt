@@ -1,11 +1,10 @@
 -- Delay columns for a wanted constant latency m: where each column goes, what the call answers, and the unit that it makes.
-use Rattle.std.specs.Prelude.{ℕ, zero, suc, ◌+◌, ◌%◌, Bool, not, ◌&&◌, List, [], ◌∷◌, ◌++◌, leb, eqb, length, get_or}
+use Rattle.std.specs.Prelude.{ℕ, zero, suc, ◌+◌, ◌%◌, Bool, not, ◌&&◌, List, [], ◌∷◌, ◌++◌, leb, eqb, length, get_or, Ok}
 use Rattle.words.specs.Below.{some_below, least_from}
 use Rattle.unit.specs.declared.FunctionUnit.{FunctionUnit}
 use Rattle.unit.specs.declared.Outcome.{Outcome}
 use Rattle.unit.specs.declared.Refusal.TheVariants.{TwoMarks, BadInterval, PlaceBeyond}
-use Rattle.unit.specs.declared.Answer.{Answer}
-use Rattle.unit.specs.declared.Answer.TheVariants.{Done}
+use Rattle.unit.specs.Answers.{Answer}
 use Rattle.unit.specs.Table.{Table}
 use Rattle.unit.specs.Unit.{inside, marked}
 use Rattle.unit.specs.Calls.{check, and_then, tag_answer, unit_of, outcome}
@@ -65,7 +64,7 @@ delays_answer u q m =
     and_then (tag_answer u q)
     (check (not (crowded (marked u q))) TwoMarks
     (check (inside m 32 && leb (marks_of (marked u) q) m) BadInterval
-    (check (leb (width_of (marked u q) m u.columns) 32) PlaceBeyond Done)))
+    (check (leb (width_of (marked u q) m u.columns) 32) PlaceBeyond (Ok tt))))
 
 -- a one-function unit of the width reached, with the unit's segments and without plan
 abbrev pub delayed_unit : FunctionUnit → ℕ → ℕ → FunctionUnit

@@ -1,12 +1,11 @@
 -- What the private functions ask and find, from the words of a function's columns. No public contract cites this file.
-use Rattle.std.specs.Prelude.{ℕ, ◌+◌, ◌-◌, ◌*◌, ◌%◌, ◌^◌, ◌≤◌, ◌<◌, ◌≡◌, Bool, true, cond, not, ◌&&◌, List, leb, ltb, eqb, length, get_or}
+use Rattle.std.specs.Prelude.{ℕ, ◌+◌, ◌-◌, ◌*◌, ◌%◌, ◌^◌, ◌≤◌, ◌<◌, ◌≡◌, Bool, true, cond, not, ◌&&◌, List, leb, ltb, eqb, length, get_or, Ok, Err}
 use Rattle.words.specs.Bits.{is_set}
 use Rattle.words.specs.Below.{some_below, count_below, least_from}
 use Rattle.unit.specs.declared.FunctionUnit.{FunctionUnit}
 use Rattle.unit.specs.declared.Outcome.{Outcome}
 use Rattle.unit.specs.declared.Refusal.{Refusal}
 use Rattle.unit.specs.declared.Refusal.TheVariants.{PlaceBeyond}
-use Rattle.unit.specs.declared.Answer.TheVariants.{Done, Refused}
 use Rattle.unit.specs.Unit.{inside, sound_of}
 use Rattle.unit.specs.Calls.{check, unit_of, outcome}
 use Rattle.collision.specs.Vector.{meet}
@@ -56,7 +55,7 @@ pub record Movable (columns spots : List ℕ) (m n segments width : ℕ) : Type 
 
 -- a refused call
 abbrev pub left : FunctionUnit → Refusal → Outcome
-left u why = record { answer = Refused why; unit = u }
+left u why = record { answer = Err why; unit = u }
 
 -- the columns of a sound unit's function, and a latency of 1 to 32
 pub record Suited (u : FunctionUnit) (columns : List ℕ) (m : ℕ) : Type 0 where
@@ -68,5 +67,5 @@ pub record Suited (u : FunctionUnit) (columns : List ℕ) (m : ℕ) : Type 0 whe
 -- what is left once they are placed
 unfoldable pub placed_of : FunctionUnit → List ℕ → ℕ → Outcome
 placed_of u columns m =
-    outcome (check (leb (width_of (column_marks columns) m u.columns) 32) PlaceBeyond Done) u
+    outcome (check (leb (width_of (column_marks columns) m u.columns) 32) PlaceBeyond (Ok tt)) u
     (unit_of 1 u.segments (width_of (column_marks columns) m u.columns) (moved_table (column_marks columns) (places (column_marks columns) m u.columns)))

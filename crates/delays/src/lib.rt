@@ -2,17 +2,15 @@
 // Every function here is proved, and every public one is total and without a `requires`; the crate assumes nothing of its own.
 #![tactic(auto)]
 
-ghost use Rattle.std.specs.Prelude.{◌≡◌, ◌&&◌, ◌||◌, ◌+◌, ◌*◌, ◌%◌, ◌≤◌, ◌<◌, leb, eqb, get_or};
+ghost use Rattle.std.specs.Prelude.{◌≡◌, ◌&&◌, ◌||◌, ◌+◌, ◌*◌, ◌%◌, ◌≤◌, ◌<◌, leb, eqb, get_or, Ok};
 ghost use Rattle.words.specs.Below.{some_below};
-ghost use Rattle.unit.specs.declared.Answer.TheVariants.{Done};
 ghost use Rattle.unit.specs.Unit.{inside, marked};
 ghost use Rattle.unit.specs.Calls.{tag_answer, unit_of};
 ghost use Rattle.collision.specs.Vector.{meet, marks_of};
 ghost use Rattle.delays.specs.Delays.{places, moved_table, delays_of};
 ghost use Rattle.delays.specs.Inner.{column_marks, two_in, taken_at, first_for, place_for, Placing, Placed, Movable, left, Suited, placed_of};
 
-use collision::Number;
-use unit::{Answer, FunctionUnit, Outcome, Refusal, Tag};
+use unit::{FunctionUnit, Outcome, Refusal, Tag};
 
 // Whether a column has two marks.
 fn has_two(word: u16) -> bool
@@ -25,14 +23,7 @@ fn has_two(word: u16) -> bool
 fn is_crowded(columns: [u16; 32]) -> bool
     ensures { result ≡ some_below 32 (λ i. two_in (get_or columns i 0)) }
 {
-    let mut i: usize = 0;
-    while i < 32 {
-        if has_two(columns[i]) {
-            return true;
-        }
-        i += 1;
-    }
-    false
+    columns.iter().any(|word| has_two(*word))
 }
 
 // Whether a place is taken where one more column is looked at: by it, where it has a mark in a segment of the column to be placed and its place has the
@@ -58,10 +49,8 @@ fn is_taken(columns: [u16; 32], spots: [u16; 32], count: usize, place: u16, late
     let word = columns[count];
     let rest = place % latency;
     let mut taken = false;
-    let mut i: usize = 0;
-    while i < count {
+    for i in 0..count {
         taken = is_taken_more(taken, columns[i], word, spots[i], rest, latency);
-        i += 1;
     }
     taken
 }
@@ -83,16 +72,12 @@ fn place_for(columns: [u16; 32], spots: [u16; 32], count: usize, latency: u16) -
     ensures { (result ≡ place_for columns spots count latency) × (result ≤ 33 * count + 33) }
 {
     let first = first_for(spots, count);
-    let mut place = first;
-    let mut tries: u16 = 0;
-    while tries < latency {
+    for place in first..first + latency {
         if !is_taken(columns, spots, count, place, latency) {
             return place;
         }
-        place += 1;
-        tries += 1;
     }
-    place
+    first + latency
 }
 
 // The places of the first `count` columns.
@@ -101,11 +86,9 @@ fn places_of(columns: [u16; 32], count: usize, latency: u16) -> [u16; 32]
     ensures { Placed (column_marks columns) latency count result }
 {
     let mut spots = [0u16; 32];
-    let mut i: usize = 0;
-    while i < count {
+    for i in 0..count {
         let place = place_for(columns, spots, i, latency);
         spots[i] = place;
-        i += 1;
     }
     spots
 }
@@ -124,19 +107,17 @@ fn moved_unit(
 {
     let made = unit::fresh(1, segments, width);
     let mut unit = made.unit;
-    let mut i: usize = 0;
-    while i < count {
+    for i in 0..count {
         let given = columns::with_column(unit, Tag(1), spots[i] as u8, columns[i]);
         let filled = given.unit;
         unit = filled;
-        i += 1;
     }
     unit
 }
 
 // Whether a latency can be wanted of a function: it is 1 to 32, and no less than the largest number of marks in a segment.
 fn is_latency(u: FunctionUnit, tag: Tag, latency: u8) -> bool
-    requires { tag_answer u tag.0 ≡ Done }
+    requires { tag_answer u tag.0 ≡ Ok tt }
     ensures { result ≡ inside latency 32 && leb (marks_of (marked u) tag.0) latency }
 {
     if !words::is_inside(latency, 32) {
@@ -144,8 +125,8 @@ fn is_latency(u: FunctionUnit, tag: Tag, latency: u8) -> bool
     }
     let most = measures::marks(u, tag);
     match most {
-        Number::Refused(_) => false,
-        Number::Value(count) => count <= latency as u32,
+        Err(_) => false,
+        Ok(count) => count <= latency as u32,
     }
 }
 
@@ -154,7 +135,7 @@ fn refused(u: FunctionUnit, why: Refusal) -> Outcome
     ensures { result ≡ left u why }
 {
     Outcome {
-        answer: Answer::Refused(why),
+        answer: Err(why),
         unit: u,
     }
 }
@@ -172,7 +153,7 @@ fn place_all(u: FunctionUnit, columns: [u16; 32], latency: u16) -> Outcome
     }
     let made = moved_unit(columns, spots, latency, count, u.segments, width as u8);
     Outcome {
-        answer: Answer::Done,
+        answer: Ok(()),
         unit: made,
     }
 }
@@ -183,8 +164,8 @@ pub fn delays(u: FunctionUnit, tag: Tag, latency: u8) -> Outcome
 {
     let checked = unit::check_tag(u, tag);
     match checked {
-        Answer::Refused(why) => refused(u, why),
-        Answer::Done => {
+        Err(why) => refused(u, why),
+        Ok(()) => {
             let columns = columns::columns_of(u, tag);
             if is_crowded(columns) {
                 return refused(u, Refusal::TwoMarks);

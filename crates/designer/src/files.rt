@@ -1,19 +1,11 @@
 // Files by name: units and plan records. A name of the system's may be any bytes, but std takes text alone, so a name that is no UTF-8 names no file here.
 ghost use Rattle.std.specs.Prelude.{◌≤◌, length};
 
-use std::fs;
 use std::fs::{File, OpenFile, OpenOptions};
 use std::io::{ErrorKind, Print, Read, Seek, SeekFrom, Write};
 use std::rt::Files;
-use unit::{FunctionUnit, Tag};
-use unit_file::Written;
-
-// How many bytes of a file were read, if it can be read.
-#[derive(Clone, Copy)]
-pub enum Found {
-    Bytes(usize),
-    Nothing,
-}
+use std::{fs, io};
+use unit::{FunctionUnit, Refusal, Tag};
 
 // Reads some bytes, and answers how many stand at the buffer's front: 0 at the end, or where nothing can be read.
 pub fn read_some(from: &mut impl Read, buffer: &mut [u8]) -> usize
@@ -27,6 +19,7 @@ fn read_full(from: &mut impl Read, buffer: &mut [u8]) -> usize
     ensures { result ≤ length buffer.new }
 {
     let mut done = 0;
+    // A while: each read fills as much of the rest as it can.
     while done < buffer.len() {
         let count = read_some(from, &mut buffer[done..]);
         if count == 0 {
@@ -37,62 +30,53 @@ fn read_full(from: &mut impl Read, buffer: &mut [u8]) -> usize
     done
 }
 
-// Reads the front of a file. A folder can be opened and not read, and is no file.
-fn read_front(from: &mut impl Read, file: &mut [u8]) -> Found {
-    match from.read(file) {
-        Ok(first) => {
-            let more = read_full(from, &mut file[first..]);
-            Found::Bytes(first + more)
-        }
-        Err(_) => Found::Nothing,
-    }
+// Reads the front of a file, and answers how many bytes were read, if it can be read. A folder can be opened and not read, and is no file.
+fn read_front(from: &mut impl Read, file: &mut [u8]) -> Option<usize> {
+    let first = from.read(file).ok()?;
+    let more = read_full(from, &mut file[first..]);
+    Some(first + more)
 }
 
 // Reads the front of the file of a name.
-pub fn load(rt: &impl Files, name: &[u8], file: &mut [u8]) -> Found {
-    let Ok(path) = str::from_utf8(name) else {
-        return Found::Nothing;
-    };
-    match File::open(rt, path) {
-        Ok(mut from) => read_front(&mut from, file),
-        Err(_) => Found::Nothing,
-    }
+pub fn load(rt: &impl Files, name: &[u8], file: &mut [u8]) -> Option<usize> {
+    let path = str::from_utf8(name).ok()?;
+    let mut from = File::open(rt, path).ok()?;
+    read_front(&mut from, file)
 }
 
-// Whether what was written to a file stands there. A file system may tell only now that it does not. Devices and pipes have nothing to tell.
-fn is_kept(file: &impl OpenFile) -> bool {
+// Has what was written to a file stand there. A file system may tell only now that it does not. Devices and pipes have nothing to tell.
+fn sync(file: &impl OpenFile) -> io::Result<()> {
     match file.sync_all() {
-        Ok(()) => true,
-        Err(why) => why.kind() == ErrorKind::InvalidInput,
+        Err(why) if why.kind() != ErrorKind::InvalidInput => Err(why),
+        _ => Ok(()),
     }
 }
 
-// Writes bytes to a file that was opened, and answers whether all of them stand there.
-fn fill(to: &mut (impl Write + OpenFile), bytes: &[u8]) -> bool {
-    if to.write_all(bytes).is_ok() {
-        return is_kept(to);
-    }
-    false
+// Writes bytes to a file that was opened, so that all of them stand there.
+fn fill(to: &mut (impl Write + OpenFile), bytes: &[u8]) -> io::Result<()> {
+    to.write_all(bytes)?;
+    sync(to)
 }
 
 // Writes bytes to the file of a name, in place.
-fn overwrite(rt: &impl Files, path: &str, bytes: &[u8]) -> bool {
-    match File::create(rt, path) {
-        Ok(mut to) => fill(&mut to, bytes),
-        Err(_) => false,
-    }
+fn overwrite(rt: &impl Files, path: &str, bytes: &[u8]) -> io::Result<()> {
+    let mut to = File::create(rt, path)?;
+    fill(&mut to, bytes)
+}
+
+fn overwrite_and_rename(rt: &impl Files, path: &str, part: &str, bytes: &[u8]) -> io::Result<()> {
+    overwrite(rt, part, bytes)?;
+    fs::rename(rt, part, path)
 }
 
 // Writes bytes beside a file, under the name `part`, and gives them the file's name once they stand there whole. What was there before stays until
 // then.
-fn replace(rt: &impl Files, path: &str, part: &str, bytes: &[u8]) -> bool {
-    if overwrite(rt, part, bytes) {
-        if fs::rename(rt, part, path).is_ok() {
-            return true;
-        }
+fn replace(rt: &impl Files, path: &str, part: &str, bytes: &[u8]) -> io::Result<()> {
+    let replaced = overwrite_and_rename(rt, path, part, bytes);
+    if replaced.is_err() {
+        let _ = fs::remove_file(rt, part);
     }
-    let _ = fs::remove_file(rt, part);
-    false
+    replaced
 }
 
 // Whether a name is a link.
@@ -122,51 +106,55 @@ fn is_replaceable(rt: &impl Files, path: &str) -> bool {
     }
 }
 
+// A name as text.
+fn text_of<'a>(name: &'a [u8]) -> io::Result<&'a str> {
+    match str::from_utf8(name) {
+        Ok(text) => Ok(text),
+        Err(_) => Err(io::Error::from(ErrorKind::InvalidInput)),
+    }
+}
+
 // Writes bytes to a plain file of a name, or to a new one.
-fn store_beside(rt: &impl Files, path: &str, bytes: &[u8]) -> bool {
+fn store_beside(rt: &impl Files, path: &str, bytes: &[u8]) -> io::Result<()> {
     let mut part = [0u8; 4200];
     let path_end = text::put(&mut part, 0, path.as_bytes());
     let end = text::put(&mut part, path_end, b".part");
-    if part.len() < end {
-        return false;
-    }
-    match str::from_utf8(&part[..end]) {
-        Ok(part) => replace(rt, path, part, bytes),
-        Err(_) => false,
-    }
+    let name = crate::front(&part, end)?;
+    replace(rt, path, text_of(name)?, bytes)
 }
 
-// Writes the front of an area to a file, and answers whether it stands there. Links and devices are written in place.
-fn store(rt: &impl Files, name: &[u8], area: &[u8], length: usize) -> bool {
-    if area.len() < length {
-        return false;
-    }
-    let Ok(path) = str::from_utf8(name) else {
-        return false;
-    };
+// Writes the front of an area to a file, so that it stands there. Links and devices are written in place.
+fn store(rt: &impl Files, name: &[u8], area: &[u8], length: usize) -> io::Result<()> {
+    let bytes = crate::front(area, length)?;
+    let path = text_of(name)?;
     if is_replaceable(rt, path) {
-        store_beside(rt, path, &area[..length])
+        store_beside(rt, path, bytes)
     } else {
-        overwrite(rt, path, &area[..length])
+        overwrite(rt, path, bytes)
     }
 }
 
-// Writes what a writer put into an area to a file, and answers whether the answer was said.
-fn keep(rt: &(impl Files + Print), name: &[u8], area: &[u8], written: Written) -> bool {
+// Writes what a writer put into an area to a file, and says whether it stands there.
+fn keep(
+    rt: &(impl Files + Print),
+    name: &[u8],
+    area: &[u8],
+    written: Result<u32, Refusal>,
+) -> io::Result<()> {
     match written {
-        Written::Refused(why) => crate::say_refusal(rt, why),
-        Written::Length(length) => {
-            if store(rt, name, area, length as usize) {
-                crate::say(rt, b"ok\n")
+        Err(why) => crate::say_refusal(rt, why),
+        Ok(length) => {
+            if store(rt, name, area, length as usize).is_ok() {
+                rt.write_all(b"ok\n")
             } else {
-                crate::say(rt, b"not written\n")
+                rt.write_all(b"not written\n")
             }
         }
     }
 }
 
 // Writes a unit's file.
-pub fn save(rt: &(impl Files + Print), u: FunctionUnit, name: &[u8]) -> bool {
+pub fn save(rt: &(impl Files + Print), u: FunctionUnit, name: &[u8]) -> io::Result<()> {
     let mut area = [0u8; 512];
     let written = unit_writer::write(u, &mut area);
     keep(rt, name, &area, written)
@@ -179,14 +167,19 @@ pub fn save_delays(
     tag: Tag,
     latency: u8,
     name: &[u8],
-) -> bool {
+) -> io::Result<()> {
     let mut area = [0u8; 512];
     let written = delay_text::write(u, tag, latency, &mut area);
     keep(rt, name, &area, written)
 }
 
 // Writes the record of a function's plan. There is room for every record (`NoLonger`, crate plan_record).
-pub fn save_record(rt: &(impl Files + Print), u: FunctionUnit, tag: Tag, name: &[u8]) -> bool {
+pub fn save_record(
+    rt: &(impl Files + Print),
+    u: FunctionUnit,
+    tag: Tag,
+    name: &[u8],
+) -> io::Result<()> {
     let mut area = plan_record::area();
     let written = record_text::write_plan(u, tag, &mut area);
     keep(rt, name, &area, written)

@@ -7,46 +7,44 @@ mod files;
 
 ghost use Rattle.std.specs.Prelude.{◌≡◌, length};
 
-use chart::Charted;
-use command::{Parsed, Request, Trouble};
+use command::{Request, Trouble};
 use command_table::{Show, Verb, View};
-use drawing::Drawn;
-use files::Found;
-use listing::Listed;
 use session::{Reply, Session};
-use std::io::{Input, Print, Read};
+use std::io;
+use std::io::{ErrorKind, Input, Print, Read};
 use std::rt::Files;
-use unit::{Answer, FunctionUnit, Refusal, Tag};
+use unit::{FunctionUnit, Refusal, Tag};
 
-// Answers. Each function that says one tells whether it could be written.
+// Answers.
 
-fn say(rt: &impl Print, words: &[u8]) -> bool {
-    rt.write_all(words).is_ok()
-}
-
-fn say_front(rt: &impl Print, area: &[u8], length: usize) -> bool {
+// The front of an area. No answer is longer than its area.
+fn front<'a>(area: &'a [u8], length: usize) -> io::Result<&'a [u8]> {
     if length <= area.len() {
-        return say(rt, &area[..length]);
+        return Ok(&area[..length]);
     }
-    false
+    Err(io::Error::from(ErrorKind::InvalidInput))
 }
 
-fn say_refusal(rt: &impl Print, why: Refusal) -> bool {
+fn say_front(rt: &impl Print, area: &[u8], length: usize) -> io::Result<()> {
+    rt.write_all(front(area, length)?)
+}
+
+fn say_refusal(rt: &impl Print, why: Refusal) -> io::Result<()> {
     let mut area = [0u8; 64];
-    let end = session::put_answer(&mut area, Answer::Refused(why));
+    let end = session::put_answer(&mut area, Err(why));
     say_front(rt, &area, end)
 }
 
-fn say_trouble(rt: &impl Print, number: u32, trouble: Trouble) -> bool {
+fn say_trouble(rt: &impl Print, number: u32, trouble: Trouble) -> io::Result<()> {
     let mut area = [0u8; 80];
     let end = command_text::put_trouble(&mut area, 0, number, trouble);
     say_front(rt, &area, end)
 }
 
-fn say_drawn(rt: &impl Print, drawn: Drawn, area: &[u8]) -> bool {
+fn say_drawn(rt: &impl Print, drawn: Result<u32, Refusal>, area: &[u8]) -> io::Result<()> {
     match drawn {
-        Drawn::Length(length) => say_front(rt, area, length as usize),
-        Drawn::Refused(why) => say_refusal(rt, why),
+        Ok(length) => say_front(rt, area, length as usize),
+        Err(why) => say_refusal(rt, why),
     }
 }
 
@@ -59,16 +57,16 @@ fn list_area() -> [u8; listing::AREA]
     [0; listing::AREA]
 }
 
-fn list(rt: &impl Print, u: FunctionUnit) -> bool {
+fn list(rt: &impl Print, u: FunctionUnit) -> io::Result<()> {
     let mut area = list_area();
     let listed = listing::list_unit(u, &mut area);
     match listed {
-        Listed::Length(length) => say_front(rt, &area, length as usize),
-        Listed::Refused(why) => say_refusal(rt, why),
+        Ok(length) => say_front(rt, &area, length as usize),
+        Err(why) => say_refusal(rt, why),
     }
 }
 
-fn draw_table(rt: &impl Print, u: FunctionUnit, tag: Tag) -> bool {
+fn draw_table(rt: &impl Print, u: FunctionUnit, tag: Tag) -> io::Result<()> {
     let mut area = [0u8; drawing::TABLE];
     let drawn = drawing::table(u, tag, &mut area);
     say_drawn(rt, drawn, &area)
@@ -80,28 +78,28 @@ fn dot_area() -> [u8; graph::DOT]
     [0; graph::DOT]
 }
 
-fn draw_diagram(rt: &impl Print, u: FunctionUnit, tag: Tag) -> bool {
+fn draw_diagram(rt: &impl Print, u: FunctionUnit, tag: Tag) -> io::Result<()> {
     let mut area = dot_area();
     let drawn = graph::dot(u, tag, &mut area);
     say_drawn(rt, drawn, &area)
 }
 
-fn tell_loop(rt: &impl Print, u: FunctionUnit, line: &[u8]) -> bool {
+fn tell_loop(rt: &impl Print, u: FunctionUnit, line: &[u8]) -> io::Result<()> {
     let mut area = [0u8; 4096];
     let end = loop_text::answer(u, line, &mut area);
     say_front(rt, &area, end)
 }
 
-fn simulate(rt: &impl Print, u: FunctionUnit, tag: Tag, units: u32) -> bool {
+fn simulate(rt: &impl Print, u: FunctionUnit, tag: Tag, units: u32) -> io::Result<()> {
     let mut area = chart::area();
     let charted = chart::simulate(u, tag, units, &mut area);
     match charted {
-        Charted::Length(length) => say_front(rt, &area, length),
-        Charted::Refused(why) => say_refusal(rt, why),
+        Ok(length) => say_front(rt, &area, length),
+        Err(why) => say_refusal(rt, why),
     }
 }
 
-fn draw_delays(rt: &impl Print, u: FunctionUnit, tag: Tag, latency: u8) -> bool {
+fn draw_delays(rt: &impl Print, u: FunctionUnit, tag: Tag, latency: u8) -> io::Result<()> {
     let mut area = [0u8; drawing::TABLE];
     let drawn = delay_text::draw(u, tag, latency, &mut area);
     say_drawn(rt, drawn, &area)
@@ -114,7 +112,7 @@ fn show_delays(
     tag: Tag,
     request: Request,
     line: &[u8],
-) -> bool {
+) -> io::Result<()> {
     let latency = words::byte(request.second);
     if request.count < 3 {
         return draw_delays(rt, u, tag, latency);
@@ -129,7 +127,7 @@ fn show_unit(
     what: Show,
     request: Request,
     line: &[u8],
-) -> bool {
+) -> io::Result<()> {
     let tag = Tag(words::byte(request.first));
     match what {
         Show::Save => files::save(rt, u, command::word(line, request.count)),
@@ -143,33 +141,25 @@ fn show_unit(
     }
 }
 
-// The session after a line, and whether its answer was written.
-#[derive(Clone, Copy)]
-struct Answered {
-    session: Session,
-    said: bool,
-}
-
 // Says the answer, and hands on the session.
-fn conclude(rt: &impl Print, reply: Reply, area: &[u8]) -> Answered {
-    let said = say_front(rt, area, reply.end);
-    let session = reply.session;
-    Answered { session, said }
+fn conclude(rt: &impl Print, reply: Reply, area: &[u8]) -> io::Result<Session> {
+    say_front(rt, area, reply.end)?;
+    Ok(reply.session)
 }
 
-fn fresh(rt: &impl Print, session: Session, request: Request) -> Answered {
+fn fresh(rt: &impl Print, session: Session, request: Request) -> io::Result<Session> {
     let mut area = [0u8; 4096];
     let reply = session::fresh(session, request, &mut area);
     conclude(rt, reply, &area)
 }
 
-fn small(rt: &impl Print, session: Session, request: Request) -> Answered {
+fn small(rt: &impl Print, session: Session, request: Request) -> io::Result<Session> {
     let mut area = [0u8; 4096];
     let reply = small_text::answer(session, request, &mut area);
     conclude(rt, reply, &area)
 }
 
-fn turn(rt: &impl Print, session: Session, request: Request, line: &[u8]) -> Answered {
+fn turn(rt: &impl Print, session: Session, request: Request, line: &[u8]) -> io::Result<Session> {
     let mut area = [0u8; 4096];
     let reply = console::turn(session, request, line, &mut area);
     conclude(rt, reply, &area)
@@ -181,74 +171,75 @@ fn show(
     what: Show,
     request: Request,
     line: &[u8],
-) -> Answered {
+) -> io::Result<Session> {
     if session.present {
-        let said = show_unit(rt, session.unit, what, request, line);
-        return Answered { session, said };
+        show_unit(rt, session.unit, what, request, line)?;
+        return Ok(session);
     }
     turn(rt, session, request, line)
 }
 
-fn load_front(rt: &impl Print, session: Session, file: &[u8], count: usize) -> Answered {
-    if file.len() < count {
-        return Answered {
-            session,
-            said: false,
-        };
-    }
+fn load_file(rt: &impl Print, session: Session, file: &[u8]) -> io::Result<Session> {
     let mut area = [0u8; 4096];
-    let reply = session::load(session, &file[..count], &mut area);
+    let reply = session::load(session, file, &mut area);
     conclude(rt, reply, &area)
 }
 
 // No unit file has more than 268 bytes, and the answer to a longer one depends on its first 269 alone (`read_cut`, crate unit_file).
-fn load(rt: &(impl Files + Print), session: Session, name: &[u8]) -> Answered {
+fn load(rt: &(impl Files + Print), session: Session, name: &[u8]) -> io::Result<Session> {
     let mut file = [0u8; 512];
     let found = files::load(rt, name, &mut file);
     match found {
-        Found::Nothing => {
-            let said = say(rt, b"no file\n");
-            Answered { session, said }
+        None => {
+            rt.write_all(b"no file\n")?;
+            Ok(session)
         }
-        Found::Bytes(count) => load_front(rt, session, &file, count),
+        Some(count) => load_file(rt, session, front(&file, count)?),
     }
 }
 
 // What the report, or the loader, reads from a file.
-fn report(rt: &impl Print, file: &[u8]) -> bool {
+fn report(rt: &impl Print, file: &[u8]) -> io::Result<()> {
     let mut area = [0u8; 4096];
     let end = record_text::report(file, &mut area);
     say_front(rt, &area, end)
 }
 
-fn ring(rt: &impl Print, file: &[u8]) -> bool {
+fn ring(rt: &impl Print, file: &[u8]) -> io::Result<()> {
     let mut area = [0u8; 65536];
     let end = record_text::ring(file, &mut area);
     say_front(rt, &area, end)
 }
 
-fn view_front(rt: &impl Print, what: View, file: &[u8], count: usize) -> bool {
-    if file.len() < count {
-        return false;
-    }
+fn view_file(rt: &impl Print, what: View, file: &[u8]) -> io::Result<()> {
     match what {
-        View::Report => report(rt, &file[..count]),
-        View::Ring => ring(rt, &file[..count]),
+        View::Report => report(rt, file),
+        View::Ring => ring(rt, file),
     }
 }
 
 // No record has more than 1,288 bytes, and of a longer file the first 1,289 tell as much as all (`FrontTells`, crate plan_record).
-fn view(rt: &(impl Files + Print), session: Session, what: View, name: &[u8]) -> Answered {
+fn view(
+    rt: &(impl Files + Print),
+    session: Session,
+    what: View,
+    name: &[u8],
+) -> io::Result<Session> {
     let mut file = [0u8; 2048];
     let found = files::load(rt, name, &mut file);
-    let said = match found {
-        Found::Nothing => say(rt, b"no file\n"),
-        Found::Bytes(count) => view_front(rt, what, &file, count),
-    };
-    Answered { session, said }
+    match found {
+        None => rt.write_all(b"no file\n")?,
+        Some(count) => view_file(rt, what, front(&file, count)?)?,
+    }
+    Ok(session)
 }
 
-fn obey(rt: &(impl Files + Print), session: Session, request: Request, line: &[u8]) -> Answered {
+fn obey(
+    rt: &(impl Files + Print),
+    session: Session,
+    request: Request,
+    line: &[u8],
+) -> io::Result<Session> {
     let verb = request.verb;
     match verb {
         Verb::Fresh => fresh(rt, session, request),
@@ -260,112 +251,91 @@ fn obey(rt: &(impl Files + Print), session: Session, request: Request, line: &[u
     }
 }
 
-fn answer(rt: &(impl Files + Print), session: Session, number: u32, line: &[u8]) -> Answered {
+fn answer(
+    rt: &(impl Files + Print),
+    session: Session,
+    number: u32,
+    line: &[u8],
+) -> io::Result<Session> {
     let said = command::parse(line);
     match said {
-        Parsed::Nothing => Answered {
-            session,
-            said: true,
-        },
-        Parsed::Bad(trouble) => {
-            let said = say_trouble(rt, number, trouble);
-            Answered { session, said }
+        Ok(None) => Ok(session),
+        Err(trouble) => {
+            say_trouble(rt, number, trouble)?;
+            Ok(session)
         }
-        Parsed::Command(request) => obey(rt, session, request, line),
+        Ok(Some(request)) => obey(rt, session, request, line),
     }
 }
 
 // Lines. A line is held in 4,097 bytes: where it is longer, what is held is longer than a command can be, and the rest is passed over.
 
-// The session, the number of the present line, how many of its bytes are held, and whether all answers so far were written.
+// The session, the number of the present line, and how many of its bytes are held.
 #[derive(Clone, Copy)]
 struct Reading {
     session: Session,
     number: u32,
     held: usize,
-    open: bool,
 }
 
-fn end_line(rt: &(impl Files + Print), reading: Reading, line: &[u8]) -> Reading {
-    let held = reading.held;
+fn end_line(rt: &(impl Files + Print), reading: Reading, line: &[u8]) -> io::Result<Reading> {
     let number = reading.number;
-    let session = reading.session;
-    if line.len() < held {
-        return reading;
-    }
-    let next = answer(rt, session, number, &line[..held]);
-    let after = next.session;
-    Reading {
-        session: after,
-        number: following(number),
+    let held = front(line, reading.held)?;
+    let session = answer(rt, reading.session, number, held)?;
+    Ok(Reading {
+        session,
+        number: number.saturating_add(1),
         held: 0,
-        open: next.said,
-    }
+    })
 }
 
-// The number of the next line. A script of more lines than a word can count has no number beyond the last.
-fn following(number: u32) -> u32 {
-    if number < u32::MAX {
-        return number + 1;
-    }
-    number
-}
-
-fn take_byte(rt: &(impl Files + Print), reading: Reading, byte: u8, line: &mut [u8]) -> Reading {
-    if byte == 10 {
+fn take_byte(
+    rt: &(impl Files + Print),
+    reading: Reading,
+    byte: u8,
+    line: &mut [u8],
+) -> io::Result<Reading> {
+    if byte == b'\n' {
         return end_line(rt, reading, line);
     }
     let held = reading.held;
-    let session = reading.session;
     if held < line.len() {
         line[held] = byte;
-        return Reading {
-            session,
-            number: reading.number,
+        return Ok(Reading {
             held: held + 1,
-            open: reading.open,
-        };
+            ..reading
+        });
     }
-    reading
+    Ok(reading)
 }
 
-// The lines of some bytes, up to the first whose answer can't be written.
 fn take_bytes(
     rt: &(impl Files + Print),
     reading: Reading,
     bytes: &[u8],
     line: &mut [u8],
-) -> Reading {
+) -> io::Result<Reading> {
     let mut now = reading;
     for byte in bytes {
-        if !now.open {
-            return now;
-        }
-        now = take_byte(rt, now, *byte, line);
+        now = take_byte(rt, now, *byte, line)?;
     }
-    now
+    Ok(now)
 }
 
-// Reads some of the input, and answers every line that ends in it. More follows unless the input has ended, or an answer could not be written.
-#[derive(Clone, Copy)]
-struct Taken {
-    reading: Reading,
-    more: bool,
-}
-
+// Reads some of the input, and answers every line that ends in it. There is nothing at the end of the input.
 fn take_some(
     rt: &(impl Files + Print),
     input: &mut impl Read,
     reading: Reading,
     line: &mut [u8],
-) -> Taken {
+) -> io::Result<Option<Reading>> {
     let mut chunk = [0u8; 65536];
     let count = files::read_some(input, &mut chunk);
-    let next = take_bytes(rt, reading, &chunk[..count], line);
-    Taken {
-        reading: next,
-        more: 0 < count && next.open,
+    if count == 0 {
+        return Ok(None);
     }
+    let next = take_bytes(rt, reading, &chunk[..count], line)?;
+    Ok(Some(next))
 }
 
 // All of the input. A proved loop has to end, so it takes no more turns than a number that no run uses up.
@@ -374,31 +344,35 @@ fn take_all(
     input: &mut impl Read,
     first: Reading,
     line: &mut [u8],
-) -> Reading {
+) -> io::Result<Reading> {
     let mut reading = first;
     for _ in 0..u64::MAX {
-        let taken = take_some(rt, input, reading, line);
-        reading = taken.reading;
-        if !taken.more {
-            break;
+        match take_some(rt, input, reading, line)? {
+            Some(next) => reading = next,
+            None => break,
         }
     }
-    reading
+    Ok(reading)
 }
 
 // What comes after the last newline is a line too.
-fn main(rt: HostRuntime) {
+fn converse(rt: &(impl Files + Input + Print)) -> io::Result<()> {
     let session = session::open();
     let mut line = [0u8; 4097];
     let first = Reading {
         session,
         number: 1,
         held: 0,
-        open: true,
     };
     let mut input = rt.reader();
-    let last = take_all(&rt, &mut input, first, &mut line);
-    if last.open && 0 < last.held {
-        end_line(&rt, last, &line);
+    let last = take_all(rt, &mut input, first, &mut line)?;
+    if 0 < last.held {
+        end_line(rt, last, &line)?;
     }
+    Ok(())
+}
+
+// Where an answer can't be written, there is nobody to tell.
+fn main(rt: HostRuntime) {
+    let _ = converse(&rt);
 }

@@ -1,50 +1,47 @@
 -- The turns of the loop that empties the buckets, and the index of no states. Assumes nothing.
-use mathlib.Core.Path.{◌≡◌, refl, ◌∙◌}
+use mathlib.Core.Path.{◌≡◌, ap, ◌∙◌}
 use mathlib.Core.List.{List}
 use Prim.Native.Nat.{ℕ, ◌+◌, ◌≤◌, ◌<◌}
 use native.Mathlib.Nat.{not-suc-le-zero}
-use native.Mathlib.Decide.{ℕ_discrete}
 use native.Mathlib.Omega.{arith}
-use lib.ListN.{length, get_or, set, length-set}
-use lib.Seq.{get_or-set_same, get_or-set_other}
+use lib.ListN.{length, get_or, drop, replicate, length-drop}
+use borrow.Author.Rules.{rules}
+use borrow.Rule.Slice.PartMut.{mid_of, put_mid}
+use Rattle.std.proofs.lemmas.List.{places, length-take-le, length-replicate, get_or-replicate}
 use Rattle.diagram.specs.Work.{Indexed}
-use Rattle.diagram.specs.Inner.{Confined, Cleared}
+use Rattle.diagram.specs.Inner.{Cleared}
 
--- the heads before the slot are none
-pub record Clearing (before w : List ℕ) (slot : ℕ) : Type 0 where
-  pub room : 768 ≤ length before
-  pub least : 256 ≤ slot
-  pub most : slot ≤ 512
-  pub confined : Confined before w
-  pub empty : (i : ℕ) → 256 ≤ i → i < slot → get_or w i 0 ≡ 0
+-- A part of the words, from a on and k long, that was filled with 0
 
-pub clear_start : (w : List ℕ) → 768 ≤ length w → Clearing w w 256
-clear_start w h = record {
-  room = h;
-  least = omega arith;
-  most = omega arith;
-  confined = record { size = refl; beyond = λ i l. refl };
-  empty = λ i l m. absurd (omega arith);
-}
+module _ (a k : ℕ) (xs ys : List ℕ) (fits : a + k ≤ length xs) (filled : ys ≡ replicate (length (mid_of a k xs)) 0) where
+  part_size : length (mid_of a k xs) ≡ k
+  part_size = length-take-le k (drop a xs) (omega (arith, length-drop a xs))
 
-pub clear_more : (before w : List ℕ) (slot : ℕ) → Clearing before w slot → slot < 512 → Clearing before (set w slot 0) (slot + 1)
-clear_more before w slot r h = record {
-  room = r.room;
-  least = omega arith;
-  most = omega arith;
-  confined = record {
-    size = length-set w slot 0 ∙ r.confined.size;
-    beyond = λ i l. get_or-set_other w slot i 0 0 (λ e. omega arith) ∙ r.confined.beyond i l;
-  };
-  empty = λ i l m. go i l m (ℕ_discrete i slot);
-}
-  where
-    go : (i : ℕ) → 256 ≤ i → i < slot + 1 → Dec (i ≡ slot) → get_or (set w slot 0) i 0 ≡ 0
-    go i l m (yes e) = rw e (get_or-set_same w slot 0 0 (omega arith))
-    go i l m (no e) = get_or-set_other w slot i 0 0 e ∙ r.empty i l (omega arith)
+  fill_size : length ys ≡ k
+  fill_size = ap length filled ∙ length-replicate (length (mid_of a k xs)) 0 ∙ part_size
 
-pub clear_end : (before w : List ℕ) (slot : ℕ) → Clearing before w slot → 512 ≤ slot → Cleared before w
-clear_end before w slot r h = record { confined = r.confined; empty = λ b l. r.empty (256 + b) (omega arith) (omega arith) }
+  pub fill_length : length (put_mid a k xs ys) ≡ length xs
+  fill_length = let size : length ys ≡ k = fill_size in search (rules, places)
+
+  pub fill_before : (i : ℕ) → i < a → get_or (put_mid a k xs ys) i 0 ≡ get_or xs i 0
+  fill_before i h = search (rules, places)
+
+  pub fill_zero : (b : ℕ) → b < k → get_or (put_mid a k xs ys) (a + b) 0 ≡ 0
+  fill_zero b h =
+      let size : length ys ≡ k = fill_size in
+      let inside : get_or (put_mid a k xs ys) (a + b) 0 ≡ get_or ys b 0 = search (rules, places) in
+      inside ∙ rw filled (get_or-replicate (length (mid_of a k xs)) b 0 0 (omega (arith, part_size)))
+
+  pub fill_beyond : (i : ℕ) → a + k ≤ i → get_or (put_mid a k xs ys) i 0 ≡ get_or xs i 0
+  fill_beyond i h = let size : length ys ≡ k = fill_size in search (rules, places)
+
+pub clear_filled : (w ys : List ℕ) → 768 ≤ length w → ys ≡ replicate (length (mid_of 256 256 w)) 0 → Cleared w (put_mid 256 256 w ys)
+clear_filled w ys h e =
+    let fits : 256 + 256 ≤ length w = omega arith in
+    record {
+      confined = record { size = fill_length 256 256 w ys fits e; beyond = λ i l. fill_beyond 256 256 w ys fits e i (omega arith) };
+      empty = fill_zero 256 256 w ys fits e;
+    }
 
 -- the index of no states
 pub clear_indexed : {before after : List ℕ} → 768 ≤ length before → Cleared before after → Indexed after 0

@@ -1,12 +1,11 @@
 -- A bound on the walks of the diagram is a bound on every cycle that never collides. Assumes nothing.
-use mathlib.Core.Path.{◌≡◌, refl, ap, ◌∙◌}
-use mathlib.Core.List.{List, [], ◌∷◌}
+use mathlib.Core.Path.{◌≡◌, refl, ap}
+use mathlib.Core.List.{List}
 use Prim.Native.Nat.{ℕ, zero, suc, ◌+◌, ◌*◌, ◌≤◌, ◌<◌}
-use native.Mathlib.Nat.{le_refl, le_of_lt, add-zero, add-suc, zero-add, add_comm, zero-mul, suc-mul, mul-suc, mul_left_comm, mul-le-mul_left, add-mod_left, mod-eq_of_lt, not-suc-le-zero, le_of_suc-le-suc}
+use native.Mathlib.Nat.{le_refl, add-zero, zero-add, mul-suc, mul_left_comm, mul-le-mul_left}
 use native.Mathlib.Decide.{dec_le}
 use native.Mathlib.Omega.{arith}
-use lib.ListN.{length, get_or, take}
-use lib.Seq.{take-length}
+use lib.ListN.{length}
 use Rattle.unit.specs.Table.{Table}
 use Rattle.collision.specs.Pipeline.{total, NeverCollides, Cycle, start_at}
 use Rattle.collision.proofs.StartLaws.{start_at_turns}

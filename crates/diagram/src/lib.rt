@@ -35,6 +35,7 @@ pub fn place(work: &[u32], count: usize, state: u32) -> usize
     if 256 < at {
         return count;
     }
+    // A while: the next place is a link, not a count.
     while 0 < at {
         let last = at - 1;
         if work[last] == state {
@@ -54,11 +55,7 @@ fn clear(work: &mut [u32])
     requires { 768 ≤ length work.old }
     ensures { Cleared work.old work.new }
 {
-    let mut slot = 256;
-    while slot < 512 {
-        work[slot] = 0;
-        slot += 1;
-    }
+    work[256..512].fill(0);
 }
 
 // Lists one more state, as the last of its bucket.
@@ -106,6 +103,7 @@ fn follow(work: &mut [u32], count: usize, vector: u32, columns: u32, at: usize) 
     let state = work[at];
     let mut found = count;
     let mut latency = words::zero_from(state, 0) + 1;
+    // A while: the next latency is found at the next column that is 0.
     while latency <= columns + 1 {
         found = visit(work, found, vector, state, latency);
         if 256 < found {
@@ -124,6 +122,7 @@ fn explore(work: &mut [u32], vector: u32) -> usize
     let columns = width_of(vector);
     let mut count = 1;
     let mut at = 0;
+    // A while: the list grows as it is walked.
     while at < count {
         count = follow(work, count, vector, columns, at);
         if 256 < count {

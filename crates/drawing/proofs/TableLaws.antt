@@ -3,7 +3,7 @@ use mathlib.Core.Path.{◌≡◌, refl, sym, ap}
 use mathlib.Core.Bool.{Bool, true, false}
 use mathlib.Core.List.{List, [], ◌++◌}
 use Prim.Native.Nat.{ℕ, ◌+◌, ◌-◌, ◌*◌, ◌/◌, ◌≤◌, ◌<◌}
-use native.Mathlib.Nat.{mul-add, mul-le-mul, mul-le-mul_left}
+use native.Mathlib.Nat.{mul-add, mul-le-mul}
 use native.Mathlib.Omega.{arith}
 use lib.ListN.{length, replicate, length-append, length-replicate}
 use Rattle.words.specs.Below.{join_below}
@@ -102,9 +102,3 @@ lines_few segments columns s16 c32 =
     let h : segments + 1 ≤ 17 = omega arith in
     let m : line_length columns * (segments + 1) ≤ 100 * 17 = mul-le-mul w h in
     omega arith
-
--- room for one more line
-pub line_room : (segments columns s : ℕ) → s < segments → line_length columns * s + line_length columns ≤ line_length columns * segments
-line_room segments columns s h =
-    let m : line_length columns * (s + 1) ≤ line_length columns * segments = mul-le-mul_left (line_length columns) (omega arith) in
-    omega (arith, mul-add (line_length columns) s 1)

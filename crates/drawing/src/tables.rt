@@ -36,10 +36,8 @@ fn put_numbers(out: &mut [u8], at: usize, columns: u32) -> usize
     ensures { Put (3 * columns) out.old at (join_below columns number_cell) out.new result }
 {
     let mut end = at;
-    let mut column = 0;
-    while column < columns {
+    for column in 0..columns {
         end = put_number_cell(out, end, column + 1);
-        column += 1;
     }
     end
 }
@@ -60,11 +58,8 @@ fn put_marks(out: &mut [u8], at: usize, marks: [u16; 32], columns: u32, segment:
     ensures { Put (3 * columns) out.old at (join_below columns (mark_cell marks segment)) out.new result }
 {
     let mut end = at;
-    let mut column = 0;
-    while column < columns {
-        let word = marks[column as usize] as u32;
-        end = put_mark_cell(out, end, words::test(word, segment));
-        column += 1;
+    for word in &marks[..columns as usize] {
+        end = put_mark_cell(out, end, words::test(*word as u32, segment));
     }
     end
 }
@@ -85,10 +80,8 @@ fn put_rows(out: &mut [u8], at: usize, marks: [u16; 32], segments: u32, columns:
     ensures { Put (line_length columns * segments) out.old at (join_below segments (line_text marks columns)) out.new result }
 {
     let mut end = at;
-    let mut segment = 0;
-    while segment < segments {
+    for segment in 0..segments {
         end = put_line(out, end, marks, columns, segment);
-        segment += 1;
     }
     end
 }

@@ -5,7 +5,7 @@ ghost use Rattle.std.specs.Prelude.{◌≡◌, ◌-◌, ◌≤◌};
 ghost use Rattle.words.specs.Bits.{set_bit, clear_bit};
 ghost use Rattle.unit.specs.Calls.{spot_answer, mark_of, unmark_of};
 
-use unit::{Answer, FunctionUnit, Outcome, Refusal, Segment, Tag};
+use unit::{FunctionUnit, Outcome, Refusal, Segment, Tag};
 
 // A column's word with the mark of a segment.
 fn with_mark(word: u16, segment: u8) -> u16
@@ -24,22 +24,17 @@ fn without_mark(word: u16, segment: u8) -> u16
 }
 
 // Whether the mark of a tag at a segment in a column can be edited.
-fn check_spot(u: FunctionUnit, tag: Tag, segment: Segment, column: u8) -> Answer
+fn check_spot(u: FunctionUnit, tag: Tag, segment: Segment, column: u8) -> Result<(), Refusal>
     ensures { result ≡ spot_answer u tag.0 segment.0 column }
 {
-    let first = unit::check_tag(u, tag);
-    match first {
-        Answer::Refused(why) => Answer::Refused(why),
-        Answer::Done => {
-            if !words::is_inside(segment.0, u.segments) {
-                return Answer::Refused(Refusal::NoSuchSegment);
-            }
-            if !words::is_inside(column, u.columns) {
-                return Answer::Refused(Refusal::NoSuchColumn);
-            }
-            Answer::Done
-        }
+    unit::check_tag(u, tag)?;
+    if !words::is_inside(segment.0, u.segments) {
+        return Err(Refusal::NoSuchSegment);
     }
+    if !words::is_inside(column, u.columns) {
+        return Err(Refusal::NoSuchColumn);
+    }
+    Ok(())
 }
 
 // Sets one mark and drops the plan.
@@ -47,7 +42,7 @@ pub fn mark(u: FunctionUnit, tag: Tag, segment: Segment, column: u8) -> Outcome
     ensures { result ≡ mark_of u tag.0 segment.0 column }
 {
     let answer = check_spot(u, tag, segment, column);
-    let Answer::Done = answer else {
+    let Ok(()) = answer else {
         return Outcome { answer, unit: u };
     };
     let marks = columns::columns_of(u, tag);
@@ -61,7 +56,7 @@ pub fn unmark(u: FunctionUnit, tag: Tag, segment: Segment, column: u8) -> Outcom
     ensures { result ≡ unmark_of u tag.0 segment.0 column }
 {
     let answer = check_spot(u, tag, segment, column);
-    let Answer::Done = answer else {
+    let Ok(()) = answer else {
         return Outcome { answer, unit: u };
     };
     let marks = columns::columns_of(u, tag);

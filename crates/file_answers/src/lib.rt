@@ -4,22 +4,18 @@
 ghost use Rattle.std.specs.Prelude.{◌≡◌};
 ghost use Rattle.file_answers.specs.Answers.{read_then, number_told, number_value};
 
-use collision::Number;
-use unit::Answer;
+use unit::Refusal;
 
 // Hands a value out, or answers the number of the refusal: the file's, else that of what was asked.
-pub fn hand_out(read: Answer, asked: Number, value: &mut u32) -> u32
+pub fn hand_out(read: Result<(), Refusal>, asked: Result<u32, Refusal>, value: &mut u32) -> u32
     ensures value { result ≡ number_told (read_then read asked) }
     ensures value_after { value.new ≡ number_value (read_then read asked) value.old }
 {
-    let Answer::Done = read else {
-        return unit::number_in(read) as u32;
-    };
-    match asked {
-        Number::Value(number) => {
+    match read.and(asked) {
+        Ok(number) => {
             *value = number;
             0
         }
-        Number::Refused(why) => unit::number_in(Answer::Refused(why)) as u32,
+        Err(why) => u32::from(why),
     }
 }

@@ -1,4 +1,5 @@
 -- The greedy cycle of a function of a unit file: what is answered, handed out and written. Assumes nothing.
+use Rattle.std.proofs.Common.{Result, Ok, Err}
 use Prim.Native.Nat.{ℕ}
 use mathlib.Core.Path.{◌≡◌, refl, sym, ap, ap₂, ◌∙◌, subst}
 use mathlib.Core.List.{List}
@@ -8,8 +9,7 @@ use Rattle.words.specs.Bytes.{narrow}
 use Rattle.unit.specs.declared.Outcome.{Outcome}
 use Rattle.unit.specs.declared.Refusal.{Refusal}
 use Rattle.unit.specs.declared.Refusal.TheVariants.{NotSound}
-use Rattle.unit.specs.declared.Answer.{Answer}
-use Rattle.unit.specs.declared.Answer.TheVariants.{Done, Refused}
+use Rattle.unit.specs.Answers.{Answer}
 use Rattle.unit.specs.Numbers.{number_of, number_in}
 use Rattle.unit.specs.Calls.{and_then, handed}
 use Rattle.unit.proofs.EndLaws.{then_kept}
@@ -18,8 +18,6 @@ use Rattle.unit_file.proofs.AcceptedLaws.{read_answer_lem}
 use Rattle.unit_file.proofs.AskedLaws.{unit_unread}
 use Rattle.collision.specs.Pipeline.{total}
 use Rattle.diagram.specs.Answers.{written}
-use Rattle.cycles.specs.declared.GreedyAnswer.{GreedyAnswer}
-use Rattle.cycles.specs.declared.GreedyAnswer.TheVariants as GreedyAnswer
 use Rattle.cycles.specs.declared.Counted.{Counted}
 use Rattle.cycles.specs.Greedy.{greedy_of, greedy_refusal, counting, greedy_answer, greedy_out, WorkAfter}
 use Rattle.cycles.proofs.EndLaws.{work_same}
@@ -28,48 +26,30 @@ use Rattle.file_cycles.specs.Inner.{read_then, cycle_told, cycle_count, cycle_su
 
 -- How a cycle's numbers are handed out
 
-abbrev pub CycleEnds : GreedyAnswer → ℕ → ℕ → ℕ → ℕ → ℕ → Type 0
+abbrev pub CycleEnds : Result Counted Refusal → ℕ → ℕ → ℕ → ℕ → ℕ → Type 0
 CycleEnds g count countAfter sum sumAfter r = (r ≡ cycle_told g) × ((countAfter ≡ cycle_count g count) × (sumAfter ≡ cycle_sum g sum))
-
-module _ (read : Answer) (found : GreedyAnswer) (count sum : ℕ) where
-  cycle_same : (g : GreedyAnswer) → read_then read found ≡ g → CycleEnds (read_then read found) count (cycle_count g count) sum (cycle_sum g sum) (cycle_told g)
-  cycle_same g e = (ap cycle_told (sym e), (ap (λ x. cycle_count x count) (sym e), ap (λ x. cycle_sum x sum) (sym e)))
-
-  pub cycle_unread : {why : Refusal} {r : ℕ} → read ≡ Refused why → r ≡ number_in read → CycleEnds (read_then read found) count count sum sum r
-  cycle_unread {why} e n =
-      let s = cycle_same (GreedyAnswer.Refused why) (ap (λ a. read_then a found) e) in
-      (n ∙ ap number_in e ∙ s.0, s.1)
-
-  pub cycle_found : {n : Counted} → read ≡ Done → found ≡ GreedyAnswer.Cycle n → CycleEnds (read_then read found) count n.count sum n.sum 0
-  cycle_found {n} d e = cycle_same (GreedyAnswer.Cycle n) (ap (λ a. read_then a found) d ∙ e)
-
-  pub cycle_refused : {why : Refusal} {r : ℕ} → read ≡ Done → found ≡ GreedyAnswer.Refused why → r ≡ number_of why
-      → CycleEnds (read_then read found) count count sum sum r
-  cycle_refused {why} d e n =
-      let s = cycle_same (GreedyAnswer.Refused why) (ap (λ a. read_then a found) d ∙ e) in
-      (n ∙ s.0, s.1)
 
 -- a cycle that was counted, by the answer
 counted_ends : (a : Answer) (l : List ℕ) (count sum : ℕ)
     → (cycle_told (counting a l) ≡ number_in a)
     × ((cycle_count (counting a l) count ≡ handed a (length l) count) × (cycle_sum (counting a l) sum ≡ handed a (total l) sum))
-counted_ends Done l count sum = (refl, (refl, refl))
-counted_ends (Refused why) l count sum = (refl, (refl, refl))
+counted_ends (Ok _) l count sum = (refl, (refl, refl))
+counted_ends (Err why) l count sum = (refl, (refl, refl))
 
 -- the file's refusal, then the cycle's
 read_then_lem : (a b : Answer) (l : List ℕ) → read_then a (counting b l) ≡ counting (and_then a b) l
-read_then_lem Done b l = refl
-read_then_lem (Refused why) b l = refl
+read_then_lem (Ok _) b l = refl
+read_then_lem (Err why) b l = refl
 
 -- The working words
 
 -- a refusal that goes first leaves them, where the other left them too
-work_then : (a b : Answer) (work after : List ℕ) → ((why : Refusal) → a ≡ Refused why → b ≡ Refused NotSound) → WorkAfter b work after
+work_then : (a b : Answer) (work after : List ℕ) → ((why : Refusal) → a ≡ Err why → b ≡ Err NotSound) → WorkAfter b work after
     → WorkAfter (and_then a b) work after
-work_then Done b work after e w = w
-work_then (Refused why) b work after e w =
+work_then (Ok _) b work after e w = w
+work_then (Err why) b work after e w =
     let same : after ≡ work = w.kept NotSound (e why refl) (λ n. let z : ◌≡◌ {A = ℕ} 0 1 = cc in omega arith) in
-    subst (λ l. WorkAfter (Refused why) work l) (sym same) (work_same (Refused why) work)
+    subst (λ l. WorkAfter (Err why) work l) (sym same) (work_same (Err why) work)
 
 -- The call
 
@@ -82,18 +62,18 @@ GreedyEnds file q work workAfter out outAfter count countAfter sum sumAfter r =
     × WorkAfter (cycle_refusal file q (length work) (length out)) work workAfter)))
 
 -- what `cycles::greedy` promises of a unit
-abbrev pub GreedyPromise : Outcome → ℕ → List ℕ → List ℕ → List ℕ → List ℕ → GreedyAnswer → Type 0
+abbrev pub GreedyPromise : Outcome → ℕ → List ℕ → List ℕ → List ℕ → List ℕ → Result Counted Refusal → Type 0
 GreedyPromise back t work workAfter out outAfter found =
     (found ≡ greedy_answer back.unit t (length work) (length out))
     × (outAfter ≡ greedy_out back.unit t (length work) out)
     × WorkAfter (greedy_refusal back.unit t (length work) (length out)) work workAfter
 
 -- a refused file's unit is refused
-greedy_unread : (file : List ℕ) (q work out : ℕ) (why : Refusal) → read_answer file ≡ Refused why → greedy_refusal (unit_in file) q work out ≡ Refused NotSound
+greedy_unread : (file : List ℕ) (q work out : ℕ) (why : Refusal) → read_answer file ≡ Err why → greedy_refusal (unit_in file) q work out ≡ Err NotSound
 unfolding greedy_refusal
 greedy_unread file q work out why e = rw (unit_unread file q why e)
 
-module _ (file : List ℕ) (q : ℕ) (work workAfter out outAfter : List ℕ) (back : Outcome) (t : ℕ) (found : GreedyAnswer) (read : back ≡ read_of file) (tag : t ≡ narrow q)
+module _ (file : List ℕ) (q : ℕ) (work workAfter out outAfter : List ℕ) (back : Outcome) (t : ℕ) (found : (Result Counted Refusal)) (read : back ≡ read_of file) (tag : t ≡ narrow q)
     (h : GreedyPromise back t work workAfter out outAfter found) where
   -- what was promised of the unit that the file says, and of the tag as a byte
   promised : GreedyPromise (read_of file) (narrow q) work workAfter out outAfter found

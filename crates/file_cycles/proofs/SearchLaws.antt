@@ -1,4 +1,5 @@
 -- The best cycle of a function of a unit file: what is tried before the search, and what each way that the call ends hands out. Assumes nothing.
+use Rattle.std.proofs.Common.{Ok, Err}
 use Prim.Native.Nat.{ℕ, ◌+◌, ◌-◌, ◌≤◌, ◌<◌}
 use mathlib.Core.Path.{◌≡◌, refl, sym, ap, ap₂, ◌∙◌, subst}
 use mathlib.Core.Bool.{Bool, true, false}
@@ -14,8 +15,7 @@ use Rattle.unit.specs.declared.FunctionUnit.{FunctionUnit}
 use Rattle.unit.specs.declared.Outcome.{Outcome}
 use Rattle.unit.specs.declared.Refusal.{Refusal}
 use Rattle.unit.specs.declared.Refusal.TheVariants.{ShortWork, ShortOutput}
-use Rattle.unit.specs.declared.Answer.{Answer}
-use Rattle.unit.specs.declared.Answer.TheVariants.{Done, Refused}
+use Rattle.unit.specs.Answers.{Answer}
 use Rattle.unit.specs.Numbers.{number_in}
 use Rattle.unit.specs.Unit.{marked}
 use Rattle.unit.specs.Calls.{check, and_then, handed, tag_answer}
@@ -37,62 +37,62 @@ use Rattle.file_cycles.specs.Inner.{search_check, plan_front}
 
 -- the ways that the check ends
 module _ (read tagged : Answer) (work out : ℕ) where
-  pub checked_read : {why : Refusal} → read ≡ Refused why → read ≡ search_check read tagged work out
+  pub checked_read : {why : Refusal} → read ≡ Err why → read ≡ search_check read tagged work out
   unfolding search_check
   checked_read e = e ∙ sym (then_first read _ e)
 
-  pub checked_tag : {why : Refusal} → read ≡ Done → tagged ≡ Refused why → tagged ≡ search_check read tagged work out
+  pub checked_tag : {why : Refusal} → read ≡ Ok tt → tagged ≡ Err why → tagged ≡ search_check read tagged work out
   unfolding search_check
   checked_tag r e = e ∙ sym (then_second read _ r ∙ then_first tagged _ e)
 
-  pub checked_work : read ≡ Done → tagged ≡ Done → work < 16000 → Refused ShortWork ≡ search_check read tagged work out
+  pub checked_work : read ≡ Ok tt → tagged ≡ Ok tt → work < 16000 → Err ShortWork ≡ search_check read tagged work out
   unfolding search_check
   checked_work r t h = sym (simp (r, t, lt-leb 16000 work h))
 
-  pub checked_out : read ≡ Done → tagged ≡ Done → 16000 ≤ work → out < 256 → Refused ShortOutput ≡ search_check read tagged work out
+  pub checked_out : read ≡ Ok tt → tagged ≡ Ok tt → 16000 ≤ work → out < 256 → Err ShortOutput ≡ search_check read tagged work out
   unfolding search_check
   checked_out r t h k = sym (simp (r, t, le-leb 16000 work h, lt-leb 256 out k))
 
-  pub checked_done : read ≡ Done → tagged ≡ Done → 16000 ≤ work → 256 ≤ out → Done ≡ search_check read tagged work out
+  pub checked_done : read ≡ Ok tt → tagged ≡ Ok tt → 16000 ≤ work → 256 ≤ out → (Ok tt) ≡ search_check read tagged work out
   unfolding search_check
   checked_done r t h k = sym (simp (r, t, le-leb 16000 work h, le-leb 256 out k))
 
 -- what its answer says of the call: the search's own tests are those that are left
 module _ (read : Answer) (u : FunctionUnit) (q work out : ℕ) where
-  check_refuses : {why : Refusal} → search_check read (tag_answer u q) work out ≡ Refused why → and_then read (greedy_refusal u q work out) ≡ Refused why
+  check_refuses : {why : Refusal} → search_check read (tag_answer u q) work out ≡ Err why → and_then read (greedy_refusal u q work out) ≡ Err why
   unfolding search_check greedy_refusal
   check_refuses {why} e = go read (tag_answer u q) (leb 16000 work) (leb 256 out) e
     where
-      go : (r a : Answer) (b d : Bool) → and_then r (and_then a (check b ShortWork (check d ShortOutput Done))) ≡ Refused why
-          → and_then r (and_then a (check b ShortWork (check d ShortOutput (few_states 1 (marked u) q)))) ≡ Refused why
-      go (Refused other) a b d h = h
-      go Done (Refused other) b d h = h
-      go Done Done false d h = h
-      go Done Done true false h = h
-      go Done Done true true h = never_done (sym h)
+      go : (r a : Answer) (b d : Bool) → and_then r (and_then a (check b ShortWork (check d ShortOutput (Ok tt)))) ≡ Err why
+          → and_then r (and_then a (check b ShortWork (check d ShortOutput (few_states 1 (marked u) q)))) ≡ Err why
+      go (Err other) a b d h = h
+      go (Ok _) (Err other) b d h = h
+      go (Ok _) (Ok _) false d h = h
+      go (Ok _) (Ok _) true false h = h
+      go (Ok _) (Ok _) true true h = never_done (sym h)
 
-  check_passes : search_check read (tag_answer u q) work out ≡ Done → and_then read (greedy_refusal u q work out) ≡ search_answer u q work
+  check_passes : search_check read (tag_answer u q) work out ≡ Ok tt → and_then read (greedy_refusal u q work out) ≡ search_answer u q work
   unfolding search_check greedy_refusal search_answer
   check_passes e = go read (tag_answer u q) (leb 16000 work) (leb 256 out) e
     where
-      go : (r a : Answer) (b d : Bool) → and_then r (and_then a (check b ShortWork (check d ShortOutput Done))) ≡ Done
+      go : (r a : Answer) (b d : Bool) → and_then r (and_then a (check b ShortWork (check d ShortOutput (Ok tt)))) ≡ Ok tt
           → and_then r (and_then a (check b ShortWork (check d ShortOutput (few_states 1 (marked u) q)))) ≡ and_then a (check b ShortWork (few_states 1 (marked u) q))
-      go (Refused other) a b d h = never_done h
-      go Done (Refused other) b d h = never_done h
-      go Done Done false d h = never_done h
-      go Done Done true false h = never_done h
-      go Done Done true true h = refl
+      go (Err other) a b d h = never_done h
+      go (Ok _) (Err other) b d h = never_done h
+      go (Ok _) (Ok _) false d h = never_done h
+      go (Ok _) (Ok _) true false h = never_done h
+      go (Ok _) (Ok _) true true h = refl
 
-  check_room : search_check read (tag_answer u q) work out ≡ Done → 256 ≤ out
+  check_room : search_check read (tag_answer u q) work out ≡ Ok tt → 256 ≤ out
   unfolding search_check
   check_room e = leb-true 256 out (go read (tag_answer u q) (leb 16000 work) (leb 256 out) e)
     where
-      go : (r a : Answer) (b d : Bool) → and_then r (and_then a (check b ShortWork (check d ShortOutput Done))) ≡ Done → d ≡ true
-      go (Refused other) a b d h = never_done h
-      go Done (Refused other) b d h = never_done h
-      go Done Done false d h = never_done h
-      go Done Done true false h = never_done h
-      go Done Done true true h = refl
+      go : (r a : Answer) (b d : Bool) → and_then r (and_then a (check b ShortWork (check d ShortOutput (Ok tt)))) ≡ Ok tt → d ≡ true
+      go (Err other) a b d h = never_done h
+      go (Ok _) (Err other) b d h = never_done h
+      go (Ok _) (Ok _) false d h = never_done h
+      go (Ok _) (Ok _) true false h = never_done h
+      go (Ok _) (Ok _) true true h = refl
 
 -- The plan that was found
 
@@ -114,7 +114,7 @@ pub planned : (u : FunctionUnit) (q : ℕ) (after : FunctionUnit) (f : Found u q
 planned u q after f = subst (λ (v : FunctionUnit). Planned v.plan f.cycle) (sym f.unit) (planned_of q f.cycle)
 
 -- a plan that was found has its latencies
-pub found_inside : (u : FunctionUnit) (q : ℕ) (work workAfter : List ℕ) (o : Outcome) → SearchPromise u q work workAfter o.answer o.unit → o.answer ≡ Done
+pub found_inside : (u : FunctionUnit) (q : ℕ) (work workAfter : List ℕ) (o : Outcome) → SearchPromise u q work workAfter o.answer o.unit → o.answer ≡ Ok tt
     → o.unit.plan.count ≤ length o.unit.plan.latencies
 found_inside u q work workAfter o p d = (planned u q o.unit (p.found d)).inside
 
@@ -136,11 +136,11 @@ module _ (answer : Answer) (p : Plan) (out : List ℕ) (count sum : ℕ) where
     ),
   )
 
-  pub plan_refused : {why : Refusal} {r : ℕ} → answer ≡ Refused why → r ≡ number_in answer → PlanEnds answer p out out count count sum sum r
-  plan_refused {why} e n = (n, (plan_ends (Refused why) e).1)
+  pub plan_refused : {why : Refusal} {r : ℕ} → answer ≡ Err why → r ≡ number_in answer → PlanEnds answer p out out count count sum sum r
+  plan_refused {why} e n = (n, (plan_ends (Err why) e).1)
 
-  pub plan_handed : {outAfter : List ℕ} → answer ≡ Done → outAfter ≡ plan_front p out → PlanEnds answer p out outAfter count p.count sum p.sum 0
-  plan_handed e put = let l = plan_ends Done e in (l.0, (put ∙ l.1.0, l.1.1))
+  pub plan_handed : {outAfter : List ℕ} → answer ≡ Ok tt → outAfter ≡ plan_front p out → PlanEnds answer p out outAfter count p.count sum p.sum 0
+  plan_handed e put = let l = plan_ends (Ok tt) e in (l.0, (put ∙ l.1.0, l.1.1))
 
 -- The ways that the call ends
 
@@ -158,10 +158,10 @@ module _ (file : List ℕ) (q : ℕ) (work out : List ℕ) (count sum : ℕ) (ba
       (ap₂ (λ (o : Outcome) s. greedy_refusal o.unit s (length work) (length out)) (sym read) (sym tag))
 
   -- nothing is handed out
-  nothing : (workAfter : List ℕ) (a : Answer) {why : Refusal} (r : ℕ) → cycle_refusal file q (length work) (length out) ≡ a → a ≡ Refused why
+  nothing : (workAfter : List ℕ) (a : Answer) {why : Refusal} (r : ℕ) → cycle_refusal file q (length work) (length out) ≡ a → a ≡ Err why
       → WorkAfter a work workAfter → r ≡ number_in a → SearchHanded file q work workAfter out out count count sum sum r
   nothing workAfter a {why} r says e words n =
-      let refused : cycle_refusal file q (length work) (length out) ≡ Refused why = says ∙ e in
+      let refused : cycle_refusal file q (length work) (length out) ≡ Err why = says ∙ e in
       record {
         cycle = [];
         best = λ done. never_done (sym refused ∙ done);
@@ -173,22 +173,22 @@ module _ (file : List ℕ) (q : ℕ) (work out : List ℕ) (count sum : ℕ) (ba
       }
 
   -- the check refuses
-  pub search_checked : {why : Refusal} (r : ℕ) → checked ≡ Refused why → r ≡ number_in checked → SearchHanded file q work work out out count count sum sum r
+  pub search_checked : {why : Refusal} (r : ℕ) → checked ≡ Err why → r ≡ number_in checked → SearchHanded file q work work out out count count sum sum r
   search_checked r e n =
       nothing work checked r
       (cycle_read ∙ check_refuses back.answer back.unit t (length work) (length out) (sym checks ∙ e) ∙ sym e) e (work_same checked work) n
 
-  module _ (workAfter : List ℕ) (o : Outcome) (d : checked ≡ Done) (p : SearchPromise back.unit t work workAfter o.answer o.unit) where
+  module _ (workAfter : List ℕ) (o : Outcome) (d : checked ≡ Ok tt) (p : SearchPromise back.unit t work workAfter o.answer o.unit) where
     -- where the check passes, the search's answer
     search_says : cycle_refusal file q (length work) (length out) ≡ o.answer
     search_says = cycle_read ∙ check_passes back.answer back.unit t (length work) (length out) (sym checks ∙ d) ∙ sym p.says
 
     -- the cycle of the plan is put to the front of the bytes
-    search_found : o.answer ≡ Done → SearchHanded file q work workAfter out (plan_front o.unit.plan out) count o.unit.plan.count sum o.unit.plan.sum 0
+    search_found : o.answer ≡ Ok tt → SearchHanded file q work workAfter out (plan_front o.unit.plan out) count o.unit.plan.count sum o.unit.plan.sum 0
     search_found e =
         let f = p.found e in
         let l = planned back.unit t o.unit f in
-        let done : cycle_refusal file q (length work) (length out) ≡ Done = search_says ∙ e in
+        let done : cycle_refusal file q (length work) (length out) ≡ Ok tt = search_says ∙ e in
         let room = check_room back.answer back.unit t (length work) (length out) (sym checks ∙ d) in
         let fits : 0 + length f.cycle ≤ length out = omega (arith, f.few) in
         record {
@@ -215,5 +215,5 @@ module _ (file : List ℕ) (q : ℕ) (work out : List ℕ) (count sum : ℕ) (ba
         go : (a : Answer) → o.answer ≡ a
             → SearchHanded file q work workAfter out (handed a (plan_front o.unit.plan out) out) count (handed a o.unit.plan.count count)
             sum (handed a o.unit.plan.sum sum) (number_in a)
-        go Done e = search_found e
-        go (Refused why) e = nothing workAfter (Refused why) _ (search_says ∙ e) refl (subst (λ x. WorkAfter x work workAfter) e p.work) refl
+        go (Ok _) e = search_found e
+        go (Err why) e = nothing workAfter (Err why) _ (search_says ∙ e) refl (subst (λ x. WorkAfter x work workAfter) e p.work) refl

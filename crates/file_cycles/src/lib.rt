@@ -2,9 +2,8 @@
 // proved; the public ones are total and without a `requires`.
 #![tactic(auto)]
 
-ghost use Rattle.std.specs.Prelude.{◌≡◌, ◌≤◌, length};
+ghost use Rattle.std.specs.Prelude.{◌≡◌, ◌≤◌, length, Ok};
 ghost use Rattle.words.specs.Bytes.{narrow};
-ghost use Rattle.unit.specs.declared.Answer.TheVariants.{Done};
 ghost use Rattle.unit.specs.Numbers.{number_in};
 ghost use Rattle.unit.specs.Calls.{handed};
 ghost use Rattle.unit_file.specs.Read.{table_in};
@@ -14,26 +13,28 @@ ghost use Rattle.cycles.specs.Greedy.{greedy_of, WorkAfter};
 ghost use Rattle.file_cycles.specs.Cycles.{cycle_refusal, SearchHanded};
 ghost use Rattle.file_cycles.specs.Inner.{read_then, cycle_told, cycle_count, cycle_sum, search_check, plan_front};
 
-use cycles::GreedyAnswer;
-use unit::{Answer, Plan, Refusal, Tag};
+use cycles::Counted;
+use unit::{Plan, Refusal, Tag};
 use words::byte;
 
 // Hands out a cycle's count and sum, or answers the number of the refusal: the file's, else that of the cycle.
-fn hand_cycle(read: Answer, found: GreedyAnswer, count: &mut u32, sum: &mut u32) -> u32
+fn hand_cycle(
+    read: Result<(), Refusal>,
+    found: Result<Counted, Refusal>,
+    count: &mut u32,
+    sum: &mut u32,
+) -> u32
     ensures value { result ≡ cycle_told (read_then read found) }
     ensures count_after { count.new ≡ cycle_count (read_then read found) count.old }
     ensures sum_after { sum.new ≡ cycle_sum (read_then read found) sum.old }
 {
-    let Answer::Done = read else {
-        return unit::number_in(read) as u32;
-    };
-    match found {
-        GreedyAnswer::Cycle(counted) => {
+    match read.and(found) {
+        Ok(counted) => {
             *count = counted.count;
             *sum = counted.sum;
             0
         }
-        GreedyAnswer::Refused(why) => unit::number_in(Answer::Refused(why)) as u32,
+        Err(why) => u32::from(why),
     }
 }
 
@@ -59,33 +60,40 @@ pub fn greedy(
 }
 
 // What the search tries before it is made: the file, the tag, the working words and the room for the cycle.
-fn check_search(read: Answer, tagged: Answer, work: usize, out: usize) -> Answer
+fn check_search(
+    read: Result<(), Refusal>,
+    tagged: Result<(), Refusal>,
+    work: usize,
+    out: usize,
+) -> Result<(), Refusal>
     ensures { result ≡ search_check read tagged work out }
 {
-    let Answer::Done = read else {
-        return read;
-    };
-    let Answer::Done = tagged else {
-        return tagged;
-    };
+    read?;
+    tagged?;
     if work < 16000 {
-        return Answer::Refused(Refusal::ShortWork);
+        return Err(Refusal::ShortWork);
     }
     if out < 256 {
-        return Answer::Refused(Refusal::ShortOutput);
+        return Err(Refusal::ShortOutput);
     }
-    Answer::Done
+    Ok(())
 }
 
 // Hands out the cycle of a plan that was found: its latencies, their number and their sum.
-fn hand_plan(answer: Answer, plan: Plan, out: &mut [u8], count: &mut u32, sum: &mut u32) -> u32
-    requires { answer ≡ Done → plan.count ≤ length plan.latencies }
+fn hand_plan(
+    answer: Result<(), Refusal>,
+    plan: Plan,
+    out: &mut [u8],
+    count: &mut u32,
+    sum: &mut u32,
+) -> u32
+    requires { answer ≡ Ok tt → plan.count ≤ length plan.latencies }
     ensures value { result ≡ number_in answer }
     ensures out_after { out.new ≡ handed answer (plan_front plan out.old) out.old }
     ensures count_after { count.new ≡ handed answer plan.count count.old }
     ensures sum_after { sum.new ≡ handed answer plan.sum sum.old }
 {
-    let Answer::Done = answer else {
+    let Ok(()) = answer else {
         return unit::number_in(answer) as u32;
     };
     let latencies = plan.latencies;
@@ -112,7 +120,7 @@ pub fn search(
     let asked = Tag(byte(tag));
     let tagged = unit::check_tag(held.unit, asked);
     answer = check_search(answer, tagged, work.len(), out.len());
-    let Answer::Done = answer else {
+    let Ok(()) = answer else {
         return unit::number_in(answer) as u32;
     };
     held = planner::search(held.unit, asked, work);

@@ -1,5 +1,6 @@
 -- What a call leaves that writes a unit: an edited unit's file takes the whole of the file that was read, and a fresh unit is refused for its
 -- counts alone. Assumes nothing.
+use Rattle.std.proofs.Common.{Result, Ok, Err}
 use Prim.Native.Nat.{ℕ}
 use mathlib.Core.Path.{◌≡◌, refl, sym, ap, ap₂, subst, ◌∙◌}
 use mathlib.Core.Bool.{Bool, true, false}
@@ -15,8 +16,7 @@ use Rattle.unit.specs.declared.FunctionUnit.{FunctionUnit}
 use Rattle.unit.specs.declared.Outcome.{Outcome}
 use Rattle.unit.specs.declared.Refusal.{Refusal}
 use Rattle.unit.specs.declared.Refusal.TheVariants.{NotSound, ShortOutput}
-use Rattle.unit.specs.declared.Answer.{Answer}
-use Rattle.unit.specs.declared.Answer.TheVariants.{Done, Refused}
+use Rattle.unit.specs.Answers.{Answer}
 use Rattle.unit.specs.Numbers.{number_of, number_in}
 use Rattle.unit.specs.Unit.{marked, good_counts, sound_of}
 use Rattle.unit.specs.Calls.{check, and_then, handed, spot_answer, blank, unit_of, fresh_of, mark_of, unmark_of}
@@ -24,8 +24,6 @@ use Rattle.unit.proofs.Laws.{sound_has}
 use Rattle.unit.proofs.EndLaws.{Ends, ends_same, then_both}
 use Rattle.unit.proofs.SoundLaws.{Words}
 use Rattle.unit.proofs.EditLaws.{Edited, mark_answer, unmark_answer, mark_accepted, unmark_accepted, blank_table, fresh_sound}
-use Rattle.unit_file.specs.declared.Written.{Written}
-use Rattle.unit_file.specs.declared.Written.TheVariants as Written
 use Rattle.unit_file.specs.File.{file_length, file_of}
 use Rattle.unit_file.specs.Read.{read_of, unit_in}
 use Rattle.unit_file.specs.Write.{unit_file, write_refusal, length_answer, write_answer, file_in_front, write_out}
@@ -48,7 +46,7 @@ written_whole u bytes sound size =
 -- an edit tries its place, and leaves a sound unit of the same counts
 pub record Edit (edit : FunctionUnit → ℕ → ℕ → ℕ → Outcome) (b : Bool) : Type 0 where
   pub answer : (u : FunctionUnit) (q s c : ℕ) → (edit u q s c).answer ≡ spot_answer u q s c
-  pub accepted : (u : FunctionUnit) (q s c : ℕ) → Words u → spot_answer u q s c ≡ Done → Edited u (edit u q s c).unit q s c b
+  pub accepted : (u : FunctionUnit) (q s c : ℕ) → Words u → spot_answer u q s c ≡ Ok tt → Edited u (edit u q s c).unit q s c b
 
 pub marks : Edit mark_of true
 marks = record { answer = mark_answer; accepted = mark_accepted }
@@ -75,7 +73,7 @@ module _ {edit : FunctionUnit → ℕ → ℕ → ℕ → Outcome} {b : Bool} (d
   refusal = ap₂ and_then (read_gives file back read refl) spot
 
   -- the file's length goes by the counts, which the edit leaves
-  edit_whole : back.answer ≡ Done → made.answer ≡ Done → write_out (edited_in edit file q s c).unit file ≡ unit_file (edited_in edit file q s c).unit
+  edit_whole : back.answer ≡ Ok tt → made.answer ≡ Ok tt → write_out (edited_in edit file q s c).unit file ≡ unit_file (edited_in edit file q s c).unit
   unfolding unit_of
   edit_whole whole e =
       let a = accepted file (read_gives file back read whole) in
@@ -102,13 +100,13 @@ blank_sound f s c =
     (fresh_sound f s c)
 
 -- the length that a writing answers, or why it was refused
-length_given : (a : Answer) (size n old : ℕ) → length_answer a size ≡ Written.Length n → Ends a size old 0 n
-length_given Done size n old e = (refl, cc)
-length_given (Refused why) size n old e = let z : ◌≡◌ {A = ℕ} 0 1 = cc in absurd (omega arith)
+length_given : (a : Answer) (size n old : ℕ) → length_answer a size ≡ Ok n → Ends a size old 0 n
+length_given (Ok _) size n old e = (refl, cc)
+length_given (Err why) size n old e = let z : ◌≡◌ {A = ℕ} 0 1 = cc in absurd (omega arith)
 
-length_refused : {why : Refusal} (a : Answer) (size old : ℕ) → length_answer a size ≡ Written.Refused why → Ends a size old (number_of why) old
-length_refused Done size old e = let z : ◌≡◌ {A = ℕ} 0 1 = cc in absurd (omega arith)
-length_refused (Refused why) size old e = (cc, refl)
+length_refused : {why : Refusal} (a : Answer) (size old : ℕ) → length_answer a size ≡ Err why → Ends a size old (number_of why) old
+length_refused (Ok _) size old e = let z : ◌≡◌ {A = ℕ} 0 1 = cc in absurd (omega arith)
+length_refused (Err why) size old e = (cc, refl)
 
 -- what a call for a fresh unit answers, and what it leaves in the lent bytes and as their length
 abbrev FreshEnds : ℕ → ℕ → ℕ → List ℕ → ℕ → ℕ → List ℕ → ℕ → Type 0
@@ -118,7 +116,7 @@ FreshEnds f s c bytes old number out last =
     × (last ≡ handed (fresh_refusal f s c (length bytes)) (file_length (narrow f) (narrow s)) old))
 
 -- the numbers were narrowed, and the unit of these counts was made and written
-module _ (f s c : ℕ) (bytes : List ℕ) (old : ℕ) {made : Outcome} {written : Written} {out : List ℕ} {x y z : ℕ} (functions : x ≡ narrow f)
+module _ (f s c : ℕ) (bytes : List ℕ) (old : ℕ) {made : Outcome} {written : (Result ℕ Refusal)} {out : List ℕ} {x y z : ℕ} (functions : x ≡ narrow f)
     (segments : y ≡ narrow s) (columns : z ≡ narrow c) (fresh : made ≡ fresh_of x y z) (answered : written ≡ write_answer made.unit (length bytes))
     (left : out ≡ write_out made.unit bytes) where
   made_blank : made.unit ≡ blank (narrow f) (narrow s) (narrow c)
@@ -128,7 +126,7 @@ module _ (f s c : ℕ) (bytes : List ℕ) (old : ℕ) {made : Outcome} {written 
   blank_refusal : write_refusal (blank (narrow f) (narrow s) (narrow c)) (length bytes) ≡ fresh_refusal f s c (length bytes)
   unfolding write_refusal fresh_refusal
   blank_refusal =
-      ap (λ t. check t NotSound (check (leb (file_length (narrow f) (narrow s)) (length bytes)) ShortOutput Done)) (blank_sound (narrow f) (narrow s) (narrow c))
+      ap (λ t. check t NotSound (check (leb (file_length (narrow f) (narrow s)) (length bytes)) ShortOutput (Ok tt))) (blank_sound (narrow f) (narrow s) (narrow c))
 
   says : written ≡ length_answer (fresh_refusal f s c (length bytes)) (file_length (narrow f) (narrow s))
   unfolding write_answer
@@ -140,8 +138,8 @@ module _ (f s c : ℕ) (bytes : List ℕ) (old : ℕ) {made : Outcome} {written 
       left ∙ ap (λ u. write_out u bytes) made_blank
       ∙ ap₂ (λ a T. file_in_front a (file_of (narrow f) (narrow s) (narrow c) T) bytes) blank_refusal (blank_table (narrow f) (narrow s) (narrow c))
 
-  pub fresh_written : {n : ℕ} → written ≡ Written.Length n → FreshEnds f s c bytes old 0 out n
+  pub fresh_written : {n : ℕ} → written ≡ Ok n → FreshEnds f s c bytes old 0 out n
   fresh_written e = let r = length_given (fresh_refusal f s c (length bytes)) (file_length (narrow f) (narrow s)) _ old (sym says ∙ e) in (r.0, (leaves, r.1))
 
-  pub fresh_refused : {why : Refusal} {number : ℕ} → written ≡ Written.Refused why → number ≡ number_of why → FreshEnds f s c bytes old number out old
+  pub fresh_refused : {why : Refusal} {number : ℕ} → written ≡ Err why → number ≡ number_of why → FreshEnds f s c bytes old number out old
   fresh_refused e h = let r = length_refused (fresh_refusal f s c (length bytes)) (file_length (narrow f) (narrow s)) old (sym says ∙ e) in (h ∙ r.0, (leaves, r.1))

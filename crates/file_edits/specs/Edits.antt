@@ -1,9 +1,8 @@
 -- When a call that makes or edits a unit file is refused, and the file that it leaves. Assumes nothing.
-use Rattle.std.specs.Prelude.{ℕ, List, leb}
+use Rattle.std.specs.Prelude.{ℕ, List, leb, Ok}
 use Rattle.words.specs.Bytes.{narrow}
 use Rattle.unit.specs.declared.Refusal.TheVariants.{NotSound, ShortOutput}
-use Rattle.unit.specs.declared.Answer.{Answer}
-use Rattle.unit.specs.declared.Answer.TheVariants.{Done}
+use Rattle.unit.specs.Answers.{Answer}
 use Rattle.unit.specs.Table.{empty}
 use Rattle.unit.specs.Unit.{good_counts}
 use Rattle.unit.specs.Calls.{check, spot_answer, mark_of, unmark_of}
@@ -17,7 +16,7 @@ use Rattle.unit_file.specs.Write.{unit_file}
 unfoldable pub fresh_refusal : ℕ → ℕ → ℕ → ℕ → Answer
 fresh_refusal f s c room =
     check (good_counts (narrow f) (narrow s) (narrow c)) NotSound
-    (check (leb (file_length (narrow f) (narrow s)) room) ShortOutput Done)
+    (check (leb (file_length (narrow f) (narrow s)) room) ShortOutput (Ok tt))
 
 -- the file of a unit without marks
 abbrev pub fresh_file : ℕ → ℕ → ℕ → List ℕ

@@ -10,8 +10,7 @@ ghost use Rattle.unit_file.specs.File.{file_length};
 ghost use Rattle.unit_file.specs.Write.{file_in_front, write_out};
 ghost use Rattle.file_edits.specs.Edits.{fresh_refusal, fresh_file, edit_refusal, marked_file, unmarked_file};
 
-use unit::{Answer, Outcome, Segment, Tag};
-use unit_file::Written;
+use unit::{Outcome, Refusal, Segment, Tag};
 use words::byte;
 
 // Writes the file of a unit without marks to the front of the lent bytes, and hands out its length.
@@ -23,27 +22,23 @@ pub fn fresh(functions: u32, segments: u32, columns: u32, out: &mut [u8], size: 
     let made = unit::fresh(byte(functions), byte(segments), byte(columns));
     let written = unit_writer::write(made.unit, out);
     match written {
-        Written::Length(bytes) => {
+        Ok(bytes) => {
             *size = bytes;
             0
         }
-        Written::Refused(why) => unit::number_in(Answer::Refused(why)) as u32,
+        Err(why) => u32::from(why),
     }
 }
 
 // Writes an edited unit over its file. A refused file stays as it was, and so does that of a refused edit.
-fn write_back(read: Answer, made: Outcome, file: &mut [u8]) -> u32
+fn write_back(read: Result<(), Refusal>, made: Outcome, file: &mut [u8]) -> u32
     ensures value { result ≡ number_in (and_then read made.answer) }
     ensures file_after { file.new ≡ handed (and_then read made.answer) (write_out made.unit file.old) file.old }
 {
-    let Answer::Done = read else {
-        return unit::number_in(read) as u32;
-    };
-    let answer = made.answer;
-    let Answer::Done = answer else {
-        return unit::number_in(answer) as u32;
-    };
-    unit_writer::write(made.unit, file);
+    if let Err(why) = read.and(made.answer) {
+        return u32::from(why);
+    }
+    let _ = unit_writer::write(made.unit, file);
     0
 }
 

@@ -1,4 +1,5 @@
 -- One event on lent registers: the four words, and what each way that it ends answers and leaves. Assumes nothing.
+use Rattle.std.proofs.Common.{Ok, Err}
 use Prim.Native.Nat.{ℕ, ◌≤◌, ◌<◌}
 use mathlib.Core.Path.{◌≡◌, refl, sym, ap, ◌∙◌}
 use mathlib.Core.List.{List, [], ◌∷◌}
@@ -8,8 +9,7 @@ use lib.ListN.{length, set}
 use Rattle.unit.specs.declared.FunctionUnit.{FunctionUnit}
 use Rattle.unit.specs.declared.Refusal.{Refusal}
 use Rattle.unit.specs.declared.Refusal.TheVariants.{ShortOutput}
-use Rattle.unit.specs.declared.Answer.{Answer}
-use Rattle.unit.specs.declared.Answer.TheVariants.{Done, Refused}
+use Rattle.unit.specs.Answers.{Answer}
 use Rattle.unit.specs.Numbers.{number_of, number_in}
 use Rattle.unit.specs.Calls.{handed}
 use Rattle.unit.proofs.EndLaws.{then_first, then_second}
@@ -41,8 +41,8 @@ bank_kept (w ∷ x ∷ y ∷ z ∷ words) h = refl
 -- what an event leaves, stored
 bank_handed : (a : Answer) (new : Bank) (words : List ℕ) → 4 ≤ length words
     → bank_over (bank_then a (bank_in words) new) words ≡ handed a (bank_over new words) words
-bank_handed Done new words h = refl
-bank_handed (Refused why) new words h = bank_kept words h
+bank_handed (Ok _) new words h = refl
+bank_handed (Err why) new words h = bank_kept words h
 
 -- The ways that an event ends
 
@@ -55,15 +55,15 @@ module _ (tried : Answer) (u : FunctionUnit) (event : Event) (words : List ℕ) 
   unfolding step_words
   step_ends a e = (ap number_in (sym e), ap (λ x. handed x (bank_over (moved u (bank_in words) event) words) words) (sym e))
 
-  pub step_untried : {why : Refusal} {r : ℕ} → tried ≡ Refused why → r ≡ number_in tried → StepEnds tried u event words words r
+  pub step_untried : {why : Refusal} {r : ℕ} → tried ≡ Err why → r ≡ number_in tried → StepEnds tried u event words words r
   unfolding step_refusal
-  step_untried {why} e n = let s = step_ends (Refused why) (then_first tried _ e) in (n ∙ ap number_in e ∙ s.0, s.1)
+  step_untried {why} e n = let s = step_ends (Err why) (then_first tried _ e) in (n ∙ ap number_in e ∙ s.0, s.1)
 
-  pub step_short : tried ≡ Done → length words < 4 → StepEnds tried u event words words (number_of ShortOutput)
+  pub step_short : tried ≡ Ok tt → length words < 4 → StepEnds tried u event words words (number_of ShortOutput)
   unfolding step_refusal
-  step_short d h = step_ends (Refused ShortOutput) (then_second tried _ d ∙ rw (lt-leb 4 (length words) h))
+  step_short d h = step_ends (Err ShortOutput) (then_second tried _ d ∙ rw (lt-leb 4 (length words) h))
 
-  pub step_made : (loaded : Bank) (stepped : Stepped) (after : List ℕ) (r : ℕ) → tried ≡ Done → 4 ≤ length words → loaded ≡ bank_in words
+  pub step_made : (loaded : Bank) (stepped : Stepped) (after : List ℕ) (r : ℕ) → tried ≡ Ok tt → 4 ≤ length words → loaded ≡ bank_in words
       → stepped ≡ step_of u loaded event → after ≡ bank_over stepped.bank words → r ≡ number_in stepped.answer
       → StepEnds tried u event words after r
   unfolding step_refusal step_of

@@ -2,7 +2,7 @@
 use Rattle.std.specs.Prelude.{ℕ, List, leb, length}
 use Rattle.unit.specs.declared.FunctionUnit.{FunctionUnit}
 use Rattle.unit.specs.declared.Refusal.TheVariants.{ShortOutput}
-use Rattle.unit.specs.declared.Answer.{Answer}
+use Rattle.unit.specs.Answers.{Answer}
 use Rattle.unit.specs.Calls.{check, and_then, handed}
 use Rattle.controller.specs.declared.Event.{Event}
 use Rattle.controller.specs.Bank.{event_answer, moved}

@@ -12,7 +12,7 @@ ghost use Rattle.file_issue.specs.Issue.{bank_in, bank_over, tick_refusal, start
 ghost use Rattle.file_issue.specs.Inner.{step_refusal, step_words};
 
 use controller::{Bank, Event};
-use unit::{Answer, FunctionUnit, Tag};
+use unit::{FunctionUnit, Refusal, Tag};
 
 // The number of the refusal of too few words.
 const SHORT_OUTPUT: u32 = 6;
@@ -42,21 +42,21 @@ fn load(words: &[u32]) -> Bank
 }
 
 // The first refusal of two.
-fn first(read: Answer, tagged: Answer) -> Answer
+fn first(read: Result<(), Refusal>, tagged: Result<(), Refusal>) -> Result<(), Refusal>
     ensures { result ≡ and_then read tagged }
 {
     match read {
-        Answer::Done => tagged,
-        Answer::Refused(why) => Answer::Refused(why),
+        Ok(()) => tagged,
+        Err(why) => Err(why),
     }
 }
 
 // One event on the registers, where what was tried before passed. They are stored again also where the event is refused.
-fn step(tried: Answer, u: FunctionUnit, words: &mut [u32], event: Event) -> u32
+fn step(tried: Result<(), Refusal>, u: FunctionUnit, words: &mut [u32], event: Event) -> u32
     ensures value { result ≡ number_in (step_refusal tried u words.old event) }
     ensures words_after { words.new ≡ step_words tried u event words.old }
 {
-    let Answer::Done = tried else {
+    let Ok(()) = tried else {
         return unit::number_in(tried) as u32;
     };
     if words.len() < 4 {

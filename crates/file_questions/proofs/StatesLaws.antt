@@ -1,4 +1,5 @@
 -- The states of a function of a unit file: the answer, the words and the count. Assumes nothing.
+use Rattle.std.proofs.Common.{Result, Err}
 use Prim.Native.Nat.{ℕ}
 use mathlib.Core.Path.{◌≡◌, refl, ap, ap₂, ◌∙◌}
 use mathlib.Core.List.{List}
@@ -7,13 +8,11 @@ use Rattle.words.specs.Bytes.{narrow}
 use Rattle.unit.specs.declared.Outcome.{Outcome}
 use Rattle.unit.specs.declared.Refusal.{Refusal}
 use Rattle.unit.specs.declared.Refusal.TheVariants.{NotSound}
-use Rattle.unit.specs.declared.Answer.TheVariants.{Refused}
 use Rattle.unit.specs.Numbers.{number_in}
 use Rattle.unit.specs.Calls.{handed}
 use Rattle.unit.proofs.EndLaws.{then_kept}
 use Rattle.unit_file.specs.Read.{read_answer, read_of, unit_in, table_in}
 use Rattle.unit_file.proofs.AskedLaws.{unit_unread}
-use Rattle.collision.specs.declared.Number.{Number}
 use Rattle.diagram.specs.Answers.{states_of, states_refusal, states_answer, states_out, written}
 use Rattle.file_answers.proofs.HandedLaws.{NumberEnds, number_handed}
 use Rattle.file_questions.specs.Questions.{list_refusal}
@@ -25,11 +24,11 @@ ListEnds file q out outAfter count countAfter r =
     × (countAfter ≡ handed (list_refusal file q (length out)) (length (states_of 1 (table_in file) (narrow q))) count))
 
 -- a refused file's unit is refused
-list_unread : (file : List ℕ) (q room : ℕ) (why : Refusal) → read_answer file ≡ Refused why → states_refusal (unit_in file) q room ≡ Refused NotSound
+list_unread : (file : List ℕ) (q room : ℕ) (why : Refusal) → read_answer file ≡ Err why → states_refusal (unit_in file) q room ≡ Err NotSound
 unfolding states_refusal
 list_unread file q room why e = rw (unit_unread file q why e)
 
-pub list_handed : (file : List ℕ) (q : ℕ) (out : List ℕ) (count : ℕ) (back : Outcome) (t : ℕ) (listed : Number) (after : List ℕ) (countAfter r : ℕ) → back ≡ read_of file
+pub list_handed : (file : List ℕ) (q : ℕ) (out : List ℕ) (count : ℕ) (back : Outcome) (t : ℕ) (listed : Result ℕ Refusal) (after : List ℕ) (countAfter r : ℕ) → back ≡ read_of file
     → t ≡ narrow q → (listed ≡ states_answer back.unit t (length out)) × (after ≡ states_out back.unit t out)
     → NumberEnds back.answer listed count r countAfter → ListEnds file q out after count countAfter r
 unfolding list_refusal states_answer states_out

@@ -2,7 +2,7 @@
 -- file_answers. Assumes nothing.
 use Rattle.std.specs.Prelude.{ℕ, List}
 use Rattle.words.specs.Bytes.{narrow}
-use Rattle.unit.specs.declared.Answer.{Answer}
+use Rattle.unit.specs.Answers.{Answer}
 use Rattle.unit.specs.Calls.{tag_answer}
 use Rattle.unit_file.specs.Read.{unit_in, file_then}
 use Rattle.collision.specs.Answers.{tags_answer}

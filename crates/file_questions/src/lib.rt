@@ -14,20 +14,18 @@ ghost use Rattle.file_answers.specs.Answers.{tag_refusal};
 ghost use Rattle.file_questions.specs.Questions.{tags_refusal, judge_refusal, list_refusal};
 ghost use Rattle.file_questions.specs.Inner.{verdict_number};
 
-use collision::Number;
 use file_answers::hand_out;
-use judge::Verdict;
-use unit::Tag;
+use unit::{Refusal, Tag};
 use words::byte;
 
 // 1 for yes, 0 for no.
-fn verdict_number(verdict: Verdict) -> Number
+fn verdict_number(verdict: Result<bool, Refusal>) -> Result<u32, Refusal>
     ensures { result ≡ verdict_number verdict }
 {
     match verdict {
-        Verdict::Yes => Number::Value(1),
-        Verdict::No => Number::Value(0),
-        Verdict::Refused(why) => Number::Refused(why),
+        Ok(true) => Ok(1),
+        Ok(false) => Ok(0),
+        Err(why) => Err(why),
     }
 }
 

@@ -5,11 +5,9 @@
 
 ghost use Rattle.std.specs.Prelude.{◌≡◌, length};
 
-use collision::Number;
-use listing::Listed;
 use std::io;
 use std::io::Print;
-use unit::{Answer, Outcome, Refusal, Tag};
+use unit::{Outcome, Refusal, Tag};
 
 // The file of Fig. 2, and 32 bytes after it: counts 2 3 5, offsets 8 and 20, and for each function three words. A in columns 1 4; 2; 3 5, B in 2 5; 4; 1 3.
 const FIGURE_2: [u8; 64] = *b"\
@@ -27,7 +25,7 @@ fn print_number(rt: &impl Print, number: u32) -> io::Result<()> {
 
 fn print_refusal(rt: &impl Print, why: Refusal) -> io::Result<()> {
     rt.write_all(b" refused")?;
-    print_number(rt, unit::number_in(Answer::Refused(why)) as u32)
+    print_number(rt, u32::from(why))
 }
 
 fn print_text(rt: &impl Print, area: &[u8], length: usize) -> io::Result<()> {
@@ -44,8 +42,8 @@ fn print_listing(rt: &impl Print, name: &[u8], between: &[u8], file: &[u8]) -> i
     rt.write_all(name)?;
     rt.write_all(between)?;
     match listed {
-        Listed::Length(length) => print_text(rt, &area, length as usize),
-        Listed::Refused(why) => print_refusal(rt, why),
+        Ok(length) => print_text(rt, &area, length as usize),
+        Err(why) => print_refusal(rt, why),
     }
 }
 
@@ -83,13 +81,15 @@ fn try_reading(rt: &impl Print) -> io::Result<()> {
     let row = collision::matrix_row(back.unit, Tag(2), Tag(1));
     rt.write_all(b", row B of M_A")?;
     match row {
-        Number::Value(word) => print_number(rt, word)?,
-        Number::Refused(why) => print_refusal(rt, why)?,
+        Ok(word) => print_number(rt, word)?,
+        Err(why) => print_refusal(rt, why)?,
     }
-    let handed = planner::read(back.unit);
-    let plan = handed.answer;
     rt.write_all(b", its plan")?;
-    print_number(rt, unit::number_in(plan) as u32)?;
+    let number = match planner::read(back.unit) {
+        Ok(_) => 0,
+        Err(why) => u32::from(why),
+    };
+    print_number(rt, number)?;
     rt.write_all(b"\n")
 }
 
@@ -208,9 +208,9 @@ fn random_file(seed: u32) -> [u8; 64]
 {
     let mut file = [0u8; 64];
     let mut number = seed;
-    for i in 0..64 {
+    for (i, byte) in file.iter_mut().enumerate() {
         number = next_number(number);
-        file[i] = random_byte(i, number);
+        *byte = random_byte(i, number);
     }
     file
 }

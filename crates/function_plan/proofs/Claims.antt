@@ -1,6 +1,7 @@
 -- 8 is for exactly the functions that have no plan; and a best cycle is one that a plan record holds. Assumes nothing.
+use Rattle.std.proofs.Common.{Ok, Err}
 use Prim.Native.Nat.{ℕ, zero, suc, ◌≤◌, ◌<◌}
-use mathlib.Core.Path.{◌≡◌, refl, sym, ap, ◌∙◌}
+use mathlib.Core.Path.{◌≡◌, refl, sym, ◌∙◌}
 use mathlib.Core.Bool.{Bool, true, false}
 use mathlib.Core.List.{List}
 use native.Mathlib.Nat.{le_of_suc-le-suc, not-suc-le-zero}
@@ -9,9 +10,9 @@ use borrow.Author.Tests.{eq-eqb, ne_eqb, eqb-true, eqb-false}
 use lib.Dec.{eqb}
 use lib.ListN.{length, get_or}
 use Rattle.unit.specs.declared.FunctionUnit.{FunctionUnit}
+use Rattle.unit.specs.declared.Plan.{Plan}
+use Rattle.unit.specs.declared.Refusal.{Refusal}
 use Rattle.unit.specs.declared.Refusal.TheVariants.{NoPlan}
-use Rattle.unit.specs.declared.Answer.{Answer}
-use Rattle.unit.specs.declared.Answer.TheVariants.{Done, Refused}
 use Rattle.unit.specs.Unit.{inside, marked, sound_of}
 use Rattle.unit.specs.Calls.{tag_answer}
 use Rattle.unit.proofs.Laws.{never_done, tag_accepted, tag_range}
@@ -22,24 +23,23 @@ use Rattle.diagram.specs.Diagram.Walk.{stay, step}
 use Rattle.diagram.proofs.WidthLaws.{width_31}
 use Rattle.plan_record.specs.Record.{Recordable}
 use Rattle.plan_record.specs.Claims.{GivenPlan}
-use Rattle.planner.specs.declared.Handed.{Handed}
-use Rattle.planner.specs.Plans.{Best, plan_of, read_answer, handing}
+use Rattle.planner.specs.Plans.{Best, plan_of, read_answer}
+use Rattle.planner.proofs.ReadLaws.{handing_refused, handing_done}
 use Rattle.function_plan.specs.Own.{own_answer, own_plan}
 use Rattle.function_plan.specs.Claims.{OwnExactly}
-use Rattle.function_plan.proofs.OwnLaws.{handed_answer}
 
 -- 8
 
-module _ (u : FunctionUnit) (q : ℕ) (t : tag_answer u q ≡ Done) where
-  own_not : (u.plan.tag ≡ q → ⊥) → own_answer u q ≡ Refused NoPlan
+module _ (u : FunctionUnit) (q : ℕ) (t : tag_answer u q ≡ Ok tt) where
+  own_not : (u.plan.tag ≡ q → ⊥) → own_answer u q ≡ Err NoPlan
   unfolding own_answer read_answer
   own_not n = go (eqb u.plan.tag 0) refl
     where
-      go : (b : Bool) → eqb u.plan.tag 0 ≡ b → own_answer u q ≡ Refused NoPlan
+      go : (b : Bool) → eqb u.plan.tag 0 ≡ b → own_answer u q ≡ Err NoPlan
       go true e = simp (t, (tag_accepted u q t).sound, e)
       go false e = simp (t, (tag_accepted u q t).sound, e, ne_eqb u.plan.tag q n)
 
-  own_is : u.plan.tag ≡ q → own_answer u q ≡ Done
+  own_is : u.plan.tag ≡ q → own_answer u q ≡ Ok tt
   unfolding own_answer read_answer
   own_is e =
       simp (t, (tag_accepted u q t).sound, ne_eqb u.plan.tag 0 (λ z. omega (arith, (tag_range u q t).least)), eq-eqb u.plan.tag q e)
@@ -50,24 +50,24 @@ own_exactly u q t = record {
   done = ((λ e. go (eqb u.plan.tag q) refl e), own_is u q t);
 }
   where
-    go : (b : Bool) → eqb u.plan.tag q ≡ b → own_answer u q ≡ Done → u.plan.tag ≡ q
+    go : (b : Bool) → eqb u.plan.tag q ≡ b → own_answer u q ≡ Ok tt → u.plan.tag ≡ q
     go true e d = eqb-true u.plan.tag q e
     go false e d = never_done (sym (own_not u q t (eqb-false u.plan.tag q e)) ∙ d)
 
-pub tag_taken : (u : FunctionUnit) (q : ℕ) → sound_of u ≡ true → inside q u.functions ≡ true → tag_answer u q ≡ Done
+pub tag_taken : (u : FunctionUnit) (q : ℕ) → sound_of u ≡ true → inside q u.functions ≡ true → tag_answer u q ≡ Ok tt
 unfolding tag_answer
 tag_taken u q sound member = rw (sound, member)
 
 -- What is handed out
 
-module _ (u : FunctionUnit) (q : ℕ) (h : Handed) (e : h ≡ own_plan u q) where
-  pub own_says : h.answer ≡ own_answer u q
+module _ (u : FunctionUnit) (q : ℕ) where
+  pub own_says : {why : Refusal} → own_plan u q ≡ Err why → own_answer u q ≡ Err why
   unfolding own_plan
-  own_says = ap (λ (x : Handed). x.answer) e ∙ handed_answer (own_answer u q) u.plan
+  own_says e = handing_refused (own_answer u q) u.plan e
 
-  pub own_hands : h.answer ≡ Done → h.plan ≡ u.plan
+  pub own_hands : {p : Plan} → own_plan u q ≡ Ok p → (own_answer u q ≡ Ok tt) × (u.plan ≡ p)
   unfolding own_plan
-  own_hands d = ap (λ (x : Handed). x.plan) e ∙ ap (λ (a : Answer). (handing a u.plan).plan) (sym own_says ∙ d)
+  own_hands e = handing_done (own_answer u q) u.plan e
 
 -- A best cycle is one that a record holds
 

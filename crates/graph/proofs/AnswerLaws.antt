@@ -1,4 +1,5 @@
 -- The ways that a call ends: what it answers, and the lent bytes. Assumes nothing.
+use Rattle.std.proofs.Common.{Result, Ok, Err}
 use mathlib.Core.Path.{◌≡◌, refl, sym, ap, ◌∙◌}
 use mathlib.Core.Bool.{Bool, true, false, cond}
 use mathlib.Core.List.{List, [], ◌∷◌}
@@ -12,13 +13,10 @@ use Rattle.text.specs.Wrote.{Put}
 use Rattle.unit.specs.declared.FunctionUnit.{FunctionUnit}
 use Rattle.unit.specs.declared.Refusal.{Refusal}
 use Rattle.unit.specs.declared.Refusal.TheVariants.{ShortOutput, TooManyStates}
-use Rattle.unit.specs.declared.Answer.{Answer}
-use Rattle.unit.specs.declared.Answer.TheVariants.{Done, Refused}
+use Rattle.unit.specs.Answers.{Answer}
 use Rattle.unit.specs.Unit.{marked}
 use Rattle.unit.specs.Calls.{check, and_then, tag_answer}
 use Rattle.unit.proofs.Laws.{tag_range}
-use Rattle.collision.specs.declared.Number.{Number}
-use Rattle.collision.specs.declared.Number.TheVariants as Number
 use Rattle.collision.specs.Vector.{vector_word}
 use Rattle.collision.specs.Answers.{answering}
 use Rattle.collision.proofs.VectorLaws.{row_lt}
@@ -26,15 +24,13 @@ use Rattle.diagram.specs.Diagram.{width}
 use Rattle.diagram.specs.Answers.{states_of, few_states, states_refusal, states_answer, written, states_out}
 use Rattle.diagram.proofs.Listing.{list_extends}
 use Rattle.diagram.proofs.StateLaws.{states_width}
-use Rattle.drawing.specs.declared.Drawn.{Drawn}
-use Rattle.drawing.specs.declared.Drawn.TheVariants as Drawn
 use Rattle.drawing.specs.Answers.{drawn}
 use Rattle.drawing.proofs.AnswerLaws.{put_end_lem, put_area, sound_unit}
 use Rattle.graph.specs.Dot.{plan_cycle, diagram_text}
 use Rattle.graph.specs.Answers.{dot_area, dot_refusal, dot_answer, dot_out}
 use Rattle.graph.specs.Inner.{plan_length, Listing, listed_text}
 
-abbrev pub DotEnds : FunctionUnit → ℕ → List ℕ → Drawn → List ℕ → Type 0
+abbrev pub DotEnds : FunctionUnit → ℕ → List ℕ → Result ℕ Refusal → List ℕ → Type 0
 DotEnds u q bytes r after = (r ≡ dot_answer u q (length bytes)) × (after ≡ dot_out u q bytes)
 
 dot_ends : (u : FunctionUnit) (q : ℕ) (bytes : List ℕ) (a : Answer) → dot_refusal u q (length bytes) ≡ a
@@ -42,10 +38,10 @@ dot_ends : (u : FunctionUnit) (q : ℕ) (bytes : List ℕ) (a : Answer) → dot_
 unfolding dot_answer dot_out
 dot_ends u q bytes a e = (ap (λ x. drawn x (diagram_text u q)) (sym e), ap (λ x. written x (diagram_text u q) bytes) (sym e))
 
-pub dot_refused : (u : FunctionUnit) (q : ℕ) (bytes : List ℕ) (why : Refusal) → tag_answer u q ≡ Refused why → DotEnds u q bytes (Drawn.Refused why) bytes
+pub dot_refused : (u : FunctionUnit) (q : ℕ) (bytes : List ℕ) (why : Refusal) → tag_answer u q ≡ Err why → DotEnds u q bytes (Err why) bytes
 unfolding dot_refusal
 dot_refused u q bytes why e =
-    dot_ends u q bytes (Refused why) (ap (λ a. and_then a (check (leb dot_area (length bytes)) ShortOutput (few_states 1 (marked u) q))) e)
+    dot_ends u q bytes (Err why) (ap (λ a. and_then a (check (leb dot_area (length bytes)) ShortOutput (few_states 1 (marked u) q))) e)
 
 -- the states that were handed out
 pub record Handed (u : FunctionUnit) (q count : ℕ) (list : List ℕ) : Type 0 where
@@ -57,10 +53,10 @@ pub record Handed (u : FunctionUnit) (q count : ℕ) (list : List ℕ) : Type 0 
 pub handed_part : {u : FunctionUnit} {q count : ℕ} {list : List ℕ} → Handed u q count list → count ≡ length (take count list)
 handed_part h = h.counts ∙ ap length (sym h.front)
 
-module _ (u : FunctionUnit) (q : ℕ) (e : tag_answer u q ≡ Done) where
-  pub dot_short : (bytes : List ℕ) → length bytes < dot_area → DotEnds u q bytes (Drawn.Refused ShortOutput) bytes
+module _ (u : FunctionUnit) (q : ℕ) (e : tag_answer u q ≡ Ok tt) where
+  pub dot_short : (bytes : List ℕ) → length bytes < dot_area → DotEnds u q bytes (Err ShortOutput) bytes
   unfolding dot_refusal
-  dot_short bytes h = dot_ends u q bytes (Refused ShortOutput) (simp (e, lt-leb dot_area (length bytes) h))
+  dot_short bytes h = dot_ends u q bytes (Err ShortOutput) (simp (e, lt-leb dot_area (length bytes) h))
 
   dot_passes : (bytes : List ℕ) → dot_area ≤ length bytes → dot_refusal u q (length bytes) ≡ few_states 1 (marked u) q
   unfolding dot_refusal
@@ -71,32 +67,32 @@ module _ (u : FunctionUnit) (q : ℕ) (e : tag_answer u q ≡ Done) where
   unfolding states_refusal
   states_passes = simp e
 
-  asked : {answer : Number} → answer ≡ states_answer u q 256 → answer ≡ answering (few_states 1 (marked u) q) (length (states_of 1 (marked u) q))
+  asked : {answer : (Result ℕ Refusal)} → answer ≡ states_answer u q 256 → answer ≡ answering (few_states 1 (marked u) q) (length (states_of 1 (marked u) q))
   unfolding states_answer
   asked a = a ∙ ap (λ x. answering x (length (states_of 1 (marked u) q))) states_passes
 
-  pub dot_many : {answer : Number} {why : Refusal} (bytes : List ℕ) → dot_area ≤ length bytes → answer ≡ states_answer u q 256 → answer ≡ Number.Refused why
-      → DotEnds u q bytes (Drawn.Refused TooManyStates) bytes
+  pub dot_many : {answer : (Result ℕ Refusal)} {why : Refusal} (bytes : List ℕ) → dot_area ≤ length bytes → answer ≡ states_answer u q 256 → answer ≡ Err why
+      → DotEnds u q bytes (Err TooManyStates) bytes
   dot_many {why = why} bytes h a t = go (leb (length (states_of 1 (marked u) q)) 256) refl (sym t ∙ asked a)
     where
       go : (b : Bool) → leb (length (states_of 1 (marked u) q)) 256 ≡ b
-          → Number.Refused why ≡ answering (check b TooManyStates Done) (length (states_of 1 (marked u) q))
-          → DotEnds u q bytes (Drawn.Refused TooManyStates) bytes
+          → Err why ≡ answering (check b TooManyStates (Ok tt)) (length (states_of 1 (marked u) q))
+          → DotEnds u q bytes (Err TooManyStates) bytes
       go true p f = let z : ◌≡◌ {A = ℕ} 0 1 = cc in absurd (omega arith)
-      go false p f = dot_ends u q bytes (Refused TooManyStates) (dot_passes bytes h ∙ ap (λ b. check b TooManyStates Done) p)
+      go false p f = dot_ends u q bytes (Err TooManyStates) (dot_passes bytes h ∙ ap (λ b. check b TooManyStates (Ok tt)) p)
 
-  pub dot_handed : {answer : Number} {count : ℕ} {list : List ℕ} → answer ≡ states_answer u q 256 → list ≡ states_out u q (replicate 256 0)
-      → answer ≡ Number.Value count → Handed u q count list
+  pub dot_handed : {answer : (Result ℕ Refusal)} {count : ℕ} {list : List ℕ} → answer ≡ states_answer u q 256 → list ≡ states_out u q (replicate 256 0)
+      → answer ≡ Ok count → Handed u q count list
   unfolding states_out
   dot_handed {count = count} {list} a o t = go (leb (length (states_of 1 (marked u) q)) 256) refl (sym t ∙ asked a)
     where
       all : List ℕ
       all = states_of 1 (marked u) q
 
-      out : (b : Bool) → leb (length all) 256 ≡ b → list ≡ written (check b TooManyStates Done) all (replicate 256 0)
-      out b p = o ∙ ap (λ x. written x all (replicate 256 0)) (states_passes ∙ ap (λ b. check b TooManyStates Done) p)
+      out : (b : Bool) → leb (length all) 256 ≡ b → list ≡ written (check b TooManyStates (Ok tt)) all (replicate 256 0)
+      out b p = o ∙ ap (λ x. written x all (replicate 256 0)) (states_passes ∙ ap (λ b. check b TooManyStates (Ok tt)) p)
 
-      go : (b : Bool) → leb (length all) 256 ≡ b → Number.Value count ≡ answering (check b TooManyStates Done) (length all) → Handed u q count list
+      go : (b : Bool) → leb (length all) 256 ≡ b → Ok count ≡ answering (check b TooManyStates (Ok tt)) (length all) → Handed u q count list
       go true p f =
           let n : count ≡ length all = cc in
           let here = out true p in
@@ -133,7 +129,7 @@ plan_part u q = go (eqb u.plan.tag q)
     go false = refl
 
 -- a plan of a tag has at most 256 latencies
-pub plan_few : (u : FunctionUnit) (q : ℕ) → tag_answer u q ≡ Done → plan_length u.plan q ≤ 256
+pub plan_few : (u : FunctionUnit) (q : ℕ) → tag_answer u q ≡ Ok tt → plan_length u.plan q ≤ 256
 plan_few u q e = go (eqb u.plan.tag q) refl
   where
     go : (b : Bool) → eqb u.plan.tag q ≡ b → cond b u.plan.count 0 ≤ 256
@@ -143,13 +139,13 @@ plan_few u q e = go (eqb u.plan.tag q) refl
         ((sound_unit u q e).plan (λ z. omega (arith, t.least))).1
     go false p = omega arith
 
-pub dot_drawn : (u : FunctionUnit) (q : ℕ) → tag_answer u q ≡ Done → {n : ℕ} {after : List ℕ} {end count k : ℕ} {list : List ℕ} (bytes : List ℕ)
+pub dot_drawn : (u : FunctionUnit) (q : ℕ) → tag_answer u q ≡ Ok tt → {n : ℕ} {after : List ℕ} {end count k : ℕ} {list : List ℕ} (bytes : List ℕ)
     → dot_area ≤ length bytes → Handed u q count list → k ≡ plan_length u.plan q
-    → Put n bytes 0 (listed_text q (take k u.plan.latencies) (take count list)) after end → DotEnds u q bytes (Drawn.Length end) after
+    → Put n bytes 0 (listed_text q (take k u.plan.latencies) (take count list)) after end → DotEnds u q bytes (Ok end) after
 unfolding diagram_text
 dot_drawn u q e {count = count} {k} {list} bytes h d l p =
-    let r = dot_ends u q bytes Done (dot_passes u q e bytes h ∙ ap (λ b. check b TooManyStates Done) d.few) in
-    (ap Drawn.Length (put_end_lem p ∙ ap length same) ∙ r.0, put_area p ∙ ap (λ x. written Done x bytes) same ∙ r.1)
+    let r = dot_ends u q bytes (Ok tt) (dot_passes u q e bytes h ∙ ap (λ b. check b TooManyStates (Ok tt)) d.few) in
+    (ap Ok (put_end_lem p ∙ ap length same) ∙ r.0, put_area p ∙ ap (λ x. written (Ok tt) x bytes) same ∙ r.1)
   where
     same : listed_text q (take k u.plan.latencies) (take count list) ≡ diagram_text u q
     same = rw (d.front, l, plan_part u q, first_state_lem u q)

@@ -1,6 +1,6 @@
 -- What the private functions write and find. No public contract cites this file.
-use Rattle.std.specs.Prelude.{◌≡◌, Bool, cond, ◌&&◌, List, [], ◌++◌, ℕ, ◌+◌, ◌*◌, ◌^◌, ◌≤◌, ◌<◌, eqb, length, get_or}
-use Rattle.words.specs.Below.{some_below, join_below}
+use Rattle.std.specs.Prelude.{◌≡◌, Bool, cond, List, [], ◌++◌, ℕ, ◌+◌, ◌*◌, ◌^◌, ◌≤◌, ◌<◌, eqb, length, get_or}
+use Rattle.words.specs.Below.{join_below}
 use Rattle.text.specs.Text.{ascii, decimal}
 use Rattle.unit.specs.declared.Plan.{Plan}
 use Rattle.diagram.specs.Diagram.{width}
@@ -16,15 +16,6 @@ pub record Turn (cv : ℕ) (cycle on : List ℕ) : Type 0 where
 -- how many latencies of the plan are the tag's
 abbrev pub plan_length : Plan → ℕ → ℕ
 plan_length plan q = cond (eqb plan.tag q) plan.count 0
-
--- one of these states is s, and its latency t
-unfoldable pub leaves : List ℕ → List ℕ → ℕ → ℕ → Bool
-leaves on cycle s t = some_below (length cycle) (λ j. eqb (get_or on j 0) s && eqb (get_or cycle j 0) t)
-
--- what is drawn of a vector with n columns
-pub record Drawing (n cv : ℕ) (cycle on : List ℕ) : Type 0 where
-  pub narrow : n ≤ 32
-  pub turn : Turn cv cycle on
 
 -- what stands after an arc, to the end of the line
 abbrev pub label_text : ℕ → Bool → List ℕ

@@ -1,11 +1,11 @@
 // The state diagram in Graphviz's language DOT, arc by arc.
 ghost use Rattle.std.specs.Prelude.{◌+◌, ◌*◌, ◌^◌, ◌≤◌, ◌<◌, ◌≡◌, ◌&&◌, eqb, length};
 ghost use Rattle.text.specs.Wrote.{Put};
-ghost use Rattle.diagram.specs.Diagram.{next};
 ghost use Rattle.diagram.specs.States.{Each};
-ghost use Rattle.graph.specs.Dot.{state_before, state_text, style_text, arc_text, arcs_text};
+ghost use Rattle.diagram.specs.Diagram.{width, next};
+ghost use Rattle.graph.specs.Dot.{state_before, on_cycle, state_text, style_text, arc_text, arcs_text};
 ghost use Rattle.graph.specs.Answers.{dot_area};
-ghost use Rattle.graph.specs.Inner.{Turn, leaves, Drawing, Listing, label_text, permitted_text, states_text, listed_text};
+ghost use Rattle.graph.specs.Inner.{Turn, Listing, label_text, permitted_text, states_text, listed_text};
 
 // The state to which a latency leads. From 32 places on nothing of the state is left.
 fn next_of(vector: u32, state: u32, latency: u32) -> u32
@@ -23,10 +23,10 @@ fn settled(vector: u32, cycle: &[u8]) -> u32
     ensures { result ≡ state_before vector cycle.now (32 * length cycle.now) }
 {
     let mut state = vector;
-    let mut passed = 0;
-    while passed < 32 * cycle.len() {
-        state = next_of(vector, state, cycle[passed % cycle.len()] as u32);
-        passed += 1;
+    for _ in 0..32u32 {
+        for latency in cycle {
+            state = next_of(vector, state, *latency as u32);
+        }
     }
     state
 }
@@ -38,11 +38,9 @@ pub fn turn_states(vector: u32, cycle: &[u8]) -> [u32; 256]
 {
     let mut on = [0u32; 256];
     let mut state = settled(vector, cycle);
-    let mut j = 0;
-    while j < cycle.len() {
+    for (j, latency) in cycle.iter().enumerate() {
         on[j] = state;
-        state = next_of(vector, state, cycle[j] as u32);
-        j += 1;
+        state = next_of(vector, state, *latency as u32);
     }
     on
 }
@@ -55,31 +53,6 @@ fn is_arc(state: u32, latency: u32, from: u32, by: u32) -> bool
         return latency == by;
     }
     false
-}
-
-// Whether the cycle leaves a state by a latency.
-fn is_on_cycle(on: &[u32], cycle: &[u8], state: u32, latency: u32) -> bool
-    requires { length cycle.now ≤ length on.now }
-    ensures { result ≡ leaves on.now cycle.now state latency }
-{
-    let mut j = 0;
-    while j < cycle.len() {
-        if is_arc(on[j], cycle[j] as u32, state, latency) {
-            return true;
-        }
-        j += 1;
-    }
-    false
-}
-
-// A state in quotes, its columns from the highest down.
-fn put_state(out: &mut [u8], at: usize, columns: u32, state: u32) -> usize
-    requires { (columns ≤ 32) × (at + 34 ≤ length out.old) }
-    ensures { Put 34 out.old at (state_text columns state) out.new result }
-{
-    let after_quote = text::put(out, at, b"\"");
-    let after_state = column_text::put_columns(out, after_quote, columns, state);
-    text::put(out, after_state, b"\"")
 }
 
 // The style of an arc of the cycle, nothing for another.
@@ -104,94 +77,98 @@ fn put_label(out: &mut [u8], at: usize, latency: u32, bold: bool) -> usize
     text::put(out, after_style, b"];\n")
 }
 
-// The arc from a state by a latency.
-fn put_arc(
-    out: &mut [u8],
-    at: usize,
+// What is drawn: a vector of so many columns, and a cycle with the states before the starts of a settled turn.
+#[derive(Drop)]
+struct Drawing<'a> {
     columns: u32,
     vector: u32,
-    on: &[u32],
-    cycle: &[u8],
-    state: u32,
-    latency: u32,
-) -> usize
-    requires { Drawing columns vector cycle.now on.now × (at + 107 ≤ length out.old) }
-    ensures { Put 107 out.old at (arc_text columns vector cycle.now state latency) out.new result }
-{
-    let after_indent = text::put(out, at, b"  ");
-    let after_state = put_state(out, after_indent, columns, state);
-    let after_arrow = text::put(out, after_state, b" -> ");
-    let after_next = put_state(out, after_arrow, columns, next_of(vector, state, latency));
-    put_label(
-        out,
-        after_next,
-        latency,
-        is_on_cycle(on, cycle, state, latency),
-    )
+    on: [u32; 256],
+    cycle: &'a [u8],
+    ghost narrow: { columns ≤ 32 },
+    ghost turn: { Turn vector cycle.now on },
 }
 
-// The arc, if the state permits the latency.
-fn put_permitted(
-    out: &mut [u8],
-    at: usize,
-    columns: u32,
-    vector: u32,
-    on: &[u32],
-    cycle: &[u8],
-    state: u32,
-    index: u32,
-) -> usize
-    requires { Drawing columns vector cycle.now on.now × (state < 2 ^ columns) × (index ≤ columns) × (at + 107 ≤ length out.old) }
-    ensures { Put 107 out.old at (permitted_text columns vector cycle.now state index) out.new result }
-{
-    if words::test(state, index) {
-        return at;
+impl<'a> Drawing<'a> {
+    fn new(vector: u32, cycle: &'a [u8]) -> Drawing<'a>
+        requires { length cycle.now ≤ 256 }
+        ensures { (result.columns ≡ width vector) × (result.vector ≡ vector) × (result.cycle.now ≡ cycle.now) }
+    {
+        Drawing {
+            columns: diagram::width_of(vector),
+            vector,
+            on: turn_states(vector, cycle),
+            cycle,
+        }
     }
-    put_arc(out, at, columns, vector, on, cycle, state, index + 1)
-}
 
-// The arcs of a state by rising latency.
-fn put_arcs(
-    out: &mut [u8],
-    at: usize,
-    columns: u32,
-    vector: u32,
-    on: &[u32],
-    cycle: &[u8],
-    state: u32,
-) -> usize
-    requires { Drawing columns vector cycle.now on.now × (state < 2 ^ columns) × (at + 3531 ≤ length out.old) }
-    ensures { Put 3531 out.old at (arcs_text columns vector cycle.now state) out.new result }
-{
-    let mut end = at;
-    let mut index = 0;
-    while index <= columns {
-        end = put_permitted(out, end, columns, vector, on, cycle, state, index);
-        index += 1;
+    // Whether the cycle leaves a state by a latency.
+    fn is_on_cycle(&self, state: u32, latency: u32) -> bool
+        ensures { result ≡ on_cycle self.now.vector self.now.cycle.now state latency }
+    {
+        for (j, by) in self.cycle.iter().enumerate() {
+            if is_arc(self.on[j], *by as u32, state, latency) {
+                return true;
+            }
+        }
+        false
     }
-    end
-}
 
-// The arcs of all states.
-fn put_states(
-    out: &mut [u8],
-    at: usize,
-    columns: u32,
-    vector: u32,
-    on: &[u32],
-    cycle: &[u8],
-    states: &[u32],
-) -> usize
-    requires { Drawing columns vector cycle.now on.now × Each (λ s. s < 2 ^ columns) states.now × (at + 3531 * length states.now ≤ length out.old) }
-    ensures { Put (3531 * length states.now) out.old at (states_text columns vector cycle.now states.now) out.new result }
-{
-    let mut end = at;
-    let mut i = 0;
-    while i < states.len() {
-        end = put_arcs(out, end, columns, vector, on, cycle, states[i]);
-        i += 1;
+    // A state in quotes, its columns from the highest down.
+    fn put_state(&self, out: &mut [u8], at: usize, state: u32) -> usize
+        requires { at + 34 ≤ length out.old }
+        ensures { Put 34 out.old at (state_text self.now.columns state) out.new result }
+    {
+        let after_quote = text::put(out, at, b"\"");
+        let after_state = column_text::put_columns(out, after_quote, self.columns, state);
+        text::put(out, after_state, b"\"")
     }
-    end
+
+    // The arc from a state by a latency.
+    fn put_arc(&self, out: &mut [u8], at: usize, state: u32, latency: u32) -> usize
+        requires { at + 107 ≤ length out.old }
+        ensures { Put 107 out.old at (arc_text self.now.columns self.now.vector self.now.cycle.now state latency) out.new result }
+    {
+        let after_indent = text::put(out, at, b"  ");
+        let after_state = self.put_state(out, after_indent, state);
+        let after_arrow = text::put(out, after_state, b" -> ");
+        let after_next = self.put_state(out, after_arrow, next_of(self.vector, state, latency));
+        put_label(out, after_next, latency, self.is_on_cycle(state, latency))
+    }
+
+    // The arc, if the state permits the latency.
+    fn put_permitted(&self, out: &mut [u8], at: usize, state: u32, index: u32) -> usize
+        requires { (state < 2 ^ self.now.columns) × (index ≤ self.now.columns) × (at + 107 ≤ length out.old) }
+        ensures { Put 107 out.old at (permitted_text self.now.columns self.now.vector self.now.cycle.now state index) out.new result }
+    {
+        if words::test(state, index) {
+            return at;
+        }
+        self.put_arc(out, at, state, index + 1)
+    }
+
+    // The arcs of a state by rising latency.
+    fn put_arcs(&self, out: &mut [u8], at: usize, state: u32) -> usize
+        requires { (state < 2 ^ self.now.columns) × (at + 3531 ≤ length out.old) }
+        ensures { Put 3531 out.old at (arcs_text self.now.columns self.now.vector self.now.cycle.now state) out.new result }
+    {
+        let mut end = at;
+        for index in 0..=self.columns {
+            end = self.put_permitted(out, end, state, index);
+        }
+        end
+    }
+
+    // The arcs of all states.
+    fn put_states(&self, out: &mut [u8], at: usize, states: &[u32]) -> usize
+        requires { Each (λ s. s < 2 ^ self.now.columns) states.now × (at + 3531 * length states.now ≤ length out.old) }
+        ensures { Put (3531 * length states.now) out.old at (states_text self.now.columns self.now.vector self.now.cycle.now states.now) out.new result }
+    {
+        let mut end = at;
+        for state in states {
+            end = self.put_arcs(out, end, *state);
+        }
+        end
+    }
 }
 
 // The diagram of the listed states, the first of them the vector.
@@ -199,12 +176,10 @@ pub fn put_diagram(out: &mut [u8], tag: u32, states: &[u32], cycle: &[u8]) -> us
     requires { Listing states.now × (length cycle.now ≤ 256) × (dot_area ≤ length out.old) }
     ensures { Put dot_area out.old 0 (listed_text tag cycle.now states.now) out.new result }
 {
-    let vector = states[0];
-    let columns = diagram::width_of(vector);
-    let on = turn_states(vector, cycle);
+    let drawing = Drawing::new(states[0], cycle);
     let after_word = text::put(out, 0, b"digraph function_");
     let after_tag = text::put_number(out, after_word, tag);
     let after_head = text::put(out, after_tag, b" {\n");
-    let after_states = put_states(out, after_head, columns, vector, &on, cycle, states);
+    let after_states = drawing.put_states(out, after_head, states);
     text::put(out, after_states, b"}\n")
 }

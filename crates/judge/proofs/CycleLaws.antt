@@ -1,14 +1,15 @@
 -- What the test for a cycle says as facts, and the better of two cycles. Assumes nothing.
 use mathlib.Core.Path.{◌≡◌, sym, ap, ◌∙◌}
-use mathlib.Core.Bool.{true, false, not}
+use mathlib.Core.Bool.{Bool, true, false, not}
 use mathlib.Core.List.{List, []}
-use Prim.Native.Nat.{ℕ, ◌+◌, ◌*◌, ◌^◌, ◌≤◌, ◌<◌}
+use Prim.Native.Nat.{ℕ, ◌*◌, ◌^◌, ◌≤◌, ◌<◌}
 use native.Mathlib.Nat.{mul-le-mul}
 use native.Mathlib.Omega.{arith}
 use lib.Dec.{leb, eqb}
 use lib.ListN.{length, get_or, take}
 use lib.Seq.{get_or-take, take-length, length-take-le}
-use borrow.Author.Tests.{leb-true, le-leb, eqb-true, eq-eqb, not-true, lt-ltb, le-ltb}
+use Rattle.std.specs.List.{IsAnyAnswer}
+use borrow.Author.Tests.{leb-true, le-leb, eqb-true, eqb-false, eq-eqb, not-true, lt-ltb, le-ltb}
 use Rattle.words.specs.Below.{some_below}
 use Rattle.words.proofs.Tests.{nowhere, and_left, and_right, and_true, not_passed}
 use Rattle.words.proofs.BelowLaws.{some_intro, some_elim}
@@ -63,6 +64,9 @@ counted_facts l k e =
       each = λ i b. rw (get_or-take k l i 0 b) at (c.each i (omega arith));
     }
 
+pub counted_length : (l : List ℕ) (k : ℕ) → counted l k ≡ true → length (take k l) ≡ k
+counted_length l k e = length-take-le k l (counted_facts l k e).inside
+
 pub counted_of : (l : List ℕ) (k : ℕ) → Counted l k → counted l k ≡ true
 unfolding counted
 counted_of l k c =
@@ -80,6 +84,25 @@ counted_of l k c =
 -- the list is no cycle where one of its facts fails
 pub uncounted : (l : List ℕ) (k : ℕ) → (Counted l k → ⊥) → counted l k ≡ false
 uncounted l k f = not_passed (counted l k) (λ e. f (counted_facts l k e))
+
+-- whether a byte is 0 decides it where the length is good
+pub counted_tested : (l : List ℕ) (k : ℕ) (r : Bool) → k ≤ length l → 1 ≤ k → k ≤ 256 → IsAnyAnswer (λ y b. eqb y 0 ≡ b) (take k l) r → not r ≡ counted l k
+counted_tested l k true inside least most w =
+    let n = length-take-le k l inside in
+    let i : w.0 < k = omega (arith, w.1) in
+    let z = eqb-true _ 0 (w.2 0) in
+    sym (uncounted l k (λ c. let e = get_or-take k l w.0 0 i in let h = c.each w.0 i in omega arith))
+counted_tested l k false inside least most none =
+    let n = length-take-le k l inside in
+    sym (counted_of l k (record {
+      inside = inside;
+      least = least;
+      most = most;
+      each = λ i h.
+          let e = get_or-take k l i 0 h in
+          let z = eqb-false _ 0 (none i 0 (omega arith) (omega arith)) in
+          omega arith;
+    }))
 
 -- all of a list
 pub counted_whole : (l : List ℕ) → counted l (length l) ≡ good_cycle l

@@ -1,6 +1,7 @@
 -- The judge's test of 32 starts after each start of one turn is a test of all pairs of starts. Assumes nothing.
+use Rattle.std.proofs.Common.{Result, Ok}
 use mathlib.Core.Path.{◌≡◌, refl, sym, ap, ◌∙◌, subst}
-use mathlib.Core.Bool.{Bool, true, false, cond}
+use mathlib.Core.Bool.{Bool, true, false, cond, not}
 use mathlib.Core.Logic.{◌↔◌}
 use mathlib.Core.List.{List}
 use Prim.Native.Nat.{ℕ, ◌+◌, ◌-◌, ◌%◌, ◌≤◌, ◌<◌}
@@ -11,8 +12,8 @@ use Rattle.words.specs.Below.{some_below}
 use Rattle.words.proofs.Tests.{nowhere, not_passed}
 use Rattle.words.proofs.BelowLaws.{some_intro, some_elim}
 use Rattle.unit.specs.Table.{Table}
+use Rattle.unit.specs.declared.Refusal.{Refusal}
 use Rattle.unit.specs.declared.FunctionUnit.{FunctionUnit}
-use Rattle.unit.specs.declared.Answer.TheVariants.{Done}
 use Rattle.unit.specs.Unit.{marked}
 use Rattle.unit.specs.Calls.{tag_answer}
 use Rattle.collision.specs.Pipeline.{Forbidden, Cycle, start_at, NeverCollides}
@@ -21,7 +22,6 @@ use Rattle.collision.specs.Meaning.{Bounded}
 use Rattle.collision.proofs.ClashLaws.{never_forbidden}
 use Rattle.collision.proofs.StartLaws.{interval_turn, interval_least}
 use Rattle.collision.proofs.VectorLaws.{marked_bounded, collides_means, collides_near}
-use Rattle.judge.specs.declared.Verdict.TheVariants as Verdict
 use Rattle.judge.specs.Judge.{good_cycle, meets, cycle_answer, judge_answer}
 use Rattle.judge.proofs.CycleLaws.{good_cycle_lem}
 
@@ -56,23 +56,23 @@ module _ (T : Table) (q : ℕ) (l : List ℕ) (b : Bounded T) (c : Cycle 1 l) wh
   )
 
 -- so the judge says yes of a cycle exactly when it never collides on the unit's own marks
-pub judge_yes : (u : FunctionUnit) (q : ℕ) (l : List ℕ) → tag_answer u q ≡ Done → good_cycle l ≡ true
-    → (judge_answer u q l ≡ Verdict.Yes) ↔ NeverCollides (marked u) q l
+pub judge_yes : (u : FunctionUnit) (q : ℕ) (l : List ℕ) → tag_answer u q ≡ Ok tt → good_cycle l ≡ true
+    → (judge_answer u q l ≡ Ok true) ↔ NeverCollides (marked u) q l
 unfolding judge_answer cycle_answer
 judge_yes u q l a g = (there, back)
   where
     means : (meets (marked u) q l ≡ false) ↔ NeverCollides (marked u) q l
     means = judge_means (marked u) q l (marked_bounded u) (good_cycle_lem l g)
 
-    accepted : judge_answer u q l ≡ cond (meets (marked u) q l) Verdict.No Verdict.Yes
+    accepted : judge_answer u q l ≡ Ok (not (meets (marked u) q l))
     accepted = rw (a, g)
 
-    clean : (b : Bool) → cond b Verdict.No Verdict.Yes ≡ Verdict.Yes → b ≡ false
+    clean : (b : Bool) → ◌≡◌ {A = Result Bool Refusal} (Ok (not b)) (Ok true) → b ≡ false
     clean true e = let z : ◌≡◌ {A = ℕ} 0 1 = cc in absurd (omega arith)
     clean false e = refl
 
-    there : judge_answer u q l ≡ Verdict.Yes → NeverCollides (marked u) q l
+    there : judge_answer u q l ≡ Ok true → NeverCollides (marked u) q l
     there e = means.0 (clean (meets (marked u) q l) (sym accepted ∙ e))
 
-    back : NeverCollides (marked u) q l → judge_answer u q l ≡ Verdict.Yes
-    back n = accepted ∙ ap (λ b. cond b Verdict.No Verdict.Yes) (means.1 n)
+    back : NeverCollides (marked u) q l → judge_answer u q l ≡ Ok true
+    back n = accepted ∙ ap (λ b. Ok (not b)) (means.1 n)

@@ -1,17 +1,15 @@
 -- Judging a cycle, and the better of two.
-use Rattle.std.specs.Prelude.{Bool, cond, not, ◌&&◌, List, [], ℕ, ◌+◌, ◌-◌, ◌*◌, leb, ltb, eqb, length, get_or, take}
+use Rattle.std.specs.Prelude.{Bool, cond, not, ◌&&◌, List, [], ℕ, ◌+◌, ◌-◌, ◌*◌, leb, ltb, eqb, length, get_or, take, Result, Ok, Err}
 use Rattle.words.specs.Below.{some_below}
 use Rattle.unit.specs.declared.FunctionUnit.{FunctionUnit}
 use Rattle.unit.specs.declared.Refusal.TheVariants.{BadCycle}
-use Rattle.unit.specs.declared.Answer.{Answer}
-use Rattle.unit.specs.declared.Answer.TheVariants.{Done, Refused}
+use Rattle.unit.specs.Answers.{Answer}
 use Rattle.unit.specs.Table.{Table}
 use Rattle.unit.specs.Unit.{inside, marked}
 use Rattle.unit.specs.Calls.{check, tag_answer}
 use Rattle.collision.specs.Pipeline.{start_at, total}
 use Rattle.collision.specs.Vector.{collides}
-use Rattle.judge.specs.declared.Verdict.{Verdict}
-use Rattle.judge.specs.declared.Verdict.TheVariants as Verdict
+use Rattle.unit.specs.declared.Refusal.{Refusal}
 
 -- Judge
 
@@ -23,15 +21,15 @@ good_cycle l = inside (length l) 256 && not (some_below (length l) (λ i. eqb (g
 unfoldable pub meets : Table → ℕ → List ℕ → Bool
 meets T q l = some_below (length l) (λ i. some_below 32 (λ k. collides T q q (start_at l (i + k + 1) - start_at l i)))
 
-abbrev pub verdict : Answer → Bool → Verdict
-verdict Done b = cond b Verdict.No Verdict.Yes
-verdict (Refused why) b = Verdict.Refused why
+abbrev pub verdict : Answer → Bool → Result Bool Refusal
+verdict (Ok _) met = Ok (not met)
+verdict (Err why) met = Err why
 
 unfoldable pub cycle_answer : Answer → List ℕ → Answer
-cycle_answer Done l = check (good_cycle l) BadCycle Done
-cycle_answer (Refused why) l = Refused why
+cycle_answer (Ok _) l = check (good_cycle l) BadCycle (Ok tt)
+cycle_answer (Err why) l = Err why
 
-unfoldable pub judge_answer : FunctionUnit → ℕ → List ℕ → Verdict
+unfoldable pub judge_answer : FunctionUnit → ℕ → List ℕ → Result Bool Refusal
 judge_answer u q l = verdict (cycle_answer (tag_answer u q) l) (meets (marked u) q l)
 
 -- Better of two

@@ -7,16 +7,7 @@ ghost use Rattle.collision.specs.Pipeline.{total};
 ghost use Rattle.judge.specs.Judge.{good_cycle, counted, better_of, judge_answer};
 ghost use Rattle.judge.specs.Inner.{start_meets, turn_meets};
 
-use collision::Number;
 use unit::{FunctionUnit, Refusal, Tag};
-
-// Whether a cycle never collides.
-#[derive(Clone, Copy)]
-pub enum Verdict {
-    Yes,
-    No,
-    Refused(Refusal),
-}
 
 // Whether the first `count` bytes of a list are a cycle: 1 to 256 of them, all within the list, none of them 0.
 fn is_cycle(list: &[u8], count: usize) -> bool
@@ -31,14 +22,7 @@ fn is_cycle(list: &[u8], count: usize) -> bool
     if 256 < count {
         return false;
     }
-    let mut i: usize = 0;
-    while i < count {
-        if list[i] == 0 {
-            return false;
-        }
-        i += 1;
-    }
-    true
+    !list[..count].contains(&0)
 }
 
 // The sum of the first `count` bytes of a list, which are a cycle.
@@ -47,10 +31,8 @@ fn sum_of(list: &[u8], count: usize) -> usize
     ensures { (result ≡ total (take count list.now)) × (result ≤ 255 * count) × (count ≤ 256) }
 {
     let mut sum: usize = 0;
-    let mut i: usize = 0;
-    while i < count {
-        sum += list[i] as usize;
-        i += 1;
+    for latency in &list[..count] {
+        sum += *latency as usize;
     }
     sum
 }
@@ -86,8 +68,7 @@ fn start_meets(vector: u32, cycle: &[u8], start: usize) -> bool
     ensures { result ≡ start_meets vector cycle.now start }
 {
     let mut interval: u32 = 0;
-    let mut step: usize = 0;
-    while step < 32 {
+    for step in 0..32 {
         interval += cycle[(start + step) % cycle.len()] as u32;
         if 32 < interval {
             return false;
@@ -95,7 +76,6 @@ fn start_meets(vector: u32, cycle: &[u8], start: usize) -> bool
         if words::test(vector, interval - 1) {
             return true;
         }
-        step += 1;
     }
     false
 }
@@ -105,32 +85,22 @@ fn turn_meets(vector: u32, cycle: &[u8]) -> bool
     requires { good_cycle cycle.now ≡ true }
     ensures { result ≡ turn_meets vector cycle.now }
 {
-    let mut start: usize = 0;
-    while start < cycle.len() {
+    for start in 0..cycle.len() {
         if start_meets(vector, cycle, start) {
             return true;
         }
-        start += 1;
     }
     false
 }
 
 // Whether a cycle, repeated without end, never collides: the intervals between its starts, those that span several turns too,
 // are tested against the collision vector.
-pub fn judge(u: FunctionUnit, tag: Tag, cycle: &[u8]) -> Verdict
+pub fn judge(u: FunctionUnit, tag: Tag, cycle: &[u8]) -> Result<bool, Refusal>
     ensures { result ≡ judge_answer u tag.0 cycle.now }
 {
-    let asked = collision::vector(u, tag);
-    match asked {
-        Number::Refused(why) => Verdict::Refused(why),
-        Number::Value(word) => {
-            if !is_cycle(cycle, cycle.len()) {
-                return Verdict::Refused(Refusal::BadCycle);
-            }
-            if turn_meets(word, cycle) {
-                return Verdict::No;
-            }
-            Verdict::Yes
-        }
+    let word = collision::vector(u, tag)?;
+    if !is_cycle(cycle, cycle.len()) {
+        return Err(Refusal::BadCycle);
     }
+    Ok(!turn_meets(word, cycle))
 }

@@ -1,4 +1,5 @@
 -- Text handed over in a lent area. Assumes nothing.
+use Rattle.std.proofs.Common.{Result, Ok, Err}
 use Prim.Native.Nat.{ℕ, ◌≤◌, ◌<◌}
 use mathlib.Core.Path.{◌≡◌, sym, ap, ◌∙◌, subst}
 use mathlib.Core.Bool.{true, false}
@@ -14,22 +15,21 @@ use Rattle.text.proofs.PutLaws.{put_fits, placed_front}
 use Rattle.unit.specs.declared.FunctionUnit.{FunctionUnit}
 use Rattle.unit.specs.declared.Refusal.TheVariants.{NotSound, ShortOutput}
 use Rattle.unit.specs.Unit.{sound_of}
-use Rattle.listing.specs.declared.Listed.{Listed}
-use Rattle.listing.specs.declared.Listed.TheVariants as Listed
 use Rattle.listing.specs.Lines.{unit_text}
 use Rattle.listing.specs.Listing.{room_answer, Printed, unit_refusal, UnitListed}
 use Rattle.text.specs.Wrote.{Put}
 use Rattle.listing.specs.Inner.{ToldAll}
 use Rattle.listing.proofs.UnitLaws.{functions_few}
+use Rattle.unit.specs.declared.Refusal.{Refusal}
 
 -- An area with and without the room
 
 pub area_short : (words before : List ℕ) → length before < length words
-    → Printed (room_answer words (length before)) words before before (Listed.Refused ShortOutput)
+    → Printed (room_answer words (length before)) words before before (Err ShortOutput)
 area_short words before h = let t = lt-leb (length words) (length before) h in record { says = rw t; area = rw t }
 
 pub area_written : (words before : List ℕ) {after : List ℕ} → length words ≤ length before → after ≡ put_in before 0 words
-    → Printed (room_answer words (length before)) words before after (Listed.Length (length words))
+    → Printed (room_answer words (length before)) words before after (Ok (length words))
 area_written words before h e =
     let t = le-leb (length words) (length before) h in
     record {
@@ -48,13 +48,13 @@ put_front {before = before} {text} {end = end} p =
 pub put_front_length : {n : ℕ} {before text after : List ℕ} {end : ℕ} → Put n before 0 text after end → end ≡ length (take end after)
 put_front_length {text = text} p = p.wrote.next ∙ zero-add (length text) ∙ ap length (sym (put_front p))
 
-pub printed_as : {a b before after : List ℕ} {answer : Listed} → a ≡ b → Printed (room_answer a (length before)) a before after answer
+pub printed_as : {a b before after : List ℕ} {answer : (Result ℕ Refusal)} → a ≡ b → Printed (room_answer a (length before)) a before after answer
     → Printed (room_answer b (length before)) b before after answer
 printed_as {before = before} {after} {answer} e p = subst (λ (x : List ℕ). Printed (room_answer x (length before)) x before after answer) e p
 
 -- The listing of a unit
 
-pub unit_unsound : {u : FunctionUnit} {before : List ℕ} → sound_of u ≡ false → UnitListed u before before (Listed.Refused NotSound)
+pub unit_unsound : {u : FunctionUnit} {before : List ℕ} → sound_of u ≡ false → UnitListed u before before (Err NotSound)
 unfolding unit_refusal
 unit_unsound e = record {
   best = λ q. [];
@@ -67,7 +67,7 @@ module _ {u : FunctionUnit} {zeros all : List ℕ} {end : ℕ} (s : sound_of u �
   pub unit_most : end ≤ 8888
   unit_most = omega (arith, t.put.few, functions_few u s)
 
-  pub unit_listed : {before after : List ℕ} {answer : Listed} → Printed (room_answer (take end all) (length before)) (take end all) before after answer
+  pub unit_listed : {before after : List ℕ} {answer : (Result ℕ Refusal)} → Printed (room_answer (take end all) (length before)) (take end all) before after answer
       → UnitListed u before after answer
   unfolding unit_text unit_refusal
   unit_listed {before} {after} {answer} p = record {

@@ -1,4 +1,5 @@
 -- The listing of a file is that of its unit, or one line. Assumes nothing.
+use Rattle.std.proofs.Common.{Result, Ok, Err}
 use Prim.Native.Nat.{ℕ, ◌+◌, ◌^◌, ◌≤◌, ◌<◌}
 use mathlib.Core.Path.{◌≡◌, sym, ap, ◌∙◌, subst}
 use mathlib.Core.List.{List, [], ◌++◌}
@@ -8,7 +9,6 @@ use Rattle.text.specs.Text.{ascii, decimal}
 use Rattle.text.proofs.DecimalLaws.{decimal_length}
 use Rattle.unit.specs.declared.Refusal.{Refusal}
 use Rattle.unit.specs.declared.Outcome.{Outcome}
-use Rattle.unit.specs.declared.Answer.TheVariants.{Done, Refused}
 use Rattle.unit.specs.Numbers.{number_of}
 use Rattle.unit.specs.Table.{Table}
 use Rattle.unit.specs.Calls.{unit_of}
@@ -16,7 +16,6 @@ use Rattle.unit.proofs.Laws.{never_done}
 use Rattle.unit.proofs.NumberLaws.{numbered}
 use Rattle.unit_file.specs.Read.{functions_in, segments_in, columns_in, file_table, read_answer, read_of}
 use Rattle.unit_file.proofs.AcceptedLaws.{Accepted, accepted, read_answer_lem}
-use Rattle.listing.specs.declared.Listed.{Listed}
 use Rattle.listing.specs.Lines.{newline, refused_line, unit_text}
 use Rattle.listing.specs.Listing.{room_answer, Printed, Bests, unit_refusal, UnitListed, FileListed}
 
@@ -31,7 +30,7 @@ refused_short why =
 said : (file : List ℕ) {o : Outcome} → o ≡ read_of file → read_answer file ≡ o.answer
 said file r = sym (read_answer_lem file) ∙ sym (ap (λ o. o.answer) r)
 
-pub file_refused : {file : List ℕ} {o : Outcome} {why : Refusal} {before after : List ℕ} {answer : Listed} → o ≡ read_of file → o.answer ≡ Refused why
+pub file_refused : {file : List ℕ} {o : Outcome} {why : Refusal} {before after : List ℕ} {answer : (Result ℕ Refusal)} → o ≡ read_of file → o.answer ≡ Err why
     → Printed (room_answer (refused_line why) (length before)) (refused_line why) before after answer → FileListed file before after answer
 file_refused {file} {why = why} r q p =
     let e = said file r ∙ q in
@@ -44,7 +43,7 @@ file_refused {file} {why = why} r q p =
 
 -- An accepted file
 
-unit_listed : (file : List ℕ) {before after : List ℕ} {answer : Listed} → read_answer file ≡ Done → Accepted file
+unit_listed : (file : List ℕ) {before after : List ℕ} {answer : (Result ℕ Refusal)} → read_answer file ≡ Ok tt → Accepted file
     → UnitListed (unit_of (functions_in file) (segments_in file) (columns_in file) (file_table file)) before after answer → FileListed file before after answer
 unfolding unit_of unit_refusal
 unit_listed file {before} {after} {answer} e a l =
@@ -59,7 +58,7 @@ unit_listed file {before} {after} {answer} e a l =
           (rw a.sound at l.printed));
     }
 
-pub file_accepted : {file : List ℕ} {o : Outcome} {before after : List ℕ} {answer : Listed} → o ≡ read_of file → o.answer ≡ Done
+pub file_accepted : {file : List ℕ} {o : Outcome} {before after : List ℕ} {answer : (Result ℕ Refusal)} → o ≡ read_of file → o.answer ≡ Ok tt
     → UnitListed o.unit before after answer → FileListed file before after answer
 file_accepted {file} {before = before} {after} {answer} r q listed =
     let e = said file r ∙ q in

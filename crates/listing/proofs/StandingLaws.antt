@@ -1,4 +1,5 @@
 -- A cycle that stands in front of 256 bytes, as the greedy cycle and the best cycle are handed over. Assumes nothing.
+use Rattle.std.proofs.Common.{Result, Ok, Err}
 use Prim.Native.Nat.{ℕ, ◌+◌, ◌-◌, ◌*◌, ◌≤◌}
 use mathlib.Core.Path.{◌≡◌, sym, ap, ◌∙◌}
 use mathlib.Core.List.{List, ◌++◌}
@@ -9,16 +10,13 @@ use borrow.Author.Tests.{leb-true}
 use Rattle.text.specs.Text.{ascii, decimal, spaced}
 use Rattle.unit.specs.declared.FunctionUnit.{FunctionUnit}
 use Rattle.unit.specs.declared.Refusal.{Refusal}
-use Rattle.unit.specs.declared.Answer.{Answer}
-use Rattle.unit.specs.declared.Answer.TheVariants.{Done}
+use Rattle.unit.specs.Answers.{Answer}
 use Rattle.unit.specs.Unit.{marked}
 use Rattle.collision.specs.Pipeline.{total}
 use Rattle.collision.specs.Vector.{vector_word}
 use Rattle.diagram.specs.Diagram.{width}
 use Rattle.diagram.specs.Answers.{written}
 use Rattle.cycles.specs.declared.Counted.{Counted}
-use Rattle.cycles.specs.declared.GreedyAnswer.{GreedyAnswer}
-use Rattle.cycles.specs.declared.GreedyAnswer.TheVariants as GreedyAnswer
 use Rattle.cycles.specs.Greedy.{greedy_of, counting, greedy_answer, greedy_out}
 use Rattle.cycles.proofs.GreedyLaws.{greedy_cycle_lem}
 use Rattle.planner.specs.Plans.{search_answer, Found, SearchPromise}
@@ -58,27 +56,27 @@ front_room cycle rest count e = omega (arith, length-append cycle rest)
 -- The greedy cycle
 
 module _ {u : FunctionUnit} {q : ℕ} (s : Small u q) where
-  greedy_says : greedy_answer u q 16000 256 ≡ counting Done (greedy_of 1 (marked u) q)
+  greedy_says : greedy_answer u q 16000 256 ≡ counting (Ok tt) (greedy_of 1 (marked u) q)
   unfolding greedy_answer
   greedy_says = ap (λ a. counting a (greedy_of 1 (marked u) q)) (greedy_passes s)
 
   -- it is not refused
-  pub greedy_handed : {A : Type 0} {answer : GreedyAnswer} {why : Refusal} → answer ≡ greedy_answer u q 16000 256 → answer ≡ GreedyAnswer.Refused why → A
+  pub greedy_handed : {A : Type 0} {answer : (Result Counted Refusal)} {why : Refusal} → answer ≡ greedy_answer u q 16000 256 → answer ≡ Err why → A
   greedy_handed {why = why} e t =
-      let r : GreedyAnswer.Refused why ≡ counting Done (greedy_of 1 (marked u) q) = sym t ∙ e ∙ greedy_says in
+      let r : Err why ≡ counting (Ok tt) (greedy_of 1 (marked u) q) = sym t ∙ e ∙ greedy_says in
       let z : ◌≡◌ {A = ℕ} 0 1 = cc in
       absurd (omega arith)
 
-  greedy_writes : (bytes : List ℕ) → length bytes ≡ 256 → greedy_out u q 16000 bytes ≡ written Done (greedy_of 1 (marked u) q) bytes
+  greedy_writes : (bytes : List ℕ) → length bytes ≡ 256 → greedy_out u q 16000 bytes ≡ written (Ok tt) (greedy_of 1 (marked u) q) bytes
   unfolding greedy_out
   greedy_writes bytes n = rw (n, greedy_passes s)
 
-  pub greedy_stands : {answer : GreedyAnswer} {counted : Counted} {after : List ℕ} (bytes : List ℕ) → length bytes ≡ 256
-      → answer ≡ greedy_answer u q 16000 256 → after ≡ greedy_out u q 16000 bytes → answer ≡ GreedyAnswer.Cycle counted
+  pub greedy_stands : {answer : (Result Counted Refusal)} {counted : Counted} {after : List ℕ} (bytes : List ℕ) → length bytes ≡ 256
+      → answer ≡ greedy_answer u q 16000 256 → after ≡ greedy_out u q 16000 bytes → answer ≡ Ok counted
       → Standing (greedy_of 1 (marked u) q) counted.count counted.sum after
   greedy_stands {counted = counted} bytes n e w t =
       let l : List ℕ = greedy_of 1 (marked u) q in
-      let same : GreedyAnswer.Cycle counted ≡ counting Done l = sym t ∙ e ∙ greedy_says in
+      let same : Ok counted ≡ counting (Ok tt) l = sym t ∙ e ∙ greedy_says in
       let is : counted ≡ record { count = length l; sum = total l } = cc in
       let here = w ∙ greedy_writes bytes n in
       let counts : counted.count ≡ length l = ap (λ c. c.count) is in

@@ -1,20 +1,19 @@
 -- What the private functions write. No public contract cites this file.
-use Rattle.std.specs.Prelude.{ℕ, ◌+◌, ◌*◌, ◌≤◌, ◌≡◌, true, List, leb, length}
+use Rattle.std.specs.Prelude.{ℕ, ◌+◌, ◌*◌, ◌≤◌, ◌≡◌, true, List, leb, length, Result, Ok, Err}
 use Rattle.words.specs.Below.{join_below}
 use Rattle.text.specs.Wrote.{Put}
 use Rattle.unit.specs.declared.FunctionUnit.{FunctionUnit}
 use Rattle.unit.specs.Table.{Table}
 use Rattle.unit.specs.Unit.{inside, marked, sound_of}
-use Rattle.collision.specs.declared.Number.{Number}
-use Rattle.collision.specs.declared.Number.TheVariants as Number
 use Rattle.diagram.specs.Answers.{states_of}
 use Rattle.planner.specs.Plans.{Best}
 use Rattle.listing.specs.Lines.{function_text}
+use Rattle.unit.specs.declared.Refusal.{Refusal}
 
 -- the value of an answer that is not refused
-abbrev pub value_of : Number → ℕ
-value_of (Number.Value n) = n
-value_of (Number.Refused why) = 0
+abbrev pub value_of : Result ℕ Refusal → ℕ
+value_of (Ok n) = n
+value_of (Err why) = 0
 
 -- a tag of a sound unit
 pub record Function (u : FunctionUnit) (q : ℕ) : Type 0 where

@@ -7,15 +7,13 @@ ghost use Rattle.listing.specs.Lines.{number_line, cycle_line, vector_line, boun
 ghost use Rattle.text.specs.Wrote.{Put};
 ghost use Rattle.listing.specs.Inner.{value_of, Function, Small, Told};
 
-use collision::Number;
-use cycles::GreedyAnswer;
-use unit::{FunctionUnit, Tag};
+use unit::{FunctionUnit, Refusal, Tag};
 
 // The value of a call that a tag of a sound unit is answered.
-fn value_of(asked: Number) -> u32
+fn value_of(asked: Result<u32, Refusal>) -> u32
     ensures { result ≡ value_of asked }
 {
-    let Number::Value(value) = asked else {
+    let Ok(value) = asked else {
         return 0;
     };
     value
@@ -57,7 +55,7 @@ fn put_greedy(out: &mut [u8], at: usize, u: FunctionUnit, tag: Tag) -> usize
     let mut work = [0u32; 16000];
     let mut cycle = [0u8; 256];
     let found = cycles::greedy(u, tag, &mut work, &mut cycle);
-    let GreedyAnswer::Cycle(counted) = found else {
+    let Ok(counted) = found else {
         return at;
     };
     let count = counted.count as usize;
@@ -84,7 +82,7 @@ fn put_states(out: &mut [u8], at: usize, u: FunctionUnit, tag: Tag) -> usize
 {
     let mut list = [0u32; 256];
     let counted = state_list::states(u, tag, &mut list);
-    let Number::Value(count) = counted else {
+    let Ok(count) = counted else {
         return text::put(out, at, b"refused 7\n");
     };
     let after_states = crate::lines::put_line(out, at, b"states ", count);

@@ -1,4 +1,5 @@
 -- The claims on loops. Assumes nothing.
+use Rattle.std.proofs.Common.{Ok, Err}
 use mathlib.Core.Path.{◌≡◌, refl, sym, ap, subst}
 use mathlib.Core.Bool.{Bool, true, false}
 use mathlib.Core.List.{List, [], ◌∷◌}
@@ -11,7 +12,6 @@ use lib.ListN.{length, get_or}
 use Rattle.words.proofs.Tests.{and_true}
 use Rattle.unit.specs.declared.FunctionUnit.{FunctionUnit}
 use Rattle.unit.specs.declared.Refusal.TheVariants.{NotSound, BadLoop, NoSuchTag, ShortWork, TooManyStates}
-use Rattle.unit.specs.declared.Answer.TheVariants.{Done, Refused}
 use Rattle.unit.specs.Table.{Table}
 use Rattle.unit.specs.Numbers.{number_in}
 use Rattle.unit.specs.Unit.{marked, inside, sound_of}
@@ -36,7 +36,7 @@ record Passed (sound listed known enough few : Bool) : Type 0 where
   words : enough ≡ true
   many : few ≡ false
 
-passed : (a b c d e : Bool) → check a NotSound (check b BadLoop (check c NoSuchTag (check d ShortWork (check e TooManyStates Done)))) ≡ Refused TooManyStates
+passed : (a b c d e : Bool) → check a NotSound (check b BadLoop (check c NoSuchTag (check d ShortWork (check e TooManyStates (Ok tt))))) ≡ Err TooManyStates
     → Passed a b c d e
 passed true true true true false e = record { unit = refl; list = refl; tags = refl; words = refl; many = refl }
 passed false b c d f e = let n : ◌≡◌ {A = ℕ} 1 7 = ap number_in e in absurd (omega arith)
@@ -46,7 +46,7 @@ passed true true true false f e = let n : ◌≡◌ {A = ℕ} 5 7 = ap number_in
 passed true true true true true e = let n : ◌≡◌ {A = ℕ} 0 7 = ap number_in e in absurd (omega arith)
 
 module _ (u : FunctionUnit) (tags : List ℕ) (room : ℕ) where
-  seven_many : loop_answer u tags room ≡ Refused TooManyStates → Asked u tags room × More 256 (loop_graph u tags)
+  seven_many : loop_answer u tags room ≡ Err TooManyStates → Asked u tags room × More 256 (loop_graph u tags)
   unfolding loop_answer
   seven_many e =
       let p = passed (sound_of u) (inside (length tags) 8) (all_tags u tags) (leb 16000 room) (leb (length (loop_states u tags)) 256) e in
@@ -56,7 +56,7 @@ module _ (u : FunctionUnit) (tags : List ℕ) (room : ℕ) where
         (loop_many u tags p.unit loop).1 (leb-false (length (loop_states u tags)) 256 p.many),
       )
 
-  many_seven : Asked u tags room × More 256 (loop_graph u tags) → loop_answer u tags room ≡ Refused TooManyStates
+  many_seven : Asked u tags room × More 256 (loop_graph u tags) → loop_answer u tags room ≡ Err TooManyStates
   unfolding loop_answer
   many_seven m =
       let a = m.0 in

@@ -1,11 +1,11 @@
 -- A step of a loop is what the issue controller does: t - 1 ticks, and then a start of the next tag that it grants. Assumes nothing.
+use Rattle.std.proofs.Common.{Ok}
 use mathlib.Core.Path.{◌≡◌, refl, sym, ap, ◌∙◌, subst}
 use mathlib.Core.Bool.{true}
 use mathlib.Core.Logic.{◌↔◌}
 use mathlib.Core.List.{List}
 use Prim.Native.Nat.{ℕ, zero, suc, ◌-◌, ◌≤◌}
 use Rattle.unit.specs.declared.FunctionUnit.{FunctionUnit}
-use Rattle.unit.specs.declared.Answer.TheVariants.{Done}
 use Rattle.unit.specs.Unit.{sound_of}
 use Rattle.controller.specs.declared.Bank.{Bank}
 use Rattle.controller.specs.declared.Event.{Event}
@@ -33,7 +33,7 @@ module _ (u : FunctionUnit) (sound : sound_of u ≡ true) where
 
   module _ (tags : List ℕ) (loop : Loop u tags) (s : State) (t : ℕ) where
     -- a latency of at least 1 is a step exactly when the controller, after t - 1 ticks, answers done to the start
-    pub step_granted : 1 ≤ t → Steps tags s t ↔ (event_answer u (ticked_by u (t - 1) s.bank) (start_of tags s) ≡ Done)
+    pub step_granted : 1 ≤ t → Steps tags s t ↔ (event_answer u (ticked_by u (t - 1) s.bank) (start_of tags s) ≡ Ok tt)
     step_granted h =
         let e = ticks_events (t - 1) s.bank in (
           λ p.

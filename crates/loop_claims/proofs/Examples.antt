@@ -1,8 +1,9 @@
 -- Figure 2 of the paper with A B: its states, its one best loop, and loops that are not, as theorems. Assumes nothing.
+use Rattle.std.proofs.Common.{Result, Ok, Err}
 use mathlib.Core.Path.{◌≡◌, refl, sym, ap, ◌∙◌, subst}
 use mathlib.Core.Bool.{true}
 use mathlib.Core.List.{List, [], ◌∷◌}
-use Prim.Native.Nat.{ℕ, zero, suc, ◌+◌, ◌-◌, ◌*◌, ◌%◌, ◌≤◌, ◌<◌}
+use Prim.Native.Nat.{ℕ, zero, suc, ◌+◌, ◌*◌, ◌%◌, ◌≤◌, ◌<◌}
 use native.Mathlib.Nat.{mod-eq_of_lt}
 use native.Mathlib.Decide.{dec_le}
 use native.Mathlib.Omega.{arith}
@@ -10,17 +11,18 @@ use borrow.Author.Tests.{le-leb}
 use lib.Dec.{leb}
 use lib.ListN.{length, get_or}
 use Rattle.words.specs.Below.{some_below, word_below, span_below, max_below}
-use Rattle.unit.specs.declared.Answer.TheVariants.{Done}
+use Rattle.unit.specs.declared.Plan.{Plan}
+use Rattle.unit.specs.declared.Refusal.{Refusal}
 use Rattle.unit.specs.Unit.{marked, marks_inside, inside, sound_of}
 use Rattle.unit.specs.Calls.{no_plan}
+use Rattle.unit.proofs.Laws.{never_done}
 use Rattle.collision.specs.Pipeline.{Collides, total, start_at}
 use Rattle.collision.specs.Vector.{collides, row_word, largest_column}
 use Rattle.collision.proofs.VectorLaws.{collides→}
 use Rattle.collision.proofs.ClashLaws.{clash_collides}
 use Rattle.controller.specs.Bank.{register, row_for}
 use Rattle.controller.proofs.Examples.{figure2}
-use Rattle.planner.specs.declared.Handed.{Handed}
-use Rattle.planner.specs.Plans.{plan_of}
+use Rattle.planner.specs.Plans.{plan_of, answer_of}
 use Rattle.graphs.specs.Graph.{Walk, stay, step, Reachable, Distinct, states_along}
 use Rattle.graphs.specs.States.{expand, list_from}
 use Rattle.loops.specs.declared.State.{State}
@@ -287,13 +289,14 @@ figure2_known = refl
 figure2_few : leb (length (loop_states figure2 ab)) 256 ≡ true
 figure2_few = ap (λ (l : List State). leb (length l) 256) figure2_states
 
-figure2_done : (room : ℕ) → 16000 ≤ room → loop_answer figure2 (1 ∷ 2 ∷ []) room ≡ Done
+figure2_done : (room : ℕ) → 16000 ≤ room → loop_answer figure2 (1 ∷ 2 ∷ []) room ≡ Ok tt
 unfolding loop_answer
 figure2_done room h = simp (figure2_sound, figure2_known, le-leb 16000 room h, figure2_few)
 
-pub figure2_answer : (before after : List ℕ) (r : Handed) → 16000 ≤ length before → LoopPromise figure2 (1 ∷ 2 ∷ []) before after r
-    → (r.answer ≡ Done) × (r.plan ≡ plan_of 0 (1 ∷ 3 ∷ []))
-figure2_answer before after r room p =
-    let d : r.answer ≡ Done = p.says ∙ figure2_done (length before) room in
-    let f = p.found d in
-    (d, f.held ∙ ap (plan_of 0) (figure2_only f.latencies f.best))
+pub figure2_answer : (before after : List ℕ) (r : Result Plan Refusal) → 16000 ≤ length before → LoopPromise figure2 (1 ∷ 2 ∷ []) before after r
+    → r ≡ Ok (plan_of 0 (1 ∷ 3 ∷ []))
+figure2_answer before after r room p = go r refl
+  where
+    go : (x : Result Plan Refusal) → r ≡ x → r ≡ Ok (plan_of 0 (1 ∷ 3 ∷ []))
+    go (Ok plan) e = let f = p.found plan e in e ∙ ap Ok (f.held ∙ ap (plan_of 0) (figure2_only f.latencies f.best))
+    go (Err why) e = never_done (ap answer_of (sym e) ∙ p.says ∙ figure2_done (length before) room)

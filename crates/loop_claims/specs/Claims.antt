@@ -1,8 +1,7 @@
 -- What is claimed of loops beyond the contract of the call.
-use Rattle.std.specs.Prelude.{◌≡◌, true, List, [], ◌∷◌, ◌↔◌, ℕ, ◌*◌, ◌≤◌, length}
+use Rattle.std.specs.Prelude.{◌≡◌, true, List, [], ◌∷◌, ◌↔◌, ℕ, ◌*◌, ◌≤◌, length, Err}
 use Rattle.unit.specs.declared.FunctionUnit.{FunctionUnit}
 use Rattle.unit.specs.declared.Refusal.TheVariants.{TooManyStates}
-use Rattle.unit.specs.declared.Answer.TheVariants.{Refused}
 use Rattle.unit.specs.Unit.{marked, sound_of}
 use Rattle.collision.specs.Pipeline.{total}
 use Rattle.planner.specs.Plans.{Best}
@@ -21,7 +20,7 @@ pub record Asked (u : FunctionUnit) (tags : List ℕ) (room : ℕ) : Type 0 wher
 -- 7 is answered exactly where no test before it applies and more than 256 states are reached by steps, of any number of ticks
 abbrev pub SevenExactly : Type 0
 SevenExactly = (u : FunctionUnit) (tags : List ℕ) (room : ℕ)
-    → (loop_answer u tags room ≡ Refused TooManyStates) ↔ (Asked u tags room × More 256 (loop_graph u tags))
+    → (loop_answer u tags room ≡ Err TooManyStates) ↔ (Asked u tags room × More 256 (loop_graph u tags))
 
 -- which of several loops is given does not show in the average
 abbrev pub OneAverage : Type 0

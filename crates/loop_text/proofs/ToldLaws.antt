@@ -1,4 +1,5 @@
 -- The line of a loop, and the tags of a line: nine suffice. Assumes nothing.
+use Rattle.std.proofs.Common.{Result, Ok, Err}
 use mathlib.Core.Path.{◌≡◌, refl, sym, ap, ◌∙◌, subst}
 use mathlib.Core.Bool.{false}
 use mathlib.Core.List.{List, ◌++◌}
@@ -14,7 +15,7 @@ use Rattle.unit.specs.declared.FunctionUnit.{FunctionUnit}
 use Rattle.unit.specs.declared.Plan.{Plan}
 use Rattle.unit.specs.declared.Refusal.{Refusal}
 use Rattle.unit.specs.declared.Refusal.TheVariants.{NotSound, BadLoop}
-use Rattle.unit.specs.declared.Answer.TheVariants.{Done, Refused}
+use Rattle.unit.specs.Answers.{Answer}
 use Rattle.unit.specs.Unit.{inside, sound_of}
 use Rattle.unit.proofs.Laws.{never_done, check_ok, check_next}
 use Rattle.collision.specs.Pipeline.{total}
@@ -22,7 +23,7 @@ use Rattle.listing.specs.Lines.{newline, cycle_line, refused_line}
 use Rattle.session.specs.Sessions.{Line}
 use Rattle.command.specs.Lines.{in_front}
 use Rattle.command.proofs.FrontLaws.{front_taken}
-use Rattle.planner.specs.declared.Handed.{Handed}
+use Rattle.planner.specs.Plans.{answer_of}
 use Rattle.loops.specs.Answers.{loop_answer, LoopFound, LoopPromise}
 use Rattle.loop_text.specs.Told.{LoopTold}
 use Rattle.loop_text.specs.Inner.{held_line}
@@ -44,28 +45,29 @@ module _ (u : FunctionUnit) (tags : List ℕ) (plan : Plan) (f : LoopFound u tag
 
 -- What is told
 
-module _ (u : FunctionUnit) (tags words after : List ℕ) (r : Handed) (p : LoopPromise u tags words after r) (room : length words ≡ 16000) where
-  says : r.answer ≡ loop_answer u tags 16000
-  says = p.says ∙ ap (loop_answer u tags) room
+module _ (u : FunctionUnit) (tags words after : List ℕ) (room : length words ≡ 16000) where
+  says : {r : Result Plan Refusal} → LoopPromise u tags words after r → answer_of r ≡ loop_answer u tags 16000
+  says p = p.says ∙ ap (loop_answer u tags) room
 
-  pub told_found : (before bytes : List ℕ) (end : ℕ) → r.answer ≡ Done → Line (held_line r.plan) before bytes end → LoopTold u tags before bytes end
-  told_found before bytes end d l = record {
-    text = held_line r.plan;
-    found = λ e. let f = p.found d in record { latencies = f.latencies; best = f.best; spelled = held_is u tags r.plan f };
-    refused = λ why e. never_done (sym e ∙ sym says ∙ d);
+  pub told_found : {plan : Plan} (before bytes : List ℕ) (end : ℕ) → LoopPromise u tags words after (Ok plan) → Line (held_line plan) before bytes end
+      → LoopTold u tags before bytes end
+  told_found {plan} before bytes end p l = record {
+    text = held_line plan;
+    found = λ e. let f = p.found plan refl in record { latencies = f.latencies; best = f.best; spelled = held_is u tags plan f };
+    refused = λ why e. never_done (sym e ∙ sym (says p));
     line = l;
   }
 
-  pub told_refused : (before bytes : List ℕ) (end : ℕ) (why : Refusal) → r.answer ≡ Refused why → Line (refused_line why) before bytes end
+  pub told_refused : {why : Refusal} (before bytes : List ℕ) (end : ℕ) → LoopPromise u tags words after (Err why) → Line (refused_line why) before bytes end
       → LoopTold u tags before bytes end
-  told_refused before bytes end why d l = record {
+  told_refused {why} before bytes end p l = record {
     text = refused_line why;
-    found = λ e. never_done (sym d ∙ says ∙ e);
-    refused = λ other e. let same : why ≡ other = only (sym d ∙ says ∙ e) in ap refused_line same;
+    found = λ e. never_done (says p ∙ e);
+    refused = λ other e. let same : why ≡ other = only (says p ∙ e) in ap refused_line same;
     line = l;
   }
     where
-      only : {a b : Refusal} → Refused a ≡ Refused b → a ≡ b
+      only : {a b : Refusal} → ◌≡◌ {A = Answer} (Err a) (Err b) → a ≡ b
       only e = cc
 
 -- The tags of a line
@@ -80,7 +82,7 @@ long_cut u tags h =
     let n : length (take 9 tags) ≡ 9 = length-take-le 9 tags (omega arith) in
     simp (long_out (length (take 9 tags)) (omega arith), long_out (length tags) h)
 
-long_never : {A : Type 0} (u : FunctionUnit) (tags : List ℕ) → 8 < length tags → loop_answer u tags 16000 ≡ Done → A
+long_never : {A : Type 0} (u : FunctionUnit) (tags : List ℕ) → 8 < length tags → loop_answer u tags 16000 ≡ Ok tt → A
 unfolding loop_answer
 long_never u tags h e =
     nowhere (sym (long_out (length tags) h) ∙ check_ok (inside (length tags) 8) BadLoop _ (check_next (sound_of u) NotSound _ e))

@@ -11,7 +11,7 @@ ghost use Rattle.session.specs.Sessions.{Line};
 ghost use Rattle.loop_text.specs.Told.{LoopTold};
 ghost use Rattle.loop_text.specs.Inner.{held_line};
 
-use unit::{Answer, FunctionUnit, Plan};
+use unit::{FunctionUnit, Plan};
 
 // The latencies of a loop, and their sum.
 fn write_loop(line: &mut [u8], latencies: &[u8], sum: u32) -> usize
@@ -42,11 +42,9 @@ fn tell(u: FunctionUnit, tags: &[u8], out: &mut [u8]) -> usize
     ensures { LoopTold u tags.now out.old out.new result }
 {
     let mut work = [0u32; 16000];
-    let handed = loops::search(u, tags, &mut work);
-    let answer = handed.answer;
-    match answer {
-        Answer::Refused(why) => session::put_answer(out, Answer::Refused(why)),
-        Answer::Done => put_loop(out, handed.plan),
+    match loops::search(u, tags, &mut work) {
+        Err(why) => session::put_answer(out, Err(why)),
+        Ok(plan) => put_loop(out, plan),
     }
 }
 

@@ -14,7 +14,7 @@ use Rattle.graphs.specs.States.{add, expand, list_from}
 use Rattle.graphs.proofs.Listing.{visit, turn, expand_end, expand_more, expand_extends, list_more, list_end, list_extends}
 use Rattle.mean_cycle.specs.Nodes.{arc_word}
 use Rattle.loops.specs.declared.State.{State}
-use Rattle.loops.specs.declared.Rules.{Rules}
+use Rattle.loops.specs.declared.rules.Rules.{Rules}
 use Rattle.loops.specs.Inner.{masked, advanced, rule_arc, rule_first, rule_graph, rule_tests, rule_states, state_of, put_state, list_in, Stocked, Target, visited, Turned, Listable, expanded, Followed, Entered, Explored}
 use Rattle.loops.proofs.StoreLaws.{put_size, put_high, put_state_lem, state_kept, list_length, list_at, list_same}
 use Rattle.loops.proofs.TurnLaws.{rule_right}
@@ -64,23 +64,6 @@ pub record Following (w₁ w : List ℕ) (R : Rules) (k at : ℕ) (s : State) (f
   pub words : (j : ℕ) → j < 9984 → ((b : ℕ) → 1 ≤ b → b ≤ 32 → j ≡ slot_of at b → ⊥) → get_or w j 0 ≡ get_or w₁ j 0
   pub high : (j : ℕ) → 11264 ≤ j → get_or w j 0 ≡ get_or w₁ j 0
   pub stocked : Stocked w found
-
-pub follow_start : (w : List ℕ) (R : Rules) (k at : ℕ) (s : State) → k ≤ 256 → Stocked w k → Following w w R k at s k 1
-follow_start w R k at s few stocked =
-    let e : R.width + 1 ≡ R.width + 2 - 1 = omega arith in
-    record {
-      size = refl;
-      some = omega arith;
-      upto = omega arith;
-      grown = omega arith;
-      few = few;
-      list = ap (λ n. expand (rule_graph R) (rule_tests R) s 1 n (list_in w k)) e;
-      row = λ b l m. absurd (omega arith);
-      states = λ i l. refl;
-      words = λ j l n. refl;
-      high = λ j l. refl;
-      stocked = stocked;
-    }
 
 -- what the table tells of another latency stays
 target_kept : {w w' : List ℕ} {R : Rules} {k r : ℕ} {s : State} {at b : ℕ} → k ≤ r → arc_word w' at b ≡ arc_word w at b
@@ -138,9 +121,6 @@ module _ (w : List ℕ) (R : Rules) (k at : ℕ) (ready : Listable w k at) (word
 
   mark_list : list_in w₁ k ≡ list_in w k
   mark_list = list_same w w₁ k (λ i l. mark_state i (omega (arith, ready.few)))
-
-  pub mark_stocked : Stocked w₁ k
-  mark_stocked i l = subst (λ (x : State). x.position < 8) (sym (mark_state i (omega (arith, ready.few)))) (ready.stocked i l)
 
   module _ (s : State) (is : s ≡ state_of w at) (mask : word ≡ masked R s) where
     list_back : expanded R s (list_in w₁ k) ≡ expanded R (state_of w at) (list_in w k)

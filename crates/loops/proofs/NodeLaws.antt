@@ -17,7 +17,6 @@ use Rattle.collision.specs.Pipeline.{total}
 use Rattle.collision.specs.Vector.{largest_column}
 use Rattle.controller.specs.Bank.{register, row_for}
 use Rattle.controller.proofs.TickLaws.{granted_bit, bit_granted, register_below}
-use Rattle.diagram.specs.Diagram.{Permits}
 use Rattle.diagram.specs.Work.{state_in}
 use Rattle.graphs.specs.Graph.{Graph, Walk, stay, step, Reachable, states_along, CycleAt}
 use Rattle.graphs.proofs.Listing.{states_distinct, states_reached, list_extends}
@@ -27,11 +26,11 @@ use Rattle.mean_cycle.specs.Nodes.{arc_word, Arc, NodeWalk, rest, onward, Least,
 use Rattle.mean_cycle.specs.Table.{TableGraph, tabled}
 use Rattle.mean_cycle.proofs.Cycles.{spell, cycle_spell, total_spell}
 use Rattle.loops.specs.declared.State.{State}
-use Rattle.loops.specs.declared.Rules.{Rules}
+use Rattle.loops.specs.declared.rules.Rules.{Rules}
 use Rattle.loops.specs.Loop.{Loop}
 use Rattle.loops.specs.Steps.{ShortStep, following, next_tag, first_state, stepped, arc_graph}
 use Rattle.loops.specs.Best.{BestLoop}
-use Rattle.loops.specs.Inner.{Sane, RulesOf, position_after, masked, advanced, rule_arc, rule_first, RuleStep, rule_graph, rule_tests, rule_states, state_of, Explored}
+use Rattle.loops.specs.Inner.{RulesOf, position_after, masked, advanced, rule_arc, rule_first, RuleStep, rule_graph, rule_tests, rule_states, state_of, Explored}
 use Rattle.loops.proofs.BankLaws.{started_value}
 use Rattle.loops.proofs.StepLaws.{Kept, kept_arcs}
 use Rattle.loops.proofs.BestLaws.{to_start, best_loop}
@@ -169,7 +168,7 @@ module _ (u : FunctionUnit) (tags : List ℕ) (loop : Loop u tags) (R : Rules) (
 
   -- The nodes
 
-  module _ (sound : sound_of u ≡ true) (sane : Sane R) (w₀ w : List ℕ) (r : ℕ) (h : Explored w₀ w R r) (few : r ≤ 256) (room : 11264 ≤ length w₀) where
+  module _ (sound : sound_of u ≡ true) (w₀ w : List ℕ) (r : ℕ) (h : Explored w₀ w R r) (few : r ≤ 256) (room : 11264 ≤ length w₀) where
     node_at : (v : ℕ) → v < r → state_of w v ≡ get_or (rule_states R) v (rule_first R)
     node_at v l = sym (list_at w (rule_first R) r v l) ∙ ap (λ (m : List State). get_or m v (rule_first R)) (h.list few)
 
@@ -206,7 +205,7 @@ module _ (u : FunctionUnit) (tags : List ℕ) (loop : Loop u tags) (R : Rules) (
       some = h.some;
       few = few;
       room = omega (arith, h.size, room);
-      slim = sane.slim;
+      slim = R.slim;
       narrow = node_narrow;
       targets = λ a l.
           let v : ℕ = a / 32 in
@@ -238,7 +237,7 @@ module _ (u : FunctionUnit) (tags : List ℕ) (loop : Loop u tags) (R : Rules) (
     step_arc v t l p =
         let q = step_rule (state_of w v) t p in
         let low = q.least in
-        let top : t ≤ 32 = omega (arith, q.most, sane.slim) in
+        let top : t ≤ 32 = omega (arith, q.most, R.slim) in
         record {
           leaves = l;
           enters = ((h.done few v l).row t q.least top).inside;

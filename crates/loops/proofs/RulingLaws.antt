@@ -1,31 +1,27 @@
 -- The rules of a loop are made right. Assumes nothing.
-use mathlib.Core.Path.{◌≡◌, refl, sym, ap, ap₂, ◌∙◌, subst}
-use mathlib.Core.Bool.{true, false}
+use mathlib.Core.Path.{◌≡◌, refl, sym, ap, ap₂, ◌∙◌}
+use mathlib.Core.Bool.{true, ◌&&◌}
 use mathlib.Core.List.{List, [], ◌∷◌}
-use Prim.Native.Nat.{ℕ, zero, suc, ◌+◌, ◌-◌, ◌*◌, ◌/◌, ◌%◌, ◌≤◌, ◌<◌, max}
+use Prim.Native.Nat.{ℕ, zero, suc, ◌+◌, ◌*◌, ◌/◌, ◌%◌, ◌≤◌, ◌<◌, max}
 use native.Mathlib.Nat.{not-suc-le-zero, le_of_suc-le-suc}
 use native.Mathlib.Numerals.{add-one}
 use native.Mathlib.Omega.{arith}
-use borrow.Author.Count.{below_more}
-use borrow.Author.Tests.{le-leb}
-use lib.ListN.{length, get_or, set}
-use lib.Seq.{get_or-set_same, get_or-set_other}
+use lib.ListN.{length, get_or}
+use Rattle.std.specs.List.{list_all}
 use Rattle.words.specs.Bits.{is_set}
 use Rattle.words.specs.Below.{max_below, span_below, word_below}
-use Rattle.words.proofs.Tests.{not_passed, and_left, and_right, and_true}
+use Rattle.words.proofs.Tests.{and_left, and_right, and_true}
 use Rattle.words.proofs.BelowLaws.{span_same, word_set}
 use Rattle.unit.specs.declared.FunctionUnit.{FunctionUnit}
 use Rattle.unit.specs.Table.{Table}
 use Rattle.unit.specs.Unit.{marked, inside, columns_of}
-use Rattle.unit.proofs.Laws.{within}
 use Rattle.collision.specs.Vector.{collides, row_word, row_of_columns, largest_column}
 use Rattle.collision.proofs.RowLaws.{row_columns}
-use Rattle.collision.proofs.MatrixLaws.{largest_31}
 use Rattle.controller.specs.Bank.{row_for}
 use Rattle.diagram.specs.Diagram.{width}
-use Rattle.loops.specs.declared.Rules.{Rules}
+use Rattle.loops.specs.declared.rules.Rules.{Rules}
 use Rattle.loops.specs.Answers.{all_tags}
-use Rattle.loops.specs.Inner.{RowsOf, TagsOf, Ruled}
+use Rattle.loops.specs.Inner.{RowsOf, TagsOf, RulesOf}
 
 -- n
 
@@ -57,13 +53,6 @@ largest_is T n e = e
 
 -- Tags
 
-pub tags_more : (u : FunctionUnit) (tags : List ℕ) (i tag : ℕ)
-    → ((j : ℕ) → j < i → inside (get_or tags j 0) u.functions ≡ true) → tag ≡ get_or tags i 0 → (tag ≡ 0 → ⊥) → tag ≤ u.functions
-    → (j : ℕ) → j < i + 1 → inside (get_or tags j 0) u.functions ≡ true
-tags_more u tags i tag h e nz le =
-    below_more (λ (j : ℕ). inside (get_or tags j 0) u.functions ≡ true) i h
-    (subst (λ (t : ℕ). inside t u.functions ≡ true) e (and_true (le-leb 1 tag (omega arith)) (le-leb tag u.functions le)))
-
 pub all_known : (u : FunctionUnit) (tags : List ℕ) → all_tags u tags ≡ true → (i : ℕ) → i < length tags → inside (get_or tags i 0) u.functions ≡ true
 all_known u [] e i l = absurd (not-suc-le-zero l)
 all_known u (t ∷ tags) e zero l = and_left (inside t u.functions) _ e
@@ -73,31 +62,20 @@ pub all_tags_lem : (u : FunctionUnit) (tags : List ℕ) → ((i : ℕ) → i < l
 all_tags_lem u [] h = refl
 all_tags_lem u (t ∷ tags) h = and_true (h 0 (omega arith)) (all_tags_lem u tags (λ i l. h (suc i) (omega arith)))
 
-pub tags_wrong : (u : FunctionUnit) (tags : List ℕ) (i tag : ℕ) → i < length tags → tag ≡ get_or tags i 0 → ((1 ≤ tag) × (tag ≤ u.functions) → ⊥)
-    → false ≡ all_tags u tags
-tags_wrong u tags i tag l e bad = sym (not_passed (all_tags u tags) (λ h.
-    let w = within tag u.functions (subst (λ (t : ℕ). inside t u.functions ≡ true) (sym e) (all_known u tags h i l)) in
-    bad (w.least, w.most)))
-
--- Lists filled place by place
-
-pub fill_more : (f : ℕ → ℕ) (l : List ℕ) (i x : ℕ) → i < length l → ((j : ℕ) → j < i → get_or l j 0 ≡ f j) → x ≡ f i → (j : ℕ) → j < i + 1 → get_or (set l i x) j 0 ≡ f j
-fill_more f l i x h g e =
-    below_more (λ (j : ℕ). get_or (set l i x) j 0 ≡ f j) i (λ j k. get_or-set_other l i j x 0 (λ z. omega arith) ∙ g j k) (get_or-set_same l i x 0 h ∙ e)
+pub all_tags_list : (u : FunctionUnit) (tags : List ℕ) → list_all (λ t. inside t u.functions) tags ≡ all_tags u tags
+all_tags_list u [] = refl
+all_tags_list u (t ∷ tags) = ap (λ b. inside t u.functions && b) (all_tags_list u tags)
 
 -- The rules
 
-pub ruled : (u : FunctionUnit) (tags : List ℕ) (R : Rules) → 1 ≤ length tags → length tags ≤ 8 → RowsOf u tags R.rows → TagsOf tags R.tags
-    → R.count ≡ length tags → R.width ≡ largest_column (marked u) → Ruled u tags R
-ruled u tags R some few rows copied count wide = record {
-  rules = record {
-    rows = λ p r h k.
-        let d : (p * 4 + r) / 4 ≡ p = omega arith in
-        let m : (p * 4 + r) % 4 + 1 ≡ r + 1 = omega arith in
-        rows.each (p * 4 + r) (omega arith) ∙ ap₂ (λ (a b : ℕ). row_for u (get_or tags a 0) b) d m;
-    tag = copied.each;
-    count = count;
-    width = wide;
-  };
-  sane = record { some = omega arith; few = omega arith; slim = omega (arith, largest_31 u) };
+pub ruled : (u : FunctionUnit) (tags : List ℕ) (R : Rules) → RowsOf u tags R.rows → TagsOf tags R.tags → R.count ≡ length tags
+    → R.width ≡ largest_column (marked u) → RulesOf u tags R
+ruled u tags R rows copied count wide = record {
+  rows = λ p r h k.
+      let d : (p * 4 + r) / 4 ≡ p = omega arith in
+      let m : (p * 4 + r) % 4 + 1 ≡ r + 1 = omega arith in
+      rows.each (p * 4 + r) (omega arith) ∙ ap₂ (λ (a b : ℕ). row_for u (get_or tags a 0) b) d m;
+  tag = copied.each;
+  count = count;
+  width = wide;
 }

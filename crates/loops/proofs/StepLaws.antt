@@ -12,9 +12,9 @@ use Rattle.unit.specs.declared.FunctionUnit.{FunctionUnit}
 use Rattle.unit.specs.Unit.{marked, inside, sound_of}
 use Rattle.unit.proofs.Laws.{Within, within, sound_has}
 use Rattle.collision.specs.Vector.{largest_column}
-use Rattle.controller.specs.Bank.{register, empty, ticked, started, granted}
+use Rattle.controller.specs.Bank.{register, empty, ticked, started}
 use Rattle.controller.proofs.TickLaws.{Below, ticked_below, started_below, empty_below, register_below, bit_granted}
-use Rattle.graphs.specs.Graph.{step, Reachable}
+use Rattle.graphs.specs.Graph.{Reachable}
 use Rattle.graphs.proofs.Walks.{run, state_at, reach_keeps}
 use Rattle.loops.specs.Loop.{Loop, tag_at}
 use Rattle.loops.specs.declared.State.{State}

@@ -3,21 +3,20 @@ use mathlib.Core.Path.{◌≡◌, refl, sym, ap, ◌∙◌, subst}
 use mathlib.Core.Bool.{Bool, true, false, cond, not}
 use mathlib.Core.Logic.{◌⊎◌, inl, inr, ⊎_elim}
 use mathlib.Core.List.{List}
-use Prim.Native.Nat.{ℕ, zero, suc, ◌+◌, ◌-◌, ◌*◌, ◌≤◌, ◌<◌}
+use Prim.Native.Nat.{ℕ, suc, ◌+◌, ◌-◌, ◌*◌, ◌≤◌, ◌<◌}
 use native.Mathlib.Numerals.{add-one}
 use native.Mathlib.Decide.{dec_lt, dec_le}
 use native.Mathlib.Omega.{arith}
 use borrow.Author.Tests.{le-leb, lt-leb}
-use borrow.Author.Count.{below_more}
 use lib.ListN.{length, get_or, set, length-set}
 use lib.Seq.{get_or-set_same, get_or-set_other}
 use Rattle.words.specs.Bits.{is_set}
 use Rattle.words.proofs.Tests.{nowhere}
 use Rattle.graphs.specs.States.{Right, add}
 use Rattle.loops.specs.declared.State.{State}
-use Rattle.loops.specs.declared.Rules.{Rules}
+use Rattle.loops.specs.declared.rules.Rules.{Rules}
 use Rattle.loops.specs.Steps.{same_state}
-use Rattle.loops.specs.Inner.{Sane, masked, advanced, rule_arc, rule_graph, rule_tests, state_of, put_state, list_in, Placed, Included, Stocked, Led, visited, Turned}
+use Rattle.loops.specs.Inner.{masked, advanced, rule_arc, rule_graph, rule_tests, state_of, list_in, Placed, Included, Stocked, Led, visited, Turned}
 use Rattle.loops.proofs.StateLaws.{same_state_lem, state_same}
 use Rattle.loops.proofs.RuleLaws.{position_low}
 use Rattle.loops.proofs.StoreLaws.{put_size, put_low, put_high, put_state_lem, put_state_other, state_kept, list_same, included_old, included_new, included_full}
@@ -27,55 +26,6 @@ rule_right R = record {
   same = λ x y. (same_state_lem x y, λ e. subst (λ (z : State). same_state x z ≡ true) e (state_same x));
   arc = λ s t h k e. record { least = h; most = k; free = e };
   permits = λ s t p. (p.least, p.most, p.free);
-}
-
--- Finding
-
-pub found_at : (w : List ℕ) (k : ℕ) (s t : State) (r : ℕ) → r < k → t ≡ state_of w r → t ≡ s → Placed w k s r
-found_at w k s t r l e f = record { most = omega arith; there = λ m. sym e ∙ f; none = λ m. absurd (omega arith) }
-
-pub found_none : (w : List ℕ) (k : ℕ) (s : State) → ((j : ℕ) → j < k → state_of w j ≡ s → ⊥) → Placed w k s k
-found_none w k s h = record { most = omega arith; there = λ m. absurd (omega arith); none = λ m. h }
-
-pub found_more : (w : List ℕ) (s t : State) (i : ℕ) → ((j : ℕ) → j < i → state_of w j ≡ s → ⊥) → t ≡ state_of w i → (t ≡ s → ⊥)
-    → (j : ℕ) → j < i + 1 → state_of w j ≡ s → ⊥
-found_more w s t i h e n = below_more (λ (j : ℕ). state_of w j ≡ s → ⊥) i h (λ f. n (e ∙ f))
-
--- Including
-
-pub include_old : {w : List ℕ} {k : ℕ} {s : State} {r : ℕ} → Placed w k s r → r < k → Included w w k s r
-include_old p l = record { placed = p; old = λ m. refl; new = λ m n. absurd (omega arith); full = λ m n. refl }
-
-pub include_new : {w w' : List ℕ} {k : ℕ} {s : State} {r : ℕ} → Placed w k s r → k ≤ r → k < 256 → w' ≡ put_state w k s → Included w w' k s k
-include_new {w} {w'} {k} {s} {r} p l m e = record {
-  placed = found_none w k s (p.none l);
-  old = λ n. absurd (omega arith);
-  new = λ a b. e;
-  full = λ a b. absurd (omega arith);
-}
-
-pub include_full : {w : List ℕ} {k : ℕ} {s : State} {r : ℕ} → Placed w k s r → k ≤ r → 256 ≤ k → Included w w k s k
-include_full {w} {k} {s} p l m = record {
-  placed = found_none w k s (p.none l);
-  old = λ n. absurd (omega arith);
-  new = λ a b. absurd (omega arith);
-  full = λ a b. refl;
-}
-
--- Leading on
-
-pub led_long : (w : List ℕ) (R : Rules) (k : ℕ) (s : State) (word t : ℕ) → R.width + 1 < t → Led w w R k s word t 0
-led_long w R k s word t h = record { long = λ l. (refl, refl); barred = λ e l. absurd (omega arith); led = λ e l. absurd (omega arith) }
-
-pub led_barred : (w : List ℕ) (R : Rules) (k : ℕ) (s : State) (word t : ℕ) → is_set word (t - 1) ≡ true → Led w w R k s word t 0
-led_barred w R k s word t b = record { long = λ l. (refl, refl); barred = λ e l. (refl, refl); led = λ e l. nowhere (sym e ∙ b) }
-
-pub led_on : {w w' : List ℕ} {R : Rules} {k : ℕ} {s next : State} (word : ℕ) {t r : ℕ} → t ≤ R.width + 1 → is_set word (t - 1) ≡ false
-    → next ≡ advanced R s t → Included w w' k next r → Led w w' R k s word t r
-led_on {w} {w'} {R} {k} {s} {next} word {t} {r} h b e i = record {
-  long = λ l. absurd (omega arith);
-  barred = λ e l. nowhere (sym b ∙ e);
-  led = λ a l. subst (λ (x : State). Included w w' k x r) e i;
 }
 
 -- One latency
@@ -217,7 +167,7 @@ module _ (w : List ℕ) (slot x : ℕ) (low : slot < 9984) where
   note_state : (i : ℕ) → i < 256 → state_of (set w slot x) i ≡ state_of w i
   note_state i l = state_kept w (set w slot x) (λ j a b. note_other j (λ e. omega arith)) i l
 
-module _ (w w₁ : List ℕ) (R : Rules) (k : ℕ) (s : State) (at t x : ℕ) (m : Made w w₁ R k s t x) (sane : Sane R) (inside : at < k) (few : k ≤ 256)
+module _ (w w₁ : List ℕ) (R : Rules) (k : ℕ) (s : State) (at t x : ℕ) (m : Made w w₁ R k s t x) (inside : at < k) (few : k ≤ 256)
     (room : 11264 ≤ length w) (t_some : 1 ≤ t) (t-few : t ≤ 32) where
   slot : ℕ
   slot = 1791 + at * 32 + t
@@ -294,4 +244,4 @@ module _ (w w₁ : List ℕ) (R : Rules) (k : ℕ) (s : State) (at t x : ℕ) (m
           let q : i ≡ k = omega arith in
           subst (λ (y : State). y.position < 8)
           (sym (ap (state_of (set w₁ slot x)) q ∙ note_state w₁ slot x slot_low k (omega arith) ∙ (m.new l (omega arith)).1))
-          (position_low R s.position sane)
+          (position_low R s.position)

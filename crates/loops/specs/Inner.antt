@@ -1,12 +1,11 @@
 -- What the private functions promise each other; no public contract cites this file.
-use Rattle.std.specs.Prelude.{◌≡◌, Bool, true, false, cond, not, List, [], ◌∷◌, ◌++◌, ℕ, zero, suc, ◌+◌, ◌-◌, ◌*◌, ◌/◌, ◌%◌, ◌^◌, ◌≤◌, ◌<◌, leb, length, get_or, set, take, drop}
+use Rattle.std.specs.Prelude.{◌≡◌, Bool, true, false, cond, not, List, [], ◌∷◌, ◌++◌, ℕ, zero, suc, ◌+◌, ◌-◌, ◌*◌, ◌/◌, ◌%◌, ◌^◌, ◌≤◌, ◌<◌, leb, length, get_or, set, take, drop, Result, Ok}
 use Rattle.std.specs.Int.Bits.{bit_or}
 use Rattle.words.specs.Bits.{is_set}
 use Rattle.unit.specs.declared.FunctionUnit.{FunctionUnit}
+use Rattle.unit.specs.declared.Plan.{Plan}
 use Rattle.unit.specs.declared.Refusal.{Refusal}
-use Rattle.unit.specs.declared.Answer.TheVariants.{Done, Refused}
 use Rattle.unit.specs.Unit.{marked, sound_of}
-use Rattle.unit.specs.Calls.{no_plan}
 use Rattle.collision.specs.Pipeline.{total}
 use Rattle.collision.specs.Vector.{largest_column}
 use Rattle.controller.specs.declared.Bank.{Bank}
@@ -14,10 +13,10 @@ use Rattle.controller.specs.Bank.{register, empty, row_for}
 use Rattle.graphs.specs.Graph.{Graph}
 use Rattle.graphs.specs.States.{Tests, add, expand, states}
 use Rattle.mean_cycle.specs.declared.Cycle.{Cycle}
-use Rattle.planner.specs.declared.Handed.{Handed}
+use Rattle.planner.specs.Plans.{answer_of}
 use Rattle.mean_cycle.specs.Nodes.{arc_word}
 use Rattle.loops.specs.declared.State.{State}
-use Rattle.loops.specs.declared.Rules.{Rules}
+use Rattle.loops.specs.declared.rules.Rules.{Rules}
 use Rattle.loops.specs.Loop.{Loop}
 use Rattle.loops.specs.Steps.{same_state}
 use Rattle.loops.specs.Answers.{few_loop_states, LoopFound}
@@ -32,21 +31,12 @@ pub record TagsOf (tags copied : List ℕ) : Type 0 where
 
 -- Steps by the rules
 
-pub record Sane (R : Rules) : Type 0 where
-  pub some : 1 ≤ R.count
-  pub few : R.count ≤ 8
-  pub slim : R.width ≤ 31
-
 -- the rules are those of a loop
 pub record RulesOf (u : FunctionUnit) (tags : List ℕ) (R : Rules) : Type 0 where
   pub rows : (p r : ℕ) → p < length tags → r < 4 → get_or R.rows (p * 4 + r) 0 ≡ row_for u (get_or tags p 0) (r + 1)
   pub tag : (p : ℕ) → p < length tags → get_or R.tags p 0 ≡ get_or tags p 0
   pub count : R.count ≡ length tags
   pub width : R.width ≡ largest_column (marked u)
-
-pub record Ruled (u : FunctionUnit) (tags : List ℕ) (R : Rules) : Type 0 where
-  pub rules : RulesOf u tags R
-  pub sane : Sane R
 
 abbrev pub position_after : Rules → ℕ → ℕ
 position_after R p = (p + 1) % R.count
@@ -223,9 +213,8 @@ pub record Checked (u : FunctionUnit) (tags work : List ℕ) : Type 0 where
   pub loop : Loop u tags
   pub room : 16000 ≤ length work
 
-pub record Sought (u : FunctionUnit) (tags before after : List ℕ) (r : Handed) : Type 0 where
+pub record Sought (u : FunctionUnit) (tags before after : List ℕ) (r : Result Plan Refusal) : Type 0 where
   pub size : length after ≡ length before
   pub beyond : (j : ℕ) → 16000 ≤ j → get_or after j 0 ≡ get_or before j 0
-  pub says : r.answer ≡ few_loop_states u tags
-  pub found : r.answer ≡ Done → LoopFound u tags r.plan
-  pub none : (why : Refusal) → r.answer ≡ Refused why → r.plan ≡ no_plan
+  pub says : answer_of r ≡ few_loop_states u tags
+  pub found : (p : Plan) → r ≡ Ok p → LoopFound u tags p

@@ -4,38 +4,27 @@
 
 ghost use Rattle.std.specs.Prelude.{◌≡◌, ◌++◌, ◌-◌, ◌<◌, length, replicate};
 ghost use Rattle.unit.specs.Unit.{inside};
-ghost use Rattle.unit.specs.Calls.{no_plan};
 ghost use Rattle.graphs.specs.Rotation.{rotate};
 ghost use Rattle.planner.specs.Plans.{plan_of};
 ghost use Rattle.loops.specs.Answers.{LoopPromise};
 ghost use Rattle.loops.specs.Inner.{cycle_in, Standing, Turnable, turn_of, Checked, Sought};
 
 mod listing;
+mod rules;
 mod ruling;
 mod store;
 
 use controller::Bank;
 use listing::explore;
 use mean_cycle::Cycle;
-use planner::Handed;
 use ruling::{known_tags, rules_of};
-use unit::{Answer, FunctionUnit, Plan, Refusal};
+use unit::{FunctionUnit, Plan, Refusal};
 
 // A state of a loop: a position in its list of tags, with the bank just after the start of that tag.
 #[derive(Clone, Copy)]
 pub struct State {
     pub position: u32,
     pub bank: Bank,
-}
-
-// What the steps of a loop go by: for each position the rows that its tag brings into the four registers, and the tag; how many positions there are;
-// and the largest column with a 1 in any matrix.
-#[derive(Clone, Copy)]
-pub struct Rules {
-    pub rows: [u32; 32],
-    pub tags: [u8; 8],
-    pub count: u32,
-    pub width: u32,
 }
 
 // The latencies that stand in the working words from 1536 on, from one of them on, going round, as bytes; the rest are 0.
@@ -45,11 +34,10 @@ fn turned(work: &[u32], count: usize, first: usize) -> [u8; 256]
     ensures { result ≡ rotate (cycle_in work.now count) first ++ replicate (256 - count) 0 }
 {
     let mut bytes = [0u8; 256];
-    let mut i: usize = 0;
-    while i < count {
-        bytes[i] = work[1536 + (first + i) % count] as u8;
-        i += 1;
+    for i in 0..count {
+        bytes[i] = work[1536 + i] as u8;
     }
+    bytes[..count].rotate_left(first);
     bytes
 }
 
@@ -71,37 +59,22 @@ fn plan_of(work: &[u32], length: usize, cycle: Cycle) -> Plan
     }
 }
 
-// No latencies, and why.
-fn refused(why: Refusal) -> Handed
-    ensures { (result.answer ≡ Answer.Refused why) × (result.plan ≡ no_plan) }
-{
-    let plan = unit::no_plan();
-    Handed {
-        answer: Answer::Refused(why),
-        plan,
-    }
-}
-
 // The search, on a unit and a list that are in order.
-fn seek(u: FunctionUnit, tags: &[u8], work: &mut [u32]) -> Handed
+fn seek(u: FunctionUnit, tags: &[u8], work: &mut [u32]) -> Result<Plan, Refusal>
     requires { Checked u tags.now work.old }
     ensures { Sought u tags.now work.old work.new result }
 {
     let rules = rules_of(u, tags);
-    let count = explore(work, rules);
+    let count = explore(work, &rules);
     if 256 < count {
-        return refused(Refusal::TooManyStates);
+        return Err(Refusal::TooManyStates);
     }
     let width = rules.width;
     let least = mean_cycle::least_table_cycle(count, width, work);
-    let mean_cycle::Answer::Found(cycle) = least else {
-        return refused(Refusal::TooManyStates);
+    let Some(cycle) = least else {
+        return Err(Refusal::TooManyStates);
     };
-    let plan = plan_of(work, tags.len(), cycle);
-    Handed {
-        answer: Answer::Done,
-        plan,
-    }
+    Ok(plan_of(work, tags.len(), cycle))
 }
 
 // Whether a list of so many tags is neither empty nor too long.
@@ -117,20 +90,20 @@ fn is_loop(count: usize) -> bool
 }
 
 // The latencies of least average at which the tags can be issued, in that order, without end, or why there are none.
-pub fn search(u: FunctionUnit, tags: &[u8], work: &mut [u32]) -> Handed
+pub fn search(u: FunctionUnit, tags: &[u8], work: &mut [u32]) -> Result<Plan, Refusal>
     ensures { LoopPromise u tags.now work.old work.new result }
 {
     if !unit::sound(u) {
-        return refused(Refusal::NotSound);
+        return Err(Refusal::NotSound);
     }
     if !is_loop(tags.len()) {
-        return refused(Refusal::BadLoop);
+        return Err(Refusal::BadLoop);
     }
     if !known_tags(u, tags) {
-        return refused(Refusal::NoSuchTag);
+        return Err(Refusal::NoSuchTag);
     }
     if work.len() < 16000 {
-        return refused(Refusal::ShortWork);
+        return Err(Refusal::ShortWork);
     }
     seek(u, tags, work)
 }

@@ -5,9 +5,9 @@ ghost use Rattle.words.specs.Below.{max_below, span_below};
 ghost use Rattle.unit.specs.Unit.{marked};
 ghost use Rattle.collision.specs.Vector.{collides, largest_column};
 ghost use Rattle.loops.specs.Answers.{all_tags};
-ghost use Rattle.loops.specs.Inner.{RowsOf, TagsOf, Ruled};
+ghost use Rattle.loops.specs.Inner.{RowsOf, TagsOf, RulesOf};
 
-use crate::Rules;
+use crate::rules::Rules;
 use unit::{FunctionUnit, Tag};
 
 fn larger(a: u32, b: u32) -> u32
@@ -34,11 +34,9 @@ fn span_of(u: FunctionUnit, q: u8) -> u32
     ensures { result ≡ max_below 5 (λ r. span_below 32 (λ k. collides (marked u) q r (k + 1))) }
 {
     let mut best = 0;
-    let mut r: u8 = 0;
-    while r < 5 {
+    for r in 0..5 {
         let one = span(u, q, r);
         best = larger(one, best);
-        r += 1;
     }
     best
 }
@@ -48,11 +46,9 @@ fn widest(u: FunctionUnit) -> u32
     ensures { result ≡ largest_column (marked u) }
 {
     let mut best = 0;
-    let mut q: u8 = 0;
-    while q < 5 {
+    for q in 0..5 {
         let one = span_of(u, q);
         best = larger(one, best);
-        q += 1;
     }
     best
 }
@@ -61,19 +57,7 @@ fn widest(u: FunctionUnit) -> u32
 pub fn known_tags(u: FunctionUnit, tags: &[u8]) -> bool
     ensures { result ≡ all_tags u tags.now }
 {
-    let count = tags.len();
-    let mut i = 0;
-    while i < count {
-        let tag = tags[i];
-        if tag == 0 {
-            return false;
-        }
-        if u.functions < tag {
-            return false;
-        }
-        i += 1;
-    }
-    true
+    tags.iter().all(|tag| 0 < *tag && *tag <= u.functions)
 }
 
 // For each position the rows that its tag brings into the four registers.
@@ -83,12 +67,10 @@ fn rows_of(u: FunctionUnit, tags: &[u8]) -> [u32; 32]
 {
     let end = tags.len() * 4;
     let mut rows = [0u32; 32];
-    let mut a = 0;
-    while a < end {
+    for a in 0..end {
         let q = tags[a / 4];
         let r = (a % 4 + 1) as u8;
         rows[a] = controller::row_for(u, Tag(q), Tag(r));
-        a += 1;
     }
     rows
 }
@@ -98,19 +80,14 @@ fn tags_of(tags: &[u8]) -> [u8; 8]
     requires { length tags.now ≤ 8 }
     ensures { TagsOf tags.now result }
 {
-    let count = tags.len();
     let mut copied = [0u8; 8];
-    let mut i = 0;
-    while i < count {
-        copied[i] = tags[i];
-        i += 1;
-    }
+    copied[..tags.len()].copy_from_slice(tags);
     copied
 }
 
 pub fn rules_of(u: FunctionUnit, tags: &[u8]) -> Rules
     requires { (1 ≤ length tags.now) × (length tags.now ≤ 8) }
-    ensures { Ruled u tags.now result }
+    ensures { RulesOf u tags.now result }
 {
     let rows = rows_of(u, tags);
     let copied = tags_of(tags);

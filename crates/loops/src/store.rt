@@ -66,13 +66,11 @@ fn find(work: &[u32], count: usize, s: State) -> usize
     requires { (count ≤ 256) × (11264 ≤ length work.now) }
     ensures { Placed work.now count s result }
 {
-    let mut i = 0;
-    while i < count {
+    for i in 0..count {
         let t = get(work, i);
         if same(t, s) {
             return i;
         }
-        i += 1;
     }
     count
 }

@@ -1,8 +1,9 @@
 -- What the search answers: where it says no, and that a listed diagram is what the search works on. Assumes nothing.
+use Rattle.std.proofs.Common.{Some, None}
 use mathlib.Core.Path.{◌≡◌, refl, sym, ap, subst, ◌∙◌}
 use mathlib.Core.Bool.{Bool, true, false, cond, ◌&&◌}
 use mathlib.Core.List.{List, [], ◌∷◌}
-use Prim.Native.Nat.{ℕ, ◌-◌, ◌^◌, ◌≤◌, ◌<◌}
+use Prim.Native.Nat.{ℕ, ◌^◌, ◌≤◌, ◌<◌}
 use native.Mathlib.Decide.{dec_le}
 use native.Mathlib.Omega.{arith}
 use lib.Dec.{leb}
@@ -18,7 +19,6 @@ use Rattle.diagram.proofs.WidthLaws.{width_31}
 use Rattle.diagram.proofs.StateLaws.{states_width}
 use Rattle.diagram.proofs.Listing.{list_extends, states_distinct, states_reached, states_closed}
 use Rattle.mean_cycle.specs.declared.Cycle.{Cycle}
-use Rattle.mean_cycle.specs.declared.Answer.TheVariants.{No, Found}
 use Rattle.collision.specs.Pipeline.{total}
 use Rattle.mean_cycle.specs.Mean.{found, LeastMean, searchable, is_found, Searched}
 use Rattle.mean_cycle.specs.Nodes.{Least, cyc}
@@ -48,10 +48,10 @@ answer_many room cv l = rw (lt-leb (size cv) 256 l) (go (leb 768 room))
 
 -- No
 
-no_cycle : {P : Type 0} {c : Cycle} → No ≡ Found c → P
+no_cycle : {P : Type 0} {c : Cycle} → None ≡ Some c → P
 no_cycle e = nowhere (ap is_found e)
 
-unsearched : (cv : ℕ) (w : List ℕ) → false ≡ searchable (length w) 1 cv → Searched 1 cv w w No
+unsearched : (cv : ℕ) (w : List ℕ) → false ≡ searchable (length w) 1 cv → Searched 1 cv w w None
 unsearched cv w e =
     record {
       answer = e;
@@ -62,11 +62,11 @@ unsearched cv w e =
       wide = λ l. refl;
     }
 
-pub searched_short : (cv : ℕ) (w : List ℕ) → length w < 2048 → Searched 1 cv w w No
+pub searched_short : (cv : ℕ) (w : List ℕ) → length w < 2048 → Searched 1 cv w w None
 unfolding searchable
 searched_short cv w h = unsearched cv w (rw (lt-leb 2048 (length w) h))
 
-pub searched_wide : (cv : ℕ) (w : List ℕ) → 2147483648 ≤ cv → Searched 1 cv w w No
+pub searched_wide : (cv : ℕ) (w : List ℕ) → 2147483648 ≤ cv → Searched 1 cv w w None
 unfolding searchable
 searched_wide cv w h = unsearched cv w (rw (le-ltb cv 2147483648 h) (go (leb 2048 (length w))))
   where
@@ -75,7 +75,7 @@ searched_wide cv w h = unsearched cv w (rw (le-ltb cv 2147483648 h) (go (leb 204
     go false = refl
 
 module _ (cv : ℕ) (before w : List ℕ) (r : ℕ) (room : 2048 ≤ length before) (low : cv < 2147483648) (h : Enlisted 1 cv before w r) where
-  pub searched_many : r ≡ 0 → Searched 1 cv before w No
+  pub searched_many : r ≡ 0 → Searched 1 cv before w None
   unfolding searchable
   searched_many z =
       let many : 256 < size cv =
@@ -171,10 +171,10 @@ module _ (cv : ℕ) (before w : List ℕ) (r : ℕ) (room : 2048 ≤ length befo
             floor = record { bound = l.floor.bound; every = λ k e walk. let m = walk_nodes listing walk 0 listing.some first in l.floor.every k m.0 m.1 };
           }
 
-      same_cycle : (c : Cycle) → Found best ≡ Found c → best ≡ c
+      same_cycle : (c : Cycle) → Some best ≡ Some c → best ≡ c
       same_cycle c e = cc
 
-      searched_least : Searched 1 cv before after (Found best)
+      searched_least : Searched 1 cv before after (Some best)
       unfolding searchable
       searched_least =
           record {
@@ -191,5 +191,5 @@ module _ (cv : ℕ) (before w : List ℕ) (r : ℕ) (room : 2048 ≤ length befo
       pub listing_counted : Listing w (ruled r n cv)
       listing_counted = subst (λ (k : ℕ). Listing w (ruled r k cv)) (sym counted) listing
 
-      pub searched_found : (after : List ℕ) (best : Cycle) → Least w after (ruled r n cv) best → Searched 1 cv before after (Found best)
+      pub searched_found : (after : List ℕ) (best : Cycle) → Least w after (ruled r n cv) best → Searched 1 cv before after (Some best)
       searched_found after best l = searched_least after best (subst (λ (k : ℕ). Least w after (ruled r k cv) best) counted l)

@@ -26,16 +26,6 @@ pub record Copying (w₀ w : List ℕ) (from to sum j : ℕ) : Type 0 where
   pub total : sum ≡ sum_to (cyc w) j
   pub small : sum ≤ 32 * j
 
-pub copy_start : (w : List ℕ) (from to : ℕ) → Copying w w from to 0 0
-copy_start w from to =
-    record {
-      within = record { size = refl; below = λ i l. refl; above = λ i l. refl };
-      upto = omega arith;
-      spelled = λ i l. absurd (not-suc-le-zero l);
-      total = refl;
-      small = omega arith;
-    }
-
 copy_label : {w₀ w : List ℕ} {from to sum j : ℕ} → Copyable w₀ from to → Copying w₀ w from to sum j → j < to - from → get_or w (1280 + from + j) 0 ≡ label w₀ (from + j)
 copy_label {w₀} {w} {from} {to} {sum} {j} h c l =
     let e : 1280 + from + j ≡ 1280 + (from + j) = omega arith in
@@ -43,23 +33,6 @@ copy_label {w₀} {w} {from} {to} {sum} {j} h c l =
 
 copy_small : {w₀ w : List ℕ} {from to sum j : ℕ} → Copyable w₀ from to → Copying w₀ w from to sum j → j < to - from → get_or w (1280 + from + j) 0 ≤ 32
 copy_small {from = from} {j = j} h c l = omega (arith, copy_label h c l, h.labels (from + j) (omega arith))
-
--- the places of a step in the words, and the size of what stands there
-pub record Place (w : List ℕ) (from sum j : ℕ) : Type 0 where
-  pub room : 2048 ≤ length w
-  pub step : from + j < 256
-  pub small : sum ≤ 8192
-  pub label : get_or w (1280 + from + j) 0 ≤ 32
-
-pub copy_place : {w₀ w : List ℕ} {from to sum j : ℕ} → Copyable w₀ from to → Copying w₀ w from to sum j → j < to - from → Place w from sum j
-copy_place h c l =
-    let few = h.few in
-    record {
-      room = omega (arith, h.room, c.within.size);
-      step = omega arith;
-      small = omega (arith, c.small);
-      label = copy_small h c l;
-    }
 
 pub copy_more : {w₀ w : List ℕ} {from to sum j : ℕ} → Copyable w₀ from to → Copying w₀ w from to sum j → j < to - from
     → Copying w₀ (set w (1536 + j) (get_or w (1280 + from + j) 0)) from to (sum + get_or w (1280 + from + j) 0) (j + 1)
@@ -83,18 +56,6 @@ copy_more {w₀} {w} {from} {to} {sum} {j} h c l =
           let r : sum_to (cyc w') j ≡ sum_to (cyc w) j = sum_same (cyc w) (cyc w') j kept in
           subst (λ (k : ℕ). sum + t ≡ sum_to (cyc w') k) (sym (add-one j)) (omega (arith, c.total));
       small = omega (arith, c.small, copy_small h c l);
-    }
-
-pub copy_end : {w₀ w : List ℕ} {from to sum j : ℕ} (start : ℕ) → Copying w₀ w from to sum j → to - from ≤ j
-    → Copied w₀ w from to start (record { count = to - from; sum = sum; start = start })
-copy_end {w₀} {w} {from} {to} {sum} {j} start c l =
-    let e : j ≡ to - from = omega (arith, c.upto) in
-    record {
-      begins = refl;
-      within = c.within;
-      spelled = λ i m. c.spelled i (omega arith);
-      count = refl;
-      total = c.total ∙ ap (sum_to (cyc w)) e;
     }
 
 -- the walk

@@ -3,7 +3,7 @@ use mathlib.Core.Path.{◌≡◌, refl, sym, subst, ◌∙◌}
 use mathlib.Core.Bool.{Bool, true, false}
 use mathlib.Core.List.{List}
 use Prim.Native.Nat.{ℕ, ◌+◌, ◌*◌, ◌-◌, ◌/◌, ◌≤◌, ◌<◌}
-use native.Mathlib.Nat.{not-suc-le-zero, mul-le-mul_left}
+use native.Mathlib.Nat.{mul-le-mul_left}
 use native.Mathlib.Decide.{dec_lt}
 use native.Mathlib.Omega.{arith}
 use borrow.Author.Count.{below_more}
@@ -168,18 +168,6 @@ pub record Sweeping (w₀ w : List ℕ) (G : Graph) (best : Cycle) (v moved : �
   pub calm : moved ≡ 0 → (u : ℕ) → u < v → (t : ℕ) → Calm w G best u t
   pub grown : sum_to (gain w₀) G.nodes + moved ≤ sum_to (gain w) G.nodes
 
-pub sweep_start : {w : List ℕ} {G : Graph} {best : Cycle} → Ready w G best → Tree w G best → Sweeping w w G best 0 0
-sweep_start {w} r tr =
-    record {
-      frame = frame_refl w;
-      tree = tr;
-      ready = r;
-      upto = omega arith;
-      few = omega arith;
-      calm = λ e u l. absurd (not-suc-le-zero l);
-      grown = omega arith;
-    }
-
 pub sweep_more :
     {w₀ w w' : List ℕ} {G : Graph} {best best' : Cycle} {v moved moved' : ℕ} {found : Bool} → Sweeping w₀ w G best v moved → v < G.nodes
     → Visited w w' G best v found moved' best' → found ≡ false → Sweeping w₀ w' G best (v + 1) (moved + moved')
@@ -199,32 +187,6 @@ sweep_more {w₀} {w} {w'} {G} {best} {best'} {v} {moved} {moved'} h lt s no-fin
           (sym r.0)
           (below_more (λ (u : ℕ). (t : ℕ) → Calm w G best u t) v (h.calm z) r.1);
       grown = omega (arith, h.grown, s.grown no-find);
-    }
-
-pub sweep_found :
-    {w₀ w w' : List ℕ} {G : Graph} {best best' : Cycle} {v moved moved' : ℕ} {found : Bool} → Sweeping w₀ w G best v moved
-    → Visited w w' G best v found moved' best' → found ≡ true → Swept w₀ w' G best found moved' best'
-sweep_found h s e =
-    record {
-      frame = frame_trans h.frame s.frame;
-      better = s.better;
-      tree = s.tree;
-      ready = s.ready;
-      calm = λ n. nowhere (sym n ∙ e);
-      grown = λ n. nowhere (sym n ∙ e);
-    }
-
-pub sweep_end :
-    {w₀ w : List ℕ} {G : Graph} {best best' : Cycle} {v moved : ℕ} → Sweeping w₀ w G best v moved → G.nodes ≤ v
-    → Swept w₀ w G best false moved best'
-sweep_end h l =
-    record {
-      frame = h.frame;
-      better = λ e. nowhere e;
-      tree = λ e. h.tree;
-      ready = λ e. h.ready;
-      calm = λ e z u t x a. h.calm z u (omega (arith, a.leaves)) t x a;
-      grown = λ e. h.grown;
     }
 
 -- round

@@ -1,54 +1,13 @@
--- The loops of reset, climb and trace: their invariants, and what a turn keeps. Assumes nothing.
-use mathlib.Core.Path.{◌≡◌, refl, sym, ap, subst, ◌∙◌}
+-- The loops of climb and trace: their invariants, and what a turn keeps. Assumes nothing.
+use mathlib.Core.Path.{◌≡◌, refl, sym, subst, ◌∙◌}
 use mathlib.Core.List.{List}
 use Prim.Native.Nat.{ℕ, zero, suc, ◌+◌, ◌*◌, ◌-◌, ◌≤◌, ◌<◌}
-use native.Mathlib.Nat.{add-zero, zero-add, not-le_of_lt, not-suc-le-zero}
-use native.Mathlib.Decide.{ℕ_discrete}
+use native.Mathlib.Nat.{add-zero, not-le_of_lt, not-suc-le-zero}
 use native.Mathlib.Omega.{arith}
-use lib.ListN.{length, get_or, set, length-set}
+use lib.ListN.{length, set, length-set}
 use lib.Seq.{get_or-set_same, get_or-set_other}
 use Rattle.mean_cycle.specs.Nodes.{cyc}
-use Rattle.mean_cycle.specs.Inner.{gain, parent, label, Rooted, Path, Off, up_sum, Spelled, Ends, Climbed, Within, Cleared, Traceable, Traced}
-use Rattle.mean_cycle.proofs.Links.{decide}
-
--- reset
-pub cleared_none : (w : List ℕ) → Cleared w w 0
-cleared_none w =
-    record {
-      within = record { size = refl; below = λ i l. refl; above = λ i l. refl };
-      gains = λ y l. absurd (not-suc-le-zero l);
-      parents = λ y l. absurd (not-suc-le-zero l);
-    }
-
-abbrev pub cleared : List ℕ → ℕ → List ℕ
-cleared w v = set (set w (768 + v) 0) (1024 + v) 256
-
-module _ (w : List ℕ) (v : ℕ) where
-  cleared_other : (i : ℕ) → (i ≡ 768 + v → ⊥) → (i ≡ 1024 + v → ⊥) → get_or (cleared w v) i 0 ≡ get_or w i 0
-  cleared_other i a b = get_or-set_other (set w (768 + v) 0) (1024 + v) i 256 0 b ∙ get_or-set_other w (768 + v) i 0 0 a
-
-  pub cleared_more : (w₀ : List ℕ) → v < 256 → 2048 ≤ length w₀ → Cleared w₀ w v → Cleared w₀ (cleared w v) (v + 1)
-  cleared_more w₀ few room h =
-      record {
-        within =
-            record {
-              size = simp length-set h.within.size;
-              below = λ i l. cleared_other i (λ e. omega arith) (λ e. omega arith) ∙ h.within.below i l;
-              above = λ i l. cleared_other i (λ e. omega arith) (λ e. omega arith) ∙ h.within.above i l;
-            };
-        gains = λ y l.
-            decide
-            (ℕ_discrete y v)
-            (λ e.
-            ap (gain (cleared w v)) e ∙ get_or-set_other (set w (768 + v) 0) (1024 + v) (768 + v) 256 0 (λ q. omega arith) ∙ get_or-set_same w (768 + v) 0 0 (omega (arith, h.within.size)))
-            (λ ne. cleared_other (768 + y) (λ e. ne (omega arith)) (λ e. omega arith) ∙ h.gains y (omega arith));
-        parents = λ y l.
-            decide
-            (ℕ_discrete y v)
-            (λ e.
-            ap (parent (cleared w v)) e ∙ get_or-set_same (set w (768 + v) 0) (1024 + v) 256 0 (simp length-set (omega (arith, h.within.size))))
-            (λ ne. cleared_other (1024 + y) (λ e. omega arith) (λ e. ne (omega arith)) ∙ h.parents y (omega arith));
-      }
+use Rattle.mean_cycle.specs.Inner.{parent, label, Rooted, Path, Off, up_sum, Spelled, Climbed, Within}
 
 -- climb
 pub record Climbing (w : List ℕ) (n v x y k : ℕ) : Type 0 where
@@ -58,17 +17,6 @@ pub record Climbing (w : List ℕ) (n v x y k : ℕ) : Type 0 where
   pub short : k + left < n
   pub met : (j z : ℕ) → Path (parent w) n j y z → Path (parent w) n (k + j) v z
   pub off : (d : ℕ) → Off (parent w) n d y x → Off (parent w) n (k + d) v x
-
-pub climb_start : {w : List ℕ} {n v : ℕ} (x : ℕ) → v < n → Ends w n v → Climbing w n v x v 0
-climb_start {w} {n} {v} x l e =
-    record {
-      here = l;
-      left = e.depth;
-      rooted = e.rooted;
-      short = omega (arith, e.within);
-      met = λ j z h. subst (λ (m : ℕ). Path (parent w) n m v z) (sym (zero-add j)) h;
-      off = λ d h. subst (λ (m : ℕ). Off (parent w) n m v x) (sym (zero-add d)) h;
-    }
 
 climb_left : (p : ℕ → ℕ) (n d y k : ℕ) → p y < n → Rooted p n d y → k + d < n → (e : ℕ) × (Rooted p n e (p y) × (k + 1 + e < n))
 climb_left p n zero y k l h s = absurd (not-le_of_lt l h)
@@ -171,49 +119,3 @@ module _ (w₀ w : List ℕ) (n v t k x sum y : ℕ) (room : 2048 ≤ length w�
       (λ (z : ℕ). Tracing w₀ (set w (1536 + z) (label w y)) n v t k x (sum + label w y) (parent w y) z)
       (less_one j)
       (trace_suc j c)
-
--- the places of a link in the words, and the size of the sum
-pub record Place (w : List ℕ) (sum y j : ℕ) : Type 0 where
-  pub room : 2048 ≤ length w
-  pub node : y < 256
-  pub step : j < 256
-  pub small : sum + 32 * j ≤ 8192
-
-pub trace_place : {w₀ w : List ℕ} {v t k sum y j : ℕ} (h : Traceable w₀ v t k) → Tracing w₀ w h.n v t k h.x sum y j → Place w sum y j
-trace_place h c =
-    let few = h.few in
-    let short = h.short in
-    record {
-      room = omega (arith, h.room, c.within.size);
-      node = omega (arith, c.here);
-      step = omega (arith, c.small);
-      small = omega (arith, c.few);
-    }
-
-pub trace_label : {w₀ w : List ℕ} {v t k sum y j : ℕ} (h : Traceable w₀ v t k) → Tracing w₀ w h.n v t k h.x sum y j → 0 < j → label w y ≤ 32
-trace_label {j = zero} h c l = absurd (not-suc-le-zero l)
-trace_label {y = y} {j = suc j} h c l = omega (arith, traced_label c h.few, h.labels y c.here c.path.0)
-
-pub trace_end : {w₀ w : List ℕ} {n v t k x sum y j : ℕ} → Tracing w₀ w n v t k x sum y j → j ≤ 0 → k < 256 → 2048 ≤ length w₀
-    → Traced w₀ (set w (1536 + k) t) v t k sum
-trace_end {w₀} {w} {n} {v} {t} {k} {x} {sum} {y} {j} c z l room =
-    let zz : j ≡ 0 = omega arith in
-    let d : Tracing w₀ w n v t k x sum y 0 = subst (λ (m : ℕ). Tracing w₀ w n v t k x sum y m) zz c in
-    record {
-      within =
-          record {
-            size = simp length-set c.within.size;
-            below = λ i l. get_or-set_other w (1536 + k) i t 0 (λ e. omega arith) ∙ c.within.below i l;
-            above = λ i q. get_or-set_other w (1536 + k) i t 0 (λ e. omega arith) ∙ c.within.above i q;
-          };
-      last = get_or-set_same w (1536 + k) t 0 (omega (arith, c.within.size));
-      spelled =
-          d.spells
-          (cyc (set w (1536 + k) t))
-          (λ i a b. get_or-set_other w (1536 + k) (1536 + i) t 0 (λ e. omega arith))
-          (tt {0});
-      total = omega (arith, d.total);
-    }
-
-pub cleared_all : {w w' : List ℕ} {v n : ℕ} → Cleared w w' v → v ≡ n → Cleared w w' n
-cleared_all {w} {w'} h e = subst (λ (m : ℕ). Cleared w w' m) e h

@@ -1,13 +1,11 @@
 -- The least mean cycle of the state diagram of a collision vector, as the search answers it. g is the least interval between two starts.
 -- Assumes nothing.
-use Rattle.std.specs.Prelude.{◌≡◌, Bool, true, false, ◌&&◌, List, ℕ, ◌+◌, ◌*◌, ◌^◌, ◌≤◌, ◌<◌, leb, ltb, length, get_or, take, drop}
+use Rattle.std.specs.Prelude.{◌≡◌, Bool, true, false, ◌&&◌, List, ℕ, ◌+◌, ◌*◌, ◌^◌, ◌≤◌, ◌<◌, leb, ltb, length, get_or, take, drop, Option, Some, None}
 use Rattle.collision.specs.Pipeline.{total}
 use Rattle.diagram.specs.Diagram.{width, Walk}
 use Rattle.diagram.specs.Cycles.{CycleFrom}
 use Rattle.diagram.specs.States.{states}
 use Rattle.mean_cycle.specs.declared.Cycle.{Cycle}
-use Rattle.mean_cycle.specs.declared.Answer.{Answer}
-use Rattle.mean_cycle.specs.declared.Answer.TheVariants.{No, Found}
 
 -- no walk from the first state has a lower average than sum / count, but for a bounded part
 pub record Floor (g n cv count sum : ℕ) : Type 0 where
@@ -33,14 +31,14 @@ pub record LeastMean (g cv : ℕ) (after : List ℕ) (c : Cycle) : Type 0 where
 unfoldable pub searchable : ℕ → ℕ → ℕ → Bool
 searchable room g cv = leb 2048 room && (ltb cv (2 ^ 31) && leb (length (states 256 g (width cv) cv)) 256)
 
-abbrev pub is_found : Answer → Bool
-is_found No = false
-is_found (Found c) = true
+abbrev pub is_found : Option Cycle → Bool
+is_found None = false
+is_found (Some c) = true
 
 -- The first 1792 words afterwards are free but for what is said of them here.
-pub record Searched (g cv : ℕ) (before after : List ℕ) (r : Answer) : Type 0 where
+pub record Searched (g cv : ℕ) (before after : List ℕ) (r : (Option Cycle)) : Type 0 where
   pub answer : is_found r ≡ searchable (length before) g cv
-  pub least : (c : Cycle) → r ≡ Found c → LeastMean g cv after c
+  pub least : (c : Cycle) → r ≡ Some c → LeastMean g cv after c
   pub size : length after ≡ length before
   pub beyond : (i : ℕ) → 1792 ≤ i → get_or after i 0 ≡ get_or before i 0
   pub short : length before < 2048 → after ≡ before

@@ -1,9 +1,7 @@
 -- The least mean cycle of a graph whose arcs stand in a table, as the search answers it. Assumes nothing.
-use Rattle.std.specs.Prelude.{◌≡◌, true, List, ℕ, ◌+◌, ◌*◌, ◌^◌, ◌≤◌, ◌<◌, length, get_or}
+use Rattle.std.specs.Prelude.{◌≡◌, true, List, ℕ, ◌+◌, ◌*◌, ◌^◌, ◌≤◌, ◌<◌, length, get_or, Option, Some, None}
 use Rattle.diagram.specs.Work.{state_in}
 use Rattle.mean_cycle.specs.declared.Cycle.{Cycle}
-use Rattle.mean_cycle.specs.declared.Answer.{Answer}
-use Rattle.mean_cycle.specs.declared.Answer.TheVariants.{No, Found}
 use Rattle.mean_cycle.specs.declared.search.Graph.{Graph}
 use Rattle.mean_cycle.specs.Mean.{is_found}
 use Rattle.mean_cycle.specs.Nodes.{Least}
@@ -31,8 +29,8 @@ tabled nodes width = record { nodes = nodes; width = width; vector = 0; table = 
 
 -- The answer is no exactly where the words hold no such graph, and then no word changes. Free are which of several cycles of least average is found,
 -- and the words from 768 to 1791 but for its latencies.
-pub record TableSearched (nodes width : ℕ) (before after : List ℕ) (r : Answer) : Type 0 where
+pub record TableSearched (nodes width : ℕ) (before after : List ℕ) (r : (Option Cycle)) : Type 0 where
   pub found : TableGraph before nodes width → is_found r ≡ true
   pub graph : is_found r ≡ true → TableGraph before nodes width
-  pub least : (c : Cycle) → r ≡ Found c → Least before after (tabled nodes width) c
-  pub kept : r ≡ No → after ≡ before
+  pub least : (c : Cycle) → r ≡ Some c → Least before after (tabled nodes width) c
+  pub kept : r ≡ None → after ≡ before

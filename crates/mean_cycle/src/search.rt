@@ -58,11 +58,9 @@ pub fn reset(work: &mut [u32], nodes: usize)
     requires { (nodes ≤ 256) × (2048 ≤ length work.old) }
     ensures { Cleared work.old work.new nodes }
 {
-    let mut y = 0;
-    while y < nodes {
+    for y in 0..nodes {
         work[768 + y] = 0;
         work[1024 + y] = 256;
-        y += 1;
     }
 }
 
@@ -73,8 +71,7 @@ fn climb(work: &[u32], nodes: usize, v: usize, x: usize) -> usize
     ensures { Climbed work.now nodes v x result }
 {
     let mut y = v;
-    let mut k = 0;
-    while k < nodes {
+    for k in 0..nodes {
         if y == x {
             return k;
         }
@@ -83,7 +80,6 @@ fn climb(work: &[u32], nodes: usize, v: usize, x: usize) -> usize
             return nodes;
         }
         y = p;
-        k += 1;
     }
     nodes
 }
@@ -95,9 +91,7 @@ fn trace(work: &mut [u32], v: usize, t: usize, k: usize) -> usize
 {
     let mut sum = t;
     let mut y = v;
-    let mut j = k;
-    while 0 < j {
-        j -= 1;
+    for j in (0..k).rev() {
         let l = work[1280 + y] as usize;
         let p = work[1024 + y] as usize;
         work[1536 + j] = l as u32;
@@ -183,6 +177,7 @@ fn visit(work: &mut [u32], graph: Graph, best: Cycle, v: usize) -> Outcome
     let state = work[v];
     let mut t = next_latency(state, 0);
     let mut moved = 0;
+    // A while: the next latency is found at the next column that is 0.
     while t <= last {
         let up = work[768 + v] as usize + sum;
         if up <= count * t {
@@ -214,16 +209,14 @@ fn sweep(work: &mut [u32], graph: Graph, best: Cycle) -> Outcome
     ensures { Swept work.old work.new graph best result.found result.moved result.best }
 {
     let nodes = graph.nodes;
-    let mut v = 0;
     let mut moved = 0;
-    while v < nodes {
+    for v in 0..nodes {
         let s = visit(work, graph, best, v);
         let found = s.found;
         if found {
             return s;
         }
         moved = moved + s.moved;
-        v += 1;
     }
     Outcome {
         found: false,
@@ -238,6 +231,7 @@ fn round(work: &mut [u32], graph: Graph, best: Cycle) -> Outcome
     ensures { Rounded work.old work.new graph best result.found result.best }
 {
     reset(work, graph.nodes);
+    // A loop: how many sweeps there are is not counted.
     loop {
         let s = sweep(work, graph, best);
         let found = s.found;
@@ -257,6 +251,7 @@ pub fn search_listed(work: &mut [u32], graph: Graph) -> Cycle
     ensures { Least work.old work.new graph result }
 {
     let mut best = first_cycle(work, graph);
+    // A loop: how many rounds there are is not counted.
     loop {
         let s = round(work, graph, best);
         let found = s.found;

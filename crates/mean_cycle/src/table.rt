@@ -9,14 +9,9 @@ pub fn narrow_words(work: &[u32], nodes: usize, width: u32) -> bool
     requires { (nodes ≤ 256) × (2048 ≤ length work.now) }
     ensures { Says result (NarrowWords work.now nodes width) }
 {
-    let mut v = 0;
-    while v < nodes {
-        if width < diagram::width_of(work[v]) {
-            return false;
-        }
-        v += 1;
-    }
-    true
+    work[..nodes]
+        .iter()
+        .all(|word| diagram::width_of(*word) <= width)
 }
 
 // Whether every word of the table is a node.
@@ -24,14 +19,6 @@ pub fn targets_inside(work: &[u32], nodes: usize) -> bool
     requires { (nodes ≤ 256) × (9984 ≤ length work.now) }
     ensures { Says result (TargetsInside work.now nodes) }
 {
-    let end = nodes * 32;
-    let mut a = 0;
-    while a < end {
-        let x = work[1792 + a] as usize;
-        if nodes <= x {
-            return false;
-        }
-        a += 1;
-    }
-    true
+    let end = 1792 + nodes * 32;
+    work[1792..end].iter().all(|x| (*x as usize) < nodes)
 }

@@ -3,7 +3,7 @@ use Prim.Native.Nat.{ℕ, ◌+◌, ◌-◌, ◌%◌, ◌<◌, ◌≤◌, max}
 use mathlib.Core.Path.{◌≡◌, ap, ◌∙◌, sym}
 use mathlib.Core.Bool.{Bool, true, false, cond, not, ◌&&◌}
 use mathlib.Core.List.{List}
-use native.Mathlib.Nat.{mod_self, mod-eq_of_lt, add-mod_right, mod-add-mod, zero-add}
+use native.Mathlib.Nat.{mod-eq_of_lt, add-mod_right, mod-add-mod, zero-add}
 use native.Mathlib.Decide.{dec_lt}
 use native.Mathlib.Omega.{arith}
 use lib.Dec.{eqb}
@@ -69,13 +69,6 @@ pub record FreeBefore (vector m t : ℕ) : Type 0 where
   pub least : 1 ≤ t
   pub multiple : t % m ≡ 0
   pub free : (k : ℕ) → k + 1 < t → (k + 1) % m ≡ 0 → is_set vector k ≡ false
-
-pub free_start : (vector m : ℕ) → 1 ≤ m → FreeBefore vector m m
-free_start vector m h = record {
-  least = h;
-  multiple = mod_self m;
-  free = λ k l e. absurd (omega (arith, mod-eq_of_lt l));
-}
 
 pub free_more : (vector m t : ℕ) → 1 ≤ m → FreeBefore vector m t → is_set vector (t - 1) ≡ false → FreeBefore vector m (t + m)
 free_more vector m t h f e = record {

@@ -7,8 +7,7 @@ ghost use Rattle.words.specs.Bits.{is_set};
 ghost use Rattle.collision.specs.Answers.{marks_answer, bound_answer, upper_answer, constant_answer};
 ghost use Rattle.measures.specs.Inner.{marks_at, most_marks, free_of, least_free};
 
-use collision::Number;
-use unit::{Answer, FunctionUnit, Tag};
+use unit::{FunctionUnit, Refusal, Tag};
 
 // Whether a column has a mark at the bit.
 fn has_mark(column: u16, bit: u32) -> bool
@@ -22,12 +21,10 @@ fn marks_at(columns: [u16; 32], bit: u32) -> u32
     ensures { result ≡ marks_at columns bit }
 {
     let mut marks: u32 = 0;
-    let mut column: usize = 0;
-    while column < 32 {
-        if has_mark(columns[column], bit) {
+    for column in &columns {
+        if has_mark(*column, bit) {
             marks += 1;
         }
-        column += 1;
     }
     marks
 }
@@ -37,51 +34,38 @@ fn most_marks(columns: [u16; 32]) -> u32
     ensures { result ≡ most_marks columns }
 {
     let mut most: u32 = 0;
-    let mut bit: u32 = 0;
-    while bit < 16 {
+    for bit in 0..16 {
         let marks = marks_at(columns, bit);
         if most < marks {
             most = marks;
         }
-        bit += 1;
     }
     most
 }
 
 // The largest number of marks that the function has in one segment.
-pub fn marks(u: FunctionUnit, tag: Tag) -> Number
+pub fn marks(u: FunctionUnit, tag: Tag) -> Result<u32, Refusal>
     ensures { result ≡ marks_answer u tag.0 }
 {
-    let answer = unit::check_tag(u, tag);
-    match answer {
-        Answer::Refused(why) => Number::Refused(why),
-        Answer::Done => {
-            let columns = columns::columns_of(u, tag);
-            Number::Value(most_marks(columns))
-        }
-    }
+    unit::check_tag(u, tag)?;
+    let columns = columns::columns_of(u, tag);
+    Ok(most_marks(columns))
 }
 
 // The size of the largest set of whole numbers in which every two differ by a forbidden latency.
-pub fn bound(u: FunctionUnit, tag: Tag) -> Number
+pub fn bound(u: FunctionUnit, tag: Tag) -> Result<u32, Refusal>
     ensures { result ≡ bound_answer u tag.0 }
 {
-    let asked = collision::vector(u, tag);
-    match asked {
-        Number::Refused(why) => Number::Refused(why),
-        Number::Value(word) => Number::Value(clique_size::largest(word)),
-    }
+    let word = collision::vector(u, tag)?;
+    Ok(clique_size::largest(word))
 }
 
 // The number of 1s in the collision vector, plus 1.
-pub fn upper(u: FunctionUnit, tag: Tag) -> Number
+pub fn upper(u: FunctionUnit, tag: Tag) -> Result<u32, Refusal>
     ensures { result ≡ upper_answer u tag.0 }
 {
-    let asked = collision::vector(u, tag);
-    match asked {
-        Number::Refused(why) => Number::Refused(why),
-        Number::Value(word) => Number::Value(words::ones(word) + 1),
-    }
+    let word = collision::vector(u, tag)?;
+    Ok(words::ones(word) + 1)
 }
 
 // Whether no column of the vector that is a multiple of m is 1.
@@ -89,12 +73,10 @@ fn free_of_multiples(vector: u32, m: u32) -> bool
     requires { (1 ≤ m) × (m ≤ 32) }
     ensures { result ≡ free_of vector m }
 {
-    let mut multiple: u32 = m;
-    while multiple < 33 {
+    for multiple in (m..33).step_by(m as usize) {
         if words::test(vector, multiple - 1) {
             return false;
         }
-        multiple += m;
     }
     true
 }
@@ -103,23 +85,18 @@ fn free_of_multiples(vector: u32, m: u32) -> bool
 fn least_free(vector: u32) -> u32
     ensures { result ≡ least_free vector }
 {
-    let mut m: u32 = 1;
-    while m < 33 {
+    for m in 1..33 {
         if free_of_multiples(vector, m) {
             return m;
         }
-        m += 1;
     }
-    m
+    33
 }
 
 // The least latency of which no multiple is forbidden.
-pub fn constant(u: FunctionUnit, tag: Tag) -> Number
+pub fn constant(u: FunctionUnit, tag: Tag) -> Result<u32, Refusal>
     ensures { result ≡ constant_answer u tag.0 }
 {
-    let asked = collision::vector(u, tag);
-    match asked {
-        Number::Refused(why) => Number::Refused(why),
-        Number::Value(forbidden) => Number::Value(least_free(forbidden)),
-    }
+    let forbidden = collision::vector(u, tag)?;
+    Ok(least_free(forbidden))
 }

@@ -1,4 +1,5 @@
 -- What the record promises as a whole. Assumes nothing.
+use Rattle.std.proofs.Common.{Result, Ok, Err}
 use Prim.Native.Nat.{ℕ, zero, suc, ◌-◌, ◌≤◌, ◌<◌}
 use mathlib.Core.Path.{◌≡◌, refl, sym, ap, ap₂, ◌∙◌, subst}
 use mathlib.Core.Bool.{Bool, true, false, cond, not}
@@ -15,15 +16,10 @@ use Rattle.words.proofs.Tests.{nowhere, and_true, not_passed}
 use Rattle.text.proofs.SameLaws.{same_of}
 use Rattle.unit.specs.declared.Plan.{Plan}
 use Rattle.unit.specs.declared.Refusal.TheVariants.{BadRecord, ShortOutput}
-use Rattle.unit.specs.declared.Answer.TheVariants.{Refused}
 use Rattle.unit.specs.Numbers.{number_of}
 use Rattle.unit.proofs.NumberLaws.{numbered, number_one}
-use Rattle.unit_file.specs.declared.Written.{Written}
-use Rattle.unit_file.specs.declared.Written.TheVariants as Written
 use Rattle.collision.specs.Pipeline.{total}
 use Rattle.collision.proofs.StartLaws.{total_suc}
-use Rattle.plan_record.specs.declared.Shown.{Shown}
-use Rattle.plan_record.specs.declared.Shown.TheVariants as Shown
 use Rattle.plan_record.specs.Record.{Recordable, recordable, starts, ring_of, ring_bit, record_of}
 use Rattle.plan_record.specs.Read.{list_in, is_record, report_answer, report_list, load_answer, load_ring, intervals_below, list_from_ring}
 use Rattle.plan_record.specs.Write.{Holds, cycle_in, holds_cycle, writable, write_refusal, write_answer, write_out}
@@ -33,6 +29,7 @@ use Rattle.plan_record.proofs.RingLaws.{StartOf, start_has, start_of, ring_bit_l
 use Rattle.plan_record.proofs.RecordLaws.{record_length, record_count, record_sum, record_list, record_ring, record_is, is_record_lem}
 use Rattle.plan_record.proofs.ReadLaws.{number_shown, number_not, report_refused, load_refused, list_refused, ring_refused, report_shown, load_shown, list_is, ring_is}
 use Rattle.plan_record.proofs.PlanLaws.{held, writable_held, writable_tag, writable_holds}
+use Rattle.unit.specs.declared.Refusal.{Refusal}
 
 -- The bytes
 
@@ -64,7 +61,7 @@ module _ (bytes : List ℕ) where
   }
 
   -- what is shown is refused where the bytes are no record
-  accepted_by : (shown : Shown) → (is_record bytes ≡ false → shown ≡ Shown.Refused BadRecord) → Accepted shown → is_record bytes ≡ true
+  accepted_by : (shown : Result ℕ Refusal) → (is_record bytes ≡ false → shown ≡ Err BadRecord) → Accepted shown → is_record bytes ≡ true
   accepted_by shown f a = go (is_record bytes) refl
     where
       go : (b : Bool) → is_record bytes ≡ b → is_record bytes ≡ true
@@ -232,20 +229,20 @@ holds_exactly p = (holds_given p, given_holds p)
 
 -- the answer, where the plan is not writable, has no room, or has
 module _ (p : Plan) (room : ℕ) where
-  answer_bad : writable p ≡ false → write_answer p room ≡ Written.Refused BadRecord
+  answer_bad : writable p ≡ false → write_answer p room ≡ Err BadRecord
   unfolding write_answer write_refusal
   answer_bad e = simp e
 
   answer_room : writable p ≡ true → (b : Bool) → leb (length (record_of (cycle_in p))) room ≡ b
-      → write_answer p room ≡ cond b (Written.Length (length (record_of (cycle_in p)))) (Written.Refused ShortOutput)
+      → write_answer p room ≡ cond b (Ok (length (record_of (cycle_in p)))) (Err ShortOutput)
   unfolding write_answer write_refusal
   answer_room e true l = rw (e, l)
   answer_room e false l = rw (e, l)
 
 -- the number that an answer tells: 0 where the record was written
-abbrev told : Written → ℕ
-told (Written.Length n) = 0
-told (Written.Refused why) = number_of why
+abbrev told : Result ℕ Refusal → ℕ
+told (Ok n) = 0
+told (Err why) = number_of why
 
 pub plan_exactly : PlanExactly
 plan_exactly p room = go (writable p) refl (leb (length (record_of (cycle_in p))) room) refl
@@ -317,9 +314,9 @@ unfolding write_out write_refusal
 record_out p bytes w l = rw (w, l)
 
 -- a length that was told
-abbrev length_told : Written → ℕ
-length_told (Written.Length n) = n
-length_told (Written.Refused why) = 0
+abbrev length_told : Result ℕ Refusal → ℕ
+length_told (Ok n) = n
+length_told (Err why) = 0
 
 pub written_read : WrittenRead
 written_read p bytes n e = go (writable p) refl (leb (length (record_of (cycle_in p))) (length bytes)) refl

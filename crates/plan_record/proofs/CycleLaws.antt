@@ -80,22 +80,20 @@ no_sum l f = rw (unrecordable l f)
 
 -- the first i latencies are in order, and this is their sum
 pub record Summed (l : List ℕ) (i sum : ℕ) : Type 0 where
-  pub few : length l ≤ 256
-  pub inside : i ≤ length l
   pub least : (k : ℕ) → k < i → 1 ≤ get_or l k 0
   pub most : (k : ℕ) → k < i → get_or l k 0 ≤ 32
   pub adds : sum ≡ total (take i l)
   pub low : sum ≤ 32 * i
 
-pub summed_end : (l : List ℕ) (i sum : ℕ) → length l ≤ i → Summed l i sum → sum ≡ cond (recordable l) (total l) 0
-summed_end l i sum h s = go (dec_lt 0 (length l))
+pub summed_end : (l : List ℕ) (i sum : ℕ) → length l ≤ 256 → i ≡ length l → Summed l i sum → sum ≡ cond (recordable l) (total l) 0
+summed_end l i sum few e s = go (dec_lt 0 (length l))
   where
     all : sum ≡ total l
-    all = let e : i ≡ length l = omega (arith, s.inside) in s.adds ∙ ap (λ k. total (take k l)) e ∙ sum_all l
+    all = s.adds ∙ ap (λ k. total (take k l)) e ∙ sum_all l
 
     go : Dec (0 < length l) → sum ≡ cond (recordable l) (total l) 0
-    go (yes some) = rw (recordable_of l (record { some = some; few = s.few; least = λ k m. s.least k (omega arith); most = λ k m. s.most k (omega arith) })) all
-    go (no none) = let z : sum ≡ 0 = omega (arith, s.low, s.inside) in z ∙ no_sum l (λ r. none r.some)
+    go (yes some) = rw (recordable_of l (record { some = some; few = few; least = λ k m. s.least k (omega arith); most = λ k m. s.most k (omega arith) })) all
+    go (no none) = let z : sum ≡ 0 = omega (arith, s.low) in z ∙ no_sum l (λ r. none r.some)
 
 -- a sum other than 0 is that of a cycle
 pub summed_cycle : (l : List ℕ) (sum : ℕ) → sum ≡ cond (recordable l) (total l) 0 → (sum ≡ 0 → ⊥) → (recordable l ≡ true) × (sum ≡ total l)

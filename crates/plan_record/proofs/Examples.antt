@@ -1,4 +1,5 @@
 -- Records worked out by hand, and what is none. Assumes nothing.
+use Rattle.std.proofs.Common.{Ok, Err}
 use Prim.Native.Nat.{ℕ, ◌≤◌}
 use mathlib.Core.Path.{◌≡◌, refl, sym, ap, ◌∙◌}
 use mathlib.Core.Bool.{false}
@@ -12,8 +13,6 @@ use Rattle.words.proofs.Tests.{nowhere}
 use Rattle.text.specs.Text.{same}
 use Rattle.unit.specs.declared.Plan.{Plan}
 use Rattle.unit.specs.declared.Refusal.TheVariants.{BadRecord, ShortOutput}
-use Rattle.unit_file.specs.declared.Written.TheVariants as Written
-use Rattle.plan_record.specs.declared.Shown.TheVariants as Shown
 use Rattle.plan_record.specs.Record.{Recordable, recordable, starts, ring_byte, ring_of, IsRing, record_of, longest_record}
 use Rattle.plan_record.specs.Read.{is_record, record_answer, report_answer, report_list, load_answer, load_ring, intervals_below, list_from_ring, ring_from_list}
 use Rattle.plan_record.specs.Write.{holds_cycle, writable, write_refusal, write_answer, write_out}
@@ -33,11 +32,11 @@ unfolding record_of ring_of ring_byte starts list_below word_below some_below
 three_four = refl
 
 -- K and the list, S and the ring
-pub three_four_report : (report_answer bytes ≡ Shown.Number 2) × (report_list bytes ≡ 3 ∷ 4 ∷ [])
+pub three_four_report : (report_answer bytes ≡ Ok 2) × (report_list bytes ≡ 3 ∷ 4 ∷ [])
 unfolding report_answer report_list record_answer is_record recordable record_of ring_of ring_byte starts list_below word_below some_below same
 three_four_report = (refl, refl)
 
-pub three_four_load : (load_answer bytes ≡ Shown.Number 7) × (load_ring bytes ≡ 246 ∷ [])
+pub three_four_load : (load_answer bytes ≡ Ok 7) × (load_ring bytes ≡ 246 ∷ [])
 unfolding load_answer load_ring record_answer is_record recordable record_of ring_of ring_byte starts list_below word_below some_below same
 three_four_load = (refl, refl)
 
@@ -169,7 +168,7 @@ abbrev plan : ℕ → ℕ → ℕ → ℕ → Plan
 plan tag count sum past = record { tag = tag; count = count; sum = sum; latencies = 3 ∷ 4 ∷ past ∷ replicate 253 0 }
 
 -- room for 11 bytes, and for 10
-pub written : (write_answer (plan 1 2 7 0) 11 ≡ Written.Length 11) × (write_answer (plan 1 2 7 0) 10 ≡ Written.Refused ShortOutput)
+pub written : (write_answer (plan 1 2 7 0) 11 ≡ Ok 11) × (write_answer (plan 1 2 7 0) 10 ≡ Err ShortOutput)
 unfolding write_answer write_refusal writable holds_cycle recordable record_of ring_of ring_byte starts list_below word_below some_below same
 written = (refl, refl)
 
@@ -189,12 +188,12 @@ not_read_back r =
     ((accepted_exactly (bytes ++ (9 ∷ []))).report.0 (record { number = 2; shows = ap (λ (b : List ℕ). report_answer (take 12 b)) (sym left) ∙ r.shows.count }))
 
 -- of the tags 0 alone is told apart: no plan, and its bytes are not written
-pub tag_0 : (write_answer (plan 4 2 7 0) 11 ≡ Written.Length 11) × (write_answer (plan 0 2 7 0) 11 ≡ Written.Refused BadRecord) × (write_out (plan 0 2 7 0) (replicate 13 9) ≡ replicate 13 9)
+pub tag_0 : (write_answer (plan 4 2 7 0) 11 ≡ Ok 11) × (write_answer (plan 0 2 7 0) 11 ≡ Err BadRecord) × (write_out (plan 0 2 7 0) (replicate 13 9) ≡ replicate 13 9)
 unfolding write_answer write_out write_refusal writable holds_cycle recordable record_of ring_of ring_byte starts list_below word_below some_below same
 tag_0 = (refl, refl, refl)
 
 -- 15 is tried before 6: tag 0, and no plan at all, without any room
-pub first_15 : (write_answer (plan 0 2 7 0) 0 ≡ Written.Refused BadRecord) × (write_answer (plan 1 2 8 0) 0 ≡ Written.Refused BadRecord)
+pub first_15 : (write_answer (plan 0 2 7 0) 0 ≡ Err BadRecord) × (write_answer (plan 1 2 8 0) 0 ≡ Err BadRecord)
 unfolding write_answer write_refusal writable holds_cycle recordable record_of ring_of ring_byte starts list_below word_below some_below same
 first_15 = (refl, refl)
 

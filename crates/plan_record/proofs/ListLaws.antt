@@ -1,11 +1,13 @@
 -- Lists of bytes made one by one: over lent bytes, and compared with them. Assumes nothing.
 use Prim.Native.Nat.{ℕ, ◌+◌, ◌<◌}
-use mathlib.Core.Path.{◌≡◌, sym, ap, ◌∙◌}
-use mathlib.Core.Bool.{true, false}
+use mathlib.Core.Path.{◌≡◌, refl, sym, ap, ◌∙◌}
+use mathlib.Core.Bool.{true, false, ◌&&◌}
 use mathlib.Core.List.{List, [], ◌∷◌, ◌++◌}
 use native.Mathlib.Numerals.{add-one}
 use native.Mathlib.Omega.{arith}
-use lib.ListN.{length, get_or, set, replicate, length-replicate, get_or-replicate}
+use lib.Dec.{eqb}
+use lib.ListN.{length, get_or, set, replicate}
+use Rattle.std.specs.List.{list_all}
 use lib.Seq.{ext_get_or}
 use Rattle.words.specs.Below.{list_below}
 use Rattle.words.proofs.ListLaws.{list_length, list_at}
@@ -43,12 +45,8 @@ list_more b at j f h =
 
 -- Zeros
 
-pub zeros_all : (b : List ℕ) → ((k : ℕ) → k < length b → get_or b k 0 ≡ 0) → same b (replicate (length b) 0) ≡ true
-zeros_all b h =
-    same_of b (replicate (length b) 0)
-    (ext_get_or 0 b (replicate (length b) 0) (sym (length-replicate {A = ℕ} (length b) 0)) (λ k l. h k l ∙ sym (get_or-replicate {A = ℕ} (length b) k 0 0 l)))
-
-pub zeros_not : (b : List ℕ) (k : ℕ) → k < length b → (get_or b k 0 ≡ 0 → ⊥) → same b (replicate (length b) 0) ≡ false
-zeros_not b k h n =
-    not_same b (replicate (length b) 0)
-    (λ e. n (ap (λ x. get_or x k 0) e ∙ get_or-replicate {A = ℕ} (length b) k 0 0 h))
+-- whether all are 0
+pub zeros : (b : List ℕ) → list_all (λ x. eqb x 0) b ≡ same b (replicate (length b) 0)
+unfolding same
+zeros [] = refl
+zeros (x ∷ b) = ap (λ s. eqb x 0 && s) (zeros b)

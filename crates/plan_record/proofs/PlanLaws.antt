@@ -1,4 +1,5 @@
 -- Plans that hold a cycle, and how writing one ends. Assumes nothing.
+use Rattle.std.proofs.Common.{Ok, Err}
 use Prim.Native.Nat.{ℕ, ◌+◌, ◌-◌, ◌/◌, ◌≤◌, ◌<◌}
 use mathlib.Core.Path.{◌≡◌, sym, ap, ap₂, ◌∙◌}
 use mathlib.Core.Bool.{true, false, not}
@@ -14,7 +15,6 @@ use Rattle.text.specs.Text.{same, placed, put_in}
 use Rattle.text.proofs.PutLaws.{put_fits, placed_length, placed_placed, placed_front}
 use Rattle.unit.specs.declared.Plan.{Plan}
 use Rattle.unit.specs.declared.Refusal.TheVariants.{BadRecord, ShortOutput}
-use Rattle.unit_file.specs.declared.Written.TheVariants as Written
 use Rattle.collision.specs.Pipeline.{total}
 use Rattle.plan_record.specs.Record.{Recordable, recordable, ring_byte, ring_length, ring_of, fields, record_of}
 use Rattle.plan_record.specs.Write.{Holds, cycle_in, holds_cycle, writable, write_refusal, write_answer, write_out}
@@ -126,7 +126,7 @@ module _ (p : Plan) where
 -- How a call ends
 
 module _ (p : Plan) (b : List ℕ) where
-  pub ends_bad : writable p ≡ false → (Written.Refused BadRecord ≡ write_answer p (length b)) × (b ≡ write_out p b)
+  pub ends_bad : writable p ≡ false → (Err BadRecord ≡ write_answer p (length b)) × (b ≡ write_out p b)
   unfolding write_answer write_out write_refusal
   ends_bad e = (simp e, simp e)
 
@@ -139,13 +139,13 @@ module _ (p : Plan) (b : List ℕ) where
     pub write_room : size ≤ length b → length (record_of (cycle_in p)) ≤ length b
     write_room h = omega (arith, whole)
 
-    pub ends_short : length b < size → (Written.Refused ShortOutput ≡ write_answer p (length b)) × (b ≡ write_out p b)
+    pub ends_short : length b < size → (Err ShortOutput ≡ write_answer p (length b)) × (b ≡ write_out p b)
     unfolding write_answer write_out write_refusal
     ends_short h = let l = lt-leb (length (record_of (cycle_in p))) (length b) (omega (arith, whole)) in (simp (e, l), simp (e, l))
 
     pub ends_written : (out : List ℕ) → size ≤ length b → out ≡ placed b 0 (record_of (cycle_in p))
-        → (Written.Length size ≡ write_answer p (length b)) × (out ≡ write_out p b)
+        → (Ok size ≡ write_answer p (length b)) × (out ≡ write_out p b)
     unfolding write_answer write_out write_refusal
     ends_written out h w =
         let l = le-leb (length (record_of (cycle_in p))) (length b) (omega (arith, whole)) in
-        (rw (e, l) (ap Written.Length (sym whole)), rw (e, l) (w ∙ placed_front b (record_of (cycle_in p))))
+        (rw (e, l) (ap Ok (sym whole)), rw (e, l) (w ∙ placed_front b (record_of (cycle_in p))))

@@ -1,4 +1,5 @@
 -- What the two readers show. Assumes nothing.
+use Rattle.std.proofs.Common.{Result, Ok, Err}
 use Prim.Native.Nat.{ℕ, ◌+◌, ◌-◌, ◌≤◌}
 use mathlib.Core.Path.{◌≡◌, sym, ap, ◌∙◌}
 use mathlib.Core.Bool.{Bool, true, false}
@@ -9,43 +10,40 @@ use lib.Seq.{take_all}
 use Rattle.words.proofs.Tests.{nowhere}
 use Rattle.unit.specs.declared.Refusal.{Refusal}
 use Rattle.unit.specs.declared.Refusal.TheVariants.{BadRecord}
-use Rattle.unit.specs.declared.Answer.TheVariants.{Done, Refused}
-use Rattle.plan_record.specs.declared.Shown.{Shown}
-use Rattle.plan_record.specs.declared.Shown.TheVariants as Shown
 use Rattle.plan_record.specs.Read.{count_in, sum_in, list_in, ring_in, is_record, record_answer, report_answer, report_list, load_answer, load_ring}
 
 -- A number that is shown is one number, and no refusal
 
-abbrev number_in : Shown → ℕ
-number_in (Shown.Number n) = n
-number_in (Shown.Refused why) = 0
+abbrev number_in : Result ℕ Refusal → ℕ
+number_in (Ok n) = n
+number_in (Err why) = 0
 
-abbrev is_number : Shown → Bool
-is_number (Shown.Number n) = true
-is_number (Shown.Refused why) = false
+abbrev is_number : Result ℕ Refusal → Bool
+is_number (Ok n) = true
+is_number (Err why) = false
 
-pub number_shown : {m n : ℕ} → Shown.Number m ≡ Shown.Number n → m ≡ n
+pub number_shown : {m n : ℕ} → ◌≡◌ {A = Result ℕ Refusal} (Ok m) (Ok n) → m ≡ n
 number_shown e = ap number_in e
 
-pub number_not : {A : Type 0} {n : ℕ} {why : Refusal} → Shown.Number n ≡ Shown.Refused why → A
+pub number_not : {A : Type 0} {n : ℕ} {why : Refusal} → ◌≡◌ {A = Result ℕ Refusal} (Ok n) (Err why) → A
 number_not e = nowhere (ap is_number (sym e))
 
 -- By the test
 
-accepts : (b : List ℕ) → is_record b ≡ true → record_answer b ≡ Done
+accepts : (b : List ℕ) → is_record b ≡ true → record_answer b ≡ Ok tt
 unfolding record_answer
 accepts b e = rw e
 
-refuses : (b : List ℕ) → is_record b ≡ false → record_answer b ≡ Refused BadRecord
+refuses : (b : List ℕ) → is_record b ≡ false → record_answer b ≡ Err BadRecord
 unfolding record_answer
 refuses b e = rw e
 
 module _ (b : List ℕ) where
-  pub report_refused : is_record b ≡ false → Shown.Refused BadRecord ≡ report_answer b
+  pub report_refused : is_record b ≡ false → Err BadRecord ≡ report_answer b
   unfolding report_answer
   report_refused e = rw (refuses b e)
 
-  pub load_refused : is_record b ≡ false → Shown.Refused BadRecord ≡ load_answer b
+  pub load_refused : is_record b ≡ false → Err BadRecord ≡ load_answer b
   unfolding load_answer
   load_refused e = rw (refuses b e)
 
@@ -57,13 +55,13 @@ module _ (b : List ℕ) where
   unfolding load_ring
   ring_refused e = rw (refuses b e)
 
-  pub report_shown : (r : ℕ) → is_record b ≡ true → r ≡ count_in b → Shown.Number r ≡ report_answer b
+  pub report_shown : (r : ℕ) → is_record b ≡ true → r ≡ count_in b → Ok r ≡ report_answer b
   unfolding report_answer
-  report_shown r e v = rw (accepts b e) (ap Shown.Number v)
+  report_shown r e v = rw (accepts b e) (ap Ok v)
 
-  pub load_shown : (r : ℕ) → is_record b ≡ true → r ≡ sum_in b → Shown.Number r ≡ load_answer b
+  pub load_shown : (r : ℕ) → is_record b ≡ true → r ≡ sum_in b → Ok r ≡ load_answer b
   unfolding load_answer
-  load_shown r e v = rw (accepts b e) (ap Shown.Number v)
+  load_shown r e v = rw (accepts b e) (ap Ok v)
 
   pub list_is : is_record b ≡ true → report_list b ≡ list_in b
   unfolding report_list

@@ -1,13 +1,10 @@
 -- What the record promises as a whole: which bytes and which plans are accepted, that either view gives the other, and that what is written is read.
 -- All are proved (proofs/Claims.antt). Each goes by what the calls answer and leave.
-use Rattle.std.specs.Prelude.{ℕ, ◌≤◌, ◌<◌, ◌≡◌, true, ◌⊎◌, ◌↔◌, List, [], length, take}
+use Rattle.std.specs.Prelude.{ℕ, ◌≤◌, ◌<◌, ◌≡◌, true, ◌⊎◌, ◌↔◌, List, [], length, take, Result, Ok, Err}
 use Rattle.unit.specs.declared.Plan.{Plan}
 use Rattle.unit.specs.declared.Refusal.{Refusal}
 use Rattle.unit.specs.declared.Refusal.TheVariants.{BadRecord, ShortOutput}
-use Rattle.unit_file.specs.declared.Written.TheVariants as Written
 use Rattle.collision.specs.Pipeline.{total}
-use Rattle.plan_record.specs.declared.Shown.{Shown}
-use Rattle.plan_record.specs.declared.Shown.TheVariants as Shown
 use Rattle.plan_record.specs.Record.{Recordable, ring_of, IsRing, record_of, longest_record}
 use Rattle.plan_record.specs.Read.{report_answer, report_list, load_answer, load_ring, ring_from_list, list_from_ring}
 use Rattle.plan_record.specs.Write.{Holds, cycle_in, holds_cycle, write_answer, write_out}
@@ -31,22 +28,22 @@ pub record GivenBytes (bytes : List ℕ) : Type 0 where
   pub gives : bytes ≡ record_of cycle
 
 -- a reader accepts: it shows a number
-pub record Accepted (shown : Shown) : Type 0 where
+pub record Accepted (shown : Result ℕ Refusal) : Type 0 where
   pub number : ℕ
-  pub shows : shown ≡ Shown.Number number
+  pub shows : shown ≡ Ok number
 
 -- of a cycle the report reader shows K and the list, the loader S and the ring
 pub record Shows (bytes l : List ℕ) : Type 0 where
-  pub count : report_answer bytes ≡ Shown.Number (length l)
+  pub count : report_answer bytes ≡ Ok (length l)
   pub list : report_list bytes ≡ l
-  pub sum : load_answer bytes ≡ Shown.Number (total l)
+  pub sum : load_answer bytes ≡ Ok (total l)
   pub ring : load_ring bytes ≡ ring_of l
 
 -- 15 from both, and nothing shown
 pub record Refused15 (bytes : List ℕ) : Type 0 where
-  pub report : report_answer bytes ≡ Shown.Refused BadRecord
+  pub report : report_answer bytes ≡ Err BadRecord
   pub list : report_list bytes ≡ []
-  pub load : load_answer bytes ≡ Shown.Refused BadRecord
+  pub load : load_answer bytes ≡ Err BadRecord
   pub ring : load_ring bytes ≡ []
 
 -- each accepts where some cycle gives the bytes, and shows that cycle; else each refuses
@@ -72,7 +69,7 @@ pub record OneFromOther (count : ℕ) (list : List ℕ) (sum : ℕ) (ring : List
 -- on accepted bytes the list is worked out from what the loader shows, and the ring from what the report shows
 abbrev pub EitherView : Type 0
 EitherView =
-    (bytes : List ℕ) (K S : ℕ) → report_answer bytes ≡ Shown.Number K → load_answer bytes ≡ Shown.Number S
+    (bytes : List ℕ) (K S : ℕ) → report_answer bytes ≡ Ok K → load_answer bytes ≡ Ok S
     → OneFromOther K (report_list bytes) S (load_ring bytes)
 
 -- an accepted record is the record of the cycle read from it
@@ -104,9 +101,9 @@ HoldsExactly = (p : Plan) → (holds_cycle p ≡ true) ↔ GivenPlan p
 
 -- the writer's refusals are 15 and 6 alone: 15 for exactly the plans that no such cycle gives and those of tag 0, and 6 never where there is room for the longest record
 pub record WriterAt (p : Plan) (room : ℕ) : Type 0 where
-  pub numbers : (why : Refusal) → write_answer p room ≡ Written.Refused why → (why ≡ BadRecord) ⊎ (why ≡ ShortOutput)
-  pub fifteen : (write_answer p room ≡ Written.Refused BadRecord) ↔ ((p.tag ≡ 0) ⊎ (GivenPlan p → ⊥))
-  pub suffices : longest_record ≤ room → write_answer p room ≡ Written.Refused ShortOutput → ⊥
+  pub numbers : (why : Refusal) → write_answer p room ≡ Err why → (why ≡ BadRecord) ⊎ (why ≡ ShortOutput)
+  pub fifteen : (write_answer p room ≡ Err BadRecord) ↔ ((p.tag ≡ 0) ⊎ (GivenPlan p → ⊥))
+  pub suffices : longest_record ≤ room → write_answer p room ≡ Err ShortOutput → ⊥
 
 abbrev pub PlanExactly : Type 0
 PlanExactly = (p : Plan) (room : ℕ) → WriterAt p room
@@ -133,4 +130,4 @@ pub record ReadBack (p : Plan) (written : List ℕ) : Type 0 where
 
 -- what was written, as many bytes as the writer tells, is read
 abbrev pub WrittenRead : Type 0
-WrittenRead = (p : Plan) (bytes : List ℕ) (n : ℕ) → write_answer p (length bytes) ≡ Written.Length n → ReadBack p (take n (write_out p bytes))
+WrittenRead = (p : Plan) (bytes : List ℕ) (n : ℕ) → write_answer p (length bytes) ≡ Ok n → ReadBack p (take n (write_out p bytes))

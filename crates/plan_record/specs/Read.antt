@@ -1,14 +1,12 @@
 -- What the report reader and the loader show of a record, and how each view gives the other.
-use Rattle.std.specs.Prelude.{ℕ, zero, suc, ◌+◌, ◌-◌, Bool, cond, not, ◌&&◌, List, [], ◌∷◌, take, drop}
+use Rattle.std.specs.Prelude.{ℕ, zero, suc, ◌+◌, ◌-◌, Bool, cond, not, ◌&&◌, List, [], ◌∷◌, take, drop, Result, Ok, Err}
 use Rattle.text.specs.Text.{same}
 use Rattle.unit.specs.declared.Refusal.TheVariants.{BadRecord}
-use Rattle.unit.specs.declared.Answer.{Answer}
-use Rattle.unit.specs.declared.Answer.TheVariants.{Done, Refused}
+use Rattle.unit.specs.Answers.{Answer}
 use Rattle.unit.specs.Calls.{check}
 use Rattle.unit_file.specs.Read.{word16}
-use Rattle.plan_record.specs.declared.Shown.{Shown}
-use Rattle.plan_record.specs.declared.Shown.TheVariants as Shown
 use Rattle.plan_record.specs.Record.{recordable, ring_of, ring_bit, record_of}
+use Rattle.unit.specs.declared.Refusal.{Refusal}
 
 -- What stands in the bytes
 
@@ -35,20 +33,20 @@ is_record bytes = recordable (list_in bytes) && same bytes (record_of (list_in b
 
 -- 15, for both readers
 unfoldable pub record_answer : List ℕ → Answer
-record_answer bytes = check (is_record bytes) BadRecord Done
+record_answer bytes = check (is_record bytes) BadRecord (Ok tt)
 
-abbrev pub showing : Answer → ℕ → Shown
-showing Done n = Shown.Number n
-showing (Refused why) n = Shown.Refused why
+abbrev pub showing : Answer → ℕ → Result ℕ Refusal
+showing (Ok _) n = Ok n
+showing (Err why) n = Err why
 
 -- a part of the record, empty where it is refused
 abbrev pub showing_part : Answer → List ℕ → List ℕ
-showing_part Done part = part
-showing_part (Refused why) part = []
+showing_part (Ok _) part = part
+showing_part (Err why) part = []
 
 -- The report reader shows K and the list
 
-unfoldable pub report_answer : List ℕ → Shown
+unfoldable pub report_answer : List ℕ → Result ℕ Refusal
 report_answer bytes = showing (record_answer bytes) (count_in bytes)
 
 unfoldable pub report_list : List ℕ → List ℕ
@@ -56,7 +54,7 @@ report_list bytes = showing_part (record_answer bytes) (list_in bytes)
 
 -- The loader shows S and the ring
 
-unfoldable pub load_answer : List ℕ → Shown
+unfoldable pub load_answer : List ℕ → Result ℕ Refusal
 load_answer bytes = showing (record_answer bytes) (sum_in bytes)
 
 unfoldable pub load_ring : List ℕ → List ℕ

@@ -1,15 +1,14 @@
 -- What writing a plan as a record answers, and the lent bytes afterwards. The writer takes a plan without its unit.
-use Rattle.std.specs.Prelude.{ℕ, ◌-◌, ◌≡◌, Bool, not, ◌&&◌, List, ◌++◌, leb, eqb, length, take, replicate}
+use Rattle.std.specs.Prelude.{ℕ, ◌-◌, ◌≡◌, Bool, not, ◌&&◌, List, ◌++◌, leb, eqb, length, take, replicate, Result, Ok}
 use Rattle.text.specs.Text.{same}
 use Rattle.unit.specs.declared.Plan.{Plan}
 use Rattle.unit.specs.declared.Refusal.TheVariants.{BadRecord, ShortOutput}
-use Rattle.unit.specs.declared.Answer.{Answer}
-use Rattle.unit.specs.declared.Answer.TheVariants.{Done}
+use Rattle.unit.specs.Answers.{Answer}
 use Rattle.unit.specs.Calls.{check}
-use Rattle.unit_file.specs.declared.Written.{Written}
 use Rattle.unit_file.specs.Write.{length_answer, file_in_front}
 use Rattle.collision.specs.Pipeline.{total}
 use Rattle.plan_record.specs.Record.{recordable, record_of}
+use Rattle.unit.specs.declared.Refusal.{Refusal}
 
 -- a plan holds a cycle: K, S, and the latencies in 256 bytes of which the rest are 0
 pub record Holds (p : Plan) (l : List ℕ) : Type 0 where
@@ -37,10 +36,10 @@ writable p = not (eqb p.tag 0) && holds_cycle p
 unfoldable pub write_refusal : Plan → ℕ → Answer
 write_refusal p room =
     check (writable p) BadRecord
-    (check (leb (length (record_of (cycle_in p))) room) ShortOutput Done)
+    (check (leb (length (record_of (cycle_in p))) room) ShortOutput (Ok tt))
 
 -- the record's length
-unfoldable pub write_answer : Plan → ℕ → Written
+unfoldable pub write_answer : Plan → ℕ → Result ℕ Refusal
 write_answer p room = length_answer (write_refusal p room) (length (record_of (cycle_in p)))
 
 -- the record fills the front of the lent bytes, the others stay as before; a refused call changes none

@@ -12,7 +12,6 @@ ghost use Rattle.plan_record.specs.Write.{cycle_in, holds_cycle, writable, write
 ghost use Rattle.plan_record.specs.Inner.{Reached, Made, Field, Writable};
 
 use unit::{Plan, Refusal};
-use unit_file::Written;
 
 // No record has more bytes.
 pub const LONGEST: usize = 1288;
@@ -22,13 +21,6 @@ pub fn area() -> [u8; LONGEST]
     ensures { result ≡ replicate longest_record 0 }
 {
     [0; LONGEST]
-}
-
-// A number of a record: K for the report, S for the loader.
-#[derive(Clone, Copy)]
-pub enum Shown {
-    Number(u16),
-    Refused(Refusal),
 }
 
 // A byte of the ring, and the start that comes next after it: how many latencies stand before it, and their sum.
@@ -47,9 +39,7 @@ fn cycle_sum(list: &[u8]) -> usize
         return 0;
     }
     let mut sum: usize = 0;
-    let mut i: usize = 0;
-    while i < list.len() {
-        let latency = list[i];
+    for &latency in list {
         if latency == 0 {
             return 0;
         }
@@ -57,7 +47,6 @@ fn cycle_sum(list: &[u8]) -> usize
             return 0;
         }
         sum += latency as usize;
-        i += 1;
     }
     sum
 }
@@ -82,8 +71,7 @@ fn ring_byte(list: &[u8], j: usize, index: usize, next: usize) -> Turned
     let mut byte: u32 = 0;
     let mut passed = index;
     let mut start = next;
-    let mut bit: u32 = 0;
-    while bit < 8 {
+    for bit in 0..8 {
         let here = 8 * j + bit as usize;
         if starts_here(list.len(), passed, start, here) {
             start += list[passed] as usize;
@@ -91,7 +79,6 @@ fn ring_byte(list: &[u8], j: usize, index: usize, next: usize) -> Turned
         } else {
             byte = words::set(byte, bit);
         }
-        bit += 1;
     }
     let made = byte as u8;
     Turned {
@@ -108,15 +95,13 @@ fn ring_matches(ring: &[u8], list: &[u8]) -> bool
 {
     let mut index: usize = 0;
     let mut next: usize = 0;
-    let mut j: usize = 0;
-    while j < ring.len() {
+    for (j, byte) in ring.iter().enumerate() {
         let turned = ring_byte(list, j, index, next);
-        if turned.byte != ring[j] {
+        if turned.byte != *byte {
             return false;
         }
         index = turned.index;
         next = turned.next;
-        j += 1;
     }
     true
 }
@@ -128,13 +113,11 @@ fn write_ring(out: &mut [u8], at: usize, size: usize, list: &[u8])
 {
     let mut index: usize = 0;
     let mut next: usize = 0;
-    let mut j: usize = 0;
-    while j < size {
+    for j in 0..size {
         let turned = ring_byte(list, j, index, next);
         out[at + j] = turned.byte;
         index = turned.index;
         next = turned.next;
-        j += 1;
     }
 }
 
@@ -180,13 +163,13 @@ fn is_record(bytes: &[u8]) -> bool
 }
 
 // The report reader's number: K.
-pub fn report(bytes: &[u8]) -> Shown
+pub fn report(bytes: &[u8]) -> Result<u16, Refusal>
     ensures { result ≡ report_answer bytes.now }
 {
     if !is_record(bytes) {
-        return Shown::Refused(Refusal::BadRecord);
+        return Err(Refusal::BadRecord);
     }
-    Shown::Number(field_at(bytes, 0))
+    Ok(field_at(bytes, 0))
 }
 
 // The report reader's list, as a part of the record; empty where the record is refused.
@@ -201,13 +184,13 @@ pub fn report_list(bytes: &[u8]) -> &[u8]
 }
 
 // The loader's number: S.
-pub fn load(bytes: &[u8]) -> Shown
+pub fn load(bytes: &[u8]) -> Result<u16, Refusal>
     ensures { result ≡ load_answer bytes.now }
 {
     if !is_record(bytes) {
-        return Shown::Refused(Refusal::BadRecord);
+        return Err(Refusal::BadRecord);
     }
-    Shown::Number(field_at(bytes, 2))
+    Ok(field_at(bytes, 2))
 }
 
 // The loader's ring, as a part of the record; empty where the record is refused.
@@ -225,14 +208,7 @@ pub fn load_ring(bytes: &[u8]) -> &[u8]
 fn all_zero(bytes: &[u8]) -> bool
     ensures { result ≡ same bytes.now (replicate (length bytes.now) 0) }
 {
-    let mut i = 0;
-    while i < bytes.len() {
-        if bytes[i] != 0 {
-            return false;
-        }
-        i += 1;
-    }
-    true
+    bytes.iter().all(|byte| *byte == 0)
 }
 
 // Whether some cycle of 1 to 256 latencies, each 1 to 32, gives the plan.
@@ -297,17 +273,17 @@ fn is_writable(plan: Plan) -> bool
 }
 
 // Writes the record of a plan to the front of the lent bytes; the others stay as before.
-pub fn write(plan: Plan, out: &mut [u8]) -> Written
+pub fn write(plan: Plan, out: &mut [u8]) -> Result<u32, Refusal>
     ensures value { result ≡ write_answer plan (length out.old) }
     ensures out_after { out.new ≡ write_out plan out.old }
 {
     let size = 8 + plan.count as usize + (plan.sum as usize + 7) / 8;
     if !is_writable(plan) {
-        return Written::Refused(Refusal::BadRecord);
+        return Err(Refusal::BadRecord);
     }
     if out.len() < size {
-        return Written::Refused(Refusal::ShortOutput);
+        return Err(Refusal::ShortOutput);
     }
     write_record(out, plan);
-    Written::Length(size as u32)
+    Ok(size as u32)
 }

@@ -1,21 +1,20 @@
 -- What the search of the diagram finds is the best cycle, in the rotation that comes first; any two best cycles have the same average. Assumes nothing.
-use Prim.Native.Nat.{ℕ, ◌+◌, ◌*◌, ◌≤◌, ◌<◌}
-use mathlib.Core.Path.{◌≡◌, sym, ap, subst}
+use Prim.Native.Nat.{ℕ, ◌*◌, ◌≤◌, ◌<◌}
 use mathlib.Core.List.{List}
 use native.Mathlib.Nat.{mul_comm, le_of_lt, le_refl, le_antisymm}
 use native.Mathlib.Omega.{arith}
-use lib.ListN.{length, get_or}
+use lib.ListN.{length}
 use Rattle.unit.specs.Table.{Table}
-use Rattle.collision.specs.Pipeline.{Cycle, total, NeverCollides}
+use Rattle.collision.specs.Pipeline.{total}
 use Rattle.collision.specs.Meaning.{Bounded}
 use Rattle.collision.specs.Vector.{vector_word}
 use Rattle.diagram.specs.Diagram.{width}
 use Rattle.diagram.specs.Cycles.{CycleFrom}
-use Rattle.diagram.proofs.Vectors.{IsVector, vector_is}
+use Rattle.diagram.proofs.Vectors.{vector_is}
 use Rattle.diagram.proofs.Sound.{sound, walk_cycle}
 use Rattle.diagram.proofs.Rival.{rival}
 use Rattle.graphs.specs.Rotation.{rotate}
-use Rattle.cycles.specs.Rotation.{LeastRotated, first_rotation}
+use Rattle.cycles.specs.Rotation.{first_rotation}
 use Rattle.graphs.proofs.Rotations.{rotate_length, rotate_total}
 use Rattle.cycles.proofs.RotationLaws.{rotate_cycle}
 use Rattle.cycles.proofs.OrderLaws.{rotate_least, first_inside}

@@ -1,4 +1,5 @@
 -- Every list of calls from a fresh unit agrees with the sheet. Assumes nothing.
+use Rattle.std.proofs.Common.{Ok, Err}
 use Prim.Native.Nat.{ℕ, ◌-◌, ◌≤◌}
 use mathlib.Core.Path.{◌≡◌, refl, ap, ◌∙◌, sym, subst, subst₂}
 use mathlib.Core.Bool.{Bool, true, false, cond}
@@ -14,8 +15,7 @@ use Rattle.unit.specs.declared.FunctionUnit.{FunctionUnit}
 use Rattle.unit.specs.declared.Outcome.{Outcome}
 use Rattle.unit.specs.declared.Refusal.{Refusal}
 use Rattle.unit.specs.declared.Refusal.TheVariants.{NoSuchTag, ShortWork, TooManyStates, NoPlan}
-use Rattle.unit.specs.declared.Answer.{Answer}
-use Rattle.unit.specs.declared.Answer.TheVariants.{Done, Refused}
+use Rattle.unit.specs.Answers.{Answer}
 use Rattle.unit.specs.Numbers.{number_of, number_in}
 use Rattle.unit.specs.Table.{Table, changed}
 use Rattle.unit.specs.Unit.{inside, marked, sound_plan, sound_of, good_counts}
@@ -25,7 +25,6 @@ use Rattle.unit.proofs.Laws.{inside_of, sound_has, sound_of_lem}
 use Rattle.unit.proofs.SoundLaws.{Words, inside_means, inside_test}
 use Rattle.unit.proofs.EditLaws.{Edited, mark_accepted, unmark_accepted, mark_refused, unmark_refused, mark_answer, unmark_answer, blank_words, blank_table, fresh_sound}
 use Rattle.collision.specs.Pipeline.{total}
-use Rattle.planner.specs.declared.Handed.{Handed}
 use Rattle.planner.specs.Plans.{Best, plan_of, with_plan, search_answer, Found, read_answer, read_of}
 use Rattle.planner.specs.Sheet.{Call, Reply, reply_to, read_reply, Step, Run, Sheet, start, edited, owing, spot_number, search_number, next, fed, told, Agrees, Right, EveryList, Leaves, Noted, EveryUnit}
 use Rattle.planner.specs.Sheet.Call.{Mark, Unmark, Search, Read}
@@ -34,8 +33,8 @@ use Rattle.planner.specs.Sheet.Reply.{accepted}
 -- Answers and their numbers
 
 reply_told : (a : Answer) → reply_to a ≡ told (number_in a)
-reply_told Done = refl
-reply_told (Refused why) = simp (number_some why)
+reply_told (Ok _) = refl
+reply_told (Err why) = simp (number_some why)
 
 number_check : (ok : Bool) (why : Refusal) (rest : Answer) → number_in (check ok why rest) ≡ cond ok (number_in rest) (number_of why)
 number_check true why rest = refl
@@ -74,15 +73,15 @@ edit_kept u after t q s c b k e = record {
 
 -- an edit, given what it leaves at each answer
 edit_step : (u after : FunctionUnit) (t : Sheet) (q s c : ℕ) (b : Bool) → Kept u t
-    → (spot_answer u q s c ≡ Done → Edited u after q s c b) → ((why : Refusal) → spot_answer u q s c ≡ Refused why → after ≡ u)
+    → (spot_answer u q s c ≡ Ok tt → Edited u after q s c b) → ((why : Refusal) → spot_answer u q s c ≡ Err why → after ≡ u)
     → Kept after (cond (eqb (spot_number t q s c) 0) (edited t (changed t.table q s c b)) t)
 edit_step u after t q s c b k d r = go (spot_answer u q s c) refl
   where
     go : (a : Answer) → spot_answer u q s c ≡ a → Kept after (cond (eqb (spot_number t q s c) 0) (edited t (changed t.table q s c b)) t)
-    go Done e =
+    go (Ok _) e =
         let z : spot_number t q s c ≡ 0 = sym (spot_number_lem u t q s c k) ∙ ap number_in e in
         rw z (edit_kept u after t q s c b k (d e))
-    go (Refused why) e =
+    go (Err why) e =
         let z : spot_number t q s c ≡ number_of why = sym (spot_number_lem u t q s c k) ∙ ap number_in e in
         rw (z, number_some why) (subst (λ (x : FunctionUnit). Kept x t) (sym (r why e)) k)
 
@@ -109,7 +108,7 @@ search_number_lem : (u : FunctionUnit) (t : Sheet) (q room : ℕ) → Kept u t �
 unfolding search_answer search_number tag_answer
 search_number_lem u t q room k = simp (k.noted.sound, k.noted.functions, k.noted.table) (go (inside q t.functions))
   where
-    go : (b : Bool) → number_in (and_then (check b NoSuchTag Done) (check (leb 16000 room) ShortWork (check (leb (length (Rattle.diagram.specs.Answers.states_of 1 t.table q)) 256) TooManyStates Done)))
+    go : (b : Bool) → number_in (and_then (check b NoSuchTag (Ok tt)) (check (leb 16000 room) ShortWork (check (leb (length (Rattle.diagram.specs.Answers.states_of 1 t.table q)) 256) TooManyStates (Ok tt))))
         ≡ cond b (cond (leb 16000 room) (cond (leb (length (Rattle.diagram.specs.Answers.states_of 1 t.table q)) 256) 0 7) 5) 2
     go true = simp number_check
     go false = refl
@@ -184,30 +183,30 @@ search_step u t q room a after k h = (
     says = h.promise.says ∙ ap (search_answer u q) h.lent
 
     go : (x : Answer) → h.answer ≡ x → Kept after (next t (Search q room))
-    go Done e =
+    go (Ok _) e =
         let z : search_number t q room ≡ 0 = sym (search_number_lem u t q room k) ∙ ap number_in (sym says ∙ e) in
         rw z (found_kept u t q after k (search_member t q room z) (h.promise.found e))
-    go (Refused why) e =
+    go (Err why) e =
         let z : search_number t q room ≡ number_of why = sym (search_number_lem u t q room k) ∙ ap number_in (sym says ∙ e) in
         rw (z, number_some why) (subst (λ (x : FunctionUnit). Kept x t) (sym (h.promise.kept why e)) k)
 
 -- A read
 
-read_none : (u : FunctionUnit) → sound_of u ≡ true → u.plan.tag ≡ 0 → read_of u ≡ record { answer = Refused NoPlan; plan = no_plan }
+read_none : (u : FunctionUnit) → sound_of u ≡ true → u.plan.tag ≡ 0 → read_of u ≡ Err NoPlan
 unfolding read_of read_answer
 read_none u h z = simp (h, eq-eqb u.plan.tag 0 z)
 
-read_some : (u : FunctionUnit) → sound_of u ≡ true → (u.plan.tag ≡ 0 → ⊥) → read_of u ≡ record { answer = Done; plan = u.plan }
+read_some : (u : FunctionUnit) → sound_of u ≡ true → (u.plan.tag ≡ 0 → ⊥) → read_of u ≡ Ok u.plan
 unfolding read_of read_answer
 read_some u h ne = simp (h, ne_eqb u.plan.tag 0 ne)
 
 read_step : (u : FunctionUnit) (t : Sheet) (a : Reply) (after : FunctionUnit) → Kept u t → Step u Read a after → KeptStep after t Read a
 read_step u t a after k (r, er, ea, eu) = (
   record {
-    none = λ z. ea ∙ ap (λ (h : Handed). read_reply h.answer h.plan) (er ∙ read_none u k.noted.sound (k.noted.tag ∙ z));
+    none = λ z. ea ∙ ap read_reply (er ∙ read_none u k.noted.sound (k.noted.tag ∙ z));
     some = λ ne. (
       u.plan,
-      ea ∙ ap (λ (h : Handed). read_reply h.answer h.plan) (er ∙ read_some u k.noted.sound (λ e. ne (sym k.noted.tag ∙ e))),
+      ea ∙ ap read_reply (er ∙ read_some u k.noted.sound (λ e. ne (sym k.noted.tag ∙ e))),
       k.noted.plan ne,
     );
   },

@@ -1,11 +1,13 @@
 -- The bytes of a plan: latencies in front, zeros behind; the plan of a cycle that stands in the working words. Assumes nothing.
 use Prim.Native.Nat.{ℕ, zero, suc, ◌+◌, ◌-◌, ◌≤◌, ◌<◌}
 use mathlib.Core.Path.{◌≡◌, sym, ap, ap₂, ◌∙◌}
-use mathlib.Core.List.{List, ◌++◌}
+use mathlib.Core.List.{List, ◌++◌, append_assoc}
 use native.Mathlib.Nat.{sub-zero, zero-sub}
 use native.Mathlib.Omega.{arith}
 use lib.ListN.{length, get_or, take, drop, replicate, length-replicate, length-drop}
-use lib.Seq.{get_or-take, get_or-drop, length-take-le, take-length, take_at}
+use lib.Seq.{get_or-take, get_or-drop, length-take-le, take-length, take_at, drop_at}
+use borrow.Rule.Slice.PartMut.{put_mid}
+use Rattle.std.proofs.lemmas.List.{take-take, drop-drop, drop-take}
 use Rattle.diagram.proofs.CopyLaws.{front}
 use Rattle.unit.specs.declared.Plan.{Plan}
 use Rattle.collision.specs.Pipeline.{total}
@@ -36,6 +38,23 @@ zeros_length = length-replicate {A = ℕ} 256 0
 pub front_zeros : (l : List ℕ) → front l zeros (length l) ≡ l ++ replicate (256 - length l) 0
 unfolding zeros
 front_zeros l = ap₂ (λ (a b : List ℕ). a ++ b) (take-length l) (drop_zeros (length l) 256)
+
+-- the first n of b are copied to the front of zeros: from r on first, and those before r behind them
+pub turned_front : (b x y : List ℕ) (n r : ℕ) → r ≤ n → n ≤ length b → x ≡ take (n - r) (drop r b) → y ≡ take r b
+    → put_mid (n - r) (n - (n - r)) (x ++ drop (n - r) (replicate 256 0)) y ≡ rotate (take n b) r ++ replicate (256 - n) 0
+turned_front b x y n r h k e f =
+    let zero : List ℕ = replicate 256 0 in
+    let m : ℕ = n - r in
+    let whole : m + (n - m) ≡ n = omega arith in
+    let parts : n ≡ r + m = omega arith in
+    let size : length x ≡ m = ap length e ∙ length-take-le m (drop r b) (omega (arith, length-drop r b)) in
+    let rest : drop (n - m) (drop m (x ++ drop m zero)) ≡ replicate (256 - n) 0 =
+    ap (drop (n - m)) (drop_at x (drop m zero) m size) ∙ drop-drop (n - m) m zero ∙ ap (λ (k : ℕ). drop k zero) whole ∙ drop_zeros n 256
+    in
+    let from : drop r (take n b) ≡ x = ap (λ (k : ℕ). drop r (take k b)) parts ∙ drop-take r m b ∙ sym e in
+    let before : take r (take n b) ≡ y = take-take r n b h ∙ sym f in
+    ap₂ (λ (a c : List ℕ). a ++ (y ++ c)) (take_at x (drop m zero) m size) rest ∙ sym (append_assoc x y (replicate (256 - n) 0))
+    ∙ ap₂ (λ (a c : List ℕ). (a ++ c) ++ replicate (256 - n) 0) (sym from) (sym before)
 
 -- The latencies in the working words
 

@@ -1,44 +1,39 @@
 -- The ways a search ends: what it answers, and what the working words and the plan then are. Assumes nothing.
+use Rattle.std.proofs.Common.{Result, Ok, Err, Some, None}
 use Prim.Native.Nat.{ℕ, suc, ◌+◌, ◌*◌, ◌^◌, ◌≤◌, ◌<◌}
 use mathlib.Core.Path.{◌≡◌, refl, sym, ap, ◌∙◌, subst}
-use mathlib.Core.Bool.{Bool, true, false, cond, ◌&&◌}
+use mathlib.Core.Bool.{Bool, true, false}
 use mathlib.Core.List.{List, [], ◌∷◌}
 use native.Mathlib.Nat.{suc-mul}
 use native.Mathlib.Omega.{arith}
-use lib.Dec.{leb, ltb}
+use lib.Dec.{leb}
 use lib.ListN.{length, get_or, drop, length-drop}
 use lib.Seq.{length-take-le}
-use borrow.Author.Tests.{le-leb, lt-leb, leb-true, leb-false, lt-ltb}
+use borrow.Author.Tests.{le-leb, lt-leb, lt-ltb}
 use Rattle.unit.specs.declared.Plan.{Plan}
 use Rattle.unit.specs.declared.FunctionUnit.{FunctionUnit}
 use Rattle.unit.specs.declared.Refusal.{Refusal}
 use Rattle.unit.specs.declared.Refusal.TheVariants.{ShortWork, TooManyStates}
-use Rattle.unit.specs.declared.Answer.{Answer}
-use Rattle.unit.specs.declared.Answer.TheVariants.{Done, Refused}
-use Rattle.unit.specs.Table.{Table}
+use Rattle.unit.specs.Answers.{Answer}
 use Rattle.unit.specs.Unit.{marked}
 use Rattle.unit.specs.Calls.{check, and_then, tag_answer}
 use Rattle.unit.proofs.Laws.{never_done}
 use Rattle.collision.specs.Pipeline.{total}
-use Rattle.collision.specs.Vector.{vector_word}
 use Rattle.collision.proofs.VectorLaws.{marked_bounded, vector_lt}
-use Rattle.diagram.specs.Diagram.{width, longest}
+use Rattle.diagram.specs.Diagram.{width}
 use Rattle.diagram.specs.States.{states}
 use Rattle.diagram.specs.Answers.{states_of, few_states}
-use Rattle.diagram.specs.Cycles.{CycleFrom}
 use Rattle.diagram.proofs.StatesLaws.{Vector}
 use Rattle.diagram.proofs.Walks.{walk_permits}
 use Rattle.diagram.proofs.WidthLaws.{width_le}
 use Rattle.cycles.specs.Greedy.{WorkAfter}
-use Rattle.graphs.specs.Rotation.{rotate}
 use Rattle.cycles.specs.Rotation.{first_rotation}
 use Rattle.graphs.proofs.Rotations.{rotate_length}
 use Rattle.mean_cycle.specs.declared.Cycle.{Cycle}
-use Rattle.mean_cycle.specs.declared.Answer.TheVariants.{No, Found}
-use Rattle.mean_cycle.specs.Mean.{Floor, LeastMean, searchable, Searched}
-use Rattle.planner.specs.Plans.{Best, plan_of, with_plan, search_answer, SearchPromise}
-use Rattle.planner.specs.Inner.{found, in_first_rotation, Small, Standing, BestPlan, Sought}
-use Rattle.planner.proofs.PlanLaws.{found_length, found_at}
+use Rattle.mean_cycle.specs.Mean.{LeastMean, searchable, Searched}
+use Rattle.planner.specs.Plans.{plan_of, with_plan, search_answer, SearchPromise}
+use Rattle.planner.specs.Inner.{found, in_first_rotation, Standing, Sought}
+use Rattle.planner.proofs.PlanLaws.{found_at}
 use Rattle.planner.proofs.BestLaws.{best_of}
 
 -- What is left as it was
@@ -46,25 +41,23 @@ use Rattle.planner.proofs.BestLaws.{best_of}
 untouched : (answer : Answer) (before : List ℕ) → WorkAfter answer before before
 untouched answer before = record { size = refl; beyond = λ i h. refl; kept = λ why e ne. refl }
 
-not_found : {A : Type 0} (answer : Answer) (why : Refusal) → answer ≡ Refused why → answer ≡ Done → A
-not_found answer why e d = never_done (sym e ∙ d)
+pub never_planned : {A : Type 0} {why : Refusal} {p : Plan} → ◌≡◌ {A = Result Plan Refusal} (Err why) (Ok p) → A
+never_planned e = let z : ◌≡◌ {A = ℕ} 0 1 = cc in absurd (omega arith)
 
-pub sought_refused : (u : FunctionUnit) (q : ℕ) (before : List ℕ) (why : Refusal) (answer : Answer) (p : Plan)
-    → tag_answer u q ≡ Refused why → answer ≡ Refused why → Sought u q before before answer p
+pub sought_refused : (u : FunctionUnit) (q : ℕ) (before : List ℕ) (why : Refusal) → tag_answer u q ≡ Err why → Sought u q before before (Err why)
 unfolding search_answer
-sought_refused u q before why answer p t e = record {
-  says = e ∙ sym (ap (λ a. and_then a (check (leb 16000 (length before)) ShortWork (few_states 1 (marked u) q))) t);
-  found = λ d. not_found answer why e d;
-  work = untouched answer before;
+sought_refused u q before why t = record {
+  says = sym (ap (λ a. and_then a (check (leb 16000 (length before)) ShortWork (few_states 1 (marked u) q))) t);
+  found = λ p d. never_planned d;
+  work = untouched (Err why) before;
 }
 
-pub sought_short : (u : FunctionUnit) (q w : ℕ) (before : List ℕ) (answer : Answer) (p : Plan)
-    → Vector u q w → length before < 16000 → answer ≡ Refused ShortWork → Sought u q before before answer p
+pub sought_short : (u : FunctionUnit) (q w : ℕ) (before : List ℕ) → Vector u q w → length before < 16000 → Sought u q before before (Err ShortWork)
 unfolding search_answer
-sought_short u q w before answer p v h e = record {
-  says = e ∙ sym (simp (v.accepted, lt-leb 16000 (length before) h));
-  found = λ d. not_found answer ShortWork e d;
-  work = untouched answer before;
+sought_short u q w before v h = record {
+  says = sym (simp (v.accepted, lt-leb 16000 (length before) h));
+  found = λ p d. never_planned d;
+  work = untouched (Err ShortWork) before;
 }
 
 -- Whether a search of the diagram was made
@@ -76,17 +69,17 @@ module _ (u : FunctionUnit) (q w : ℕ) (before : List ℕ) (v : Vector u q w) (
       let low : w < 2 ^ 31 = subst (λ (x : ℕ). x < 2 ^ 31) v.word (vector_lt (marked u) (marked_bounded u) q) in
       simp (le-leb 2048 (length before) (omega arith), lt-ltb w (2 ^ 31) low)
 
-  answer_is : (b : Bool) → searchable (length before) 1 w ≡ b → search_answer u q (length before) ≡ check b TooManyStates Done
+  answer_is : (b : Bool) → searchable (length before) 1 w ≡ b → search_answer u q (length before) ≡ check b TooManyStates (Ok tt)
   unfolding search_answer
   answer_is b e =
       let same : leb (length (states_of 1 (marked u) q)) 256 ≡ b =
       ap (λ x. leb (length (states 256 1 (width x) x)) 256) v.word ∙ sym few_test ∙ e in
       simp (v.accepted, le-leb 16000 (length before) h, same)
 
-  pub sought_many : (words : List ℕ) (answer : Answer) (p : Plan) → Searched 1 w before words No → answer ≡ Refused TooManyStates → Sought u q before words answer p
-  sought_many words answer p s e = record {
-    says = e ∙ sym (answer_is false (sym s.answer));
-    found = λ d. not_found answer TooManyStates e d;
+  pub sought_many : (words : List ℕ) → Searched 1 w before words None → Sought u q before words (Err TooManyStates)
+  sought_many words s = record {
+    says = sym (answer_is false (sym s.answer));
+    found = λ p d. never_planned d;
     work = record {
       size = s.size;
       beyond = λ i l. s.beyond i (omega arith);
@@ -96,7 +89,7 @@ module _ (u : FunctionUnit) (q w : ℕ) (before : List ℕ) (v : Vector u q w) (
 
   -- The cycle that was found
 
-  module _ (words : List ℕ) (c : Cycle) (s : Searched 1 w before words (Found c)) where
+  module _ (words : List ℕ) (c : Cycle) (s : Searched 1 w before words (Some c)) where
     least : LeastMean 1 w words c
     least = s.least c refl
 
@@ -127,15 +120,15 @@ module _ (u : FunctionUnit) (q w : ℕ) (before : List ℕ) (v : Vector u q w) (
         total_most b [] f = omega arith
         total_most b (x ∷ l) f = omega (arith, f 0 (omega arith), total_most b l (λ i k. f (suc i) (omega arith)), suc-mul (length l) b)
 
-    pub sought_found : (p : Plan) → p ≡ plan_of q (in_first_rotation (found words c.count)) → Sought u q before words Done p
+    pub sought_found : (p : Plan) → p ≡ plan_of q (in_first_rotation (found words c.count)) → Sought u q before words (Ok p)
     sought_found p e = record {
       says = sym (answer_is true (sym s.answer));
-      found = λ d. record {
+      found = λ x d. record {
         cycle = in_first_rotation l;
         few = omega (arith, rotate_length l (first_rotation l), long, least.few);
         best = best_of (marked u) (marked_bounded u) q l (omega (arith, long, least.some)) (rw v.word least.cycle)
             (rw (v.word, long, ← least.adds) least.floor);
-        plan = e;
+        plan = let same : x ≡ p = cc in same ∙ e;
       };
       work = record {
         size = s.size;
@@ -149,22 +142,22 @@ module _ (u : FunctionUnit) (q w : ℕ) (before : List ℕ) (v : Vector u q w) (
 
 -- What the call promises
 
-pub search_refused : (u : FunctionUnit) (q : ℕ) (before words : List ℕ) (answer : Answer) (p : Plan) (why : Refusal)
-    → Sought u q before words answer p → answer ≡ Refused why → SearchPromise u q before words answer u
-search_refused u q before words answer p why s e = record {
+pub search_refused : (u : FunctionUnit) (q : ℕ) (before words : List ℕ) (why : Refusal)
+    → Sought u q before words (Err why) → SearchPromise u q before words (Err why) u
+search_refused u q before words why s = record {
   says = s.says;
   kept = λ other f. refl;
-  found = λ d. not_found answer why e d;
+  found = λ d. never_done d;
   work = s.work;
 }
 
-pub search_found : (u : FunctionUnit) (q : ℕ) (before words : List ℕ) (answer : Answer) (p : Plan)
-    → Sought u q before words answer p → answer ≡ Done → SearchPromise u q before words Done (with_plan u p)
-search_found u q before words answer p s d =
-    let b = s.found d in
+pub search_found : (u : FunctionUnit) (q : ℕ) (before words : List ℕ) (p : Plan)
+    → Sought u q before words (Ok p) → SearchPromise u q before words (Ok tt) (with_plan u p)
+search_found u q before words p s =
+    let b = s.found p refl in
     record {
-      says = sym d ∙ s.says;
+      says = s.says;
       kept = λ why f. never_done (sym f);
       found = λ e. record { cycle = b.cycle; few = b.few; best = b.best; unit = ap (with_plan u) b.plan };
-      work = subst (λ (a : Answer). WorkAfter a before words) d s.work;
+      work = s.work;
     }

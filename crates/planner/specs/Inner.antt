@@ -1,16 +1,15 @@
 -- What the private functions ask and find. No public contract cites this file.
-use Rattle.std.specs.Prelude.{◌≡◌, ℕ, ◌+◌, ◌^◌, ◌≤◌, ◌<◌, List, length, get_or, take, drop}
+use Rattle.std.specs.Prelude.{◌≡◌, ℕ, ◌+◌, ◌^◌, ◌≤◌, ◌<◌, List, length, get_or, take, drop, Result, Ok}
 use Rattle.unit.specs.declared.Plan.{Plan}
 use Rattle.unit.specs.declared.FunctionUnit.{FunctionUnit}
-use Rattle.unit.specs.declared.Answer.{Answer}
-use Rattle.unit.specs.declared.Answer.TheVariants.{Done}
+use Rattle.unit.specs.declared.Refusal.{Refusal}
 use Rattle.unit.specs.Unit.{marked}
 use Rattle.collision.specs.Pipeline.{total}
 use Rattle.cycles.specs.Greedy.{WorkAfter}
 use Rattle.graphs.specs.Rotation.{rotate}
 use Rattle.cycles.specs.Rotation.{first_rotation}
 use Rattle.mean_cycle.specs.declared.Cycle.{Cycle}
-use Rattle.planner.specs.Plans.{Best, plan_of, search_answer}
+use Rattle.planner.specs.Plans.{Best, plan_of, answer_of, search_answer}
 
 -- the latencies of a cycle of that many, which stand in the working words from 1536 on
 abbrev pub found : List ℕ → ℕ → List ℕ
@@ -41,7 +40,7 @@ pub record BestPlan (u : FunctionUnit) (q : ℕ) (p : Plan) : Type 0 where
   pub plan : p ≡ plan_of q cycle
 
 -- what the search before its plan is stored finds
-pub record Sought (u : FunctionUnit) (q : ℕ) (before words : List ℕ) (answer : Answer) (p : Plan) : Type 0 where
-  pub says : answer ≡ search_answer u q (length before)
-  pub found : answer ≡ Done → BestPlan u q p
-  pub work : WorkAfter answer before words
+pub record Sought (u : FunctionUnit) (q : ℕ) (before words : List ℕ) (r : Result Plan Refusal) : Type 0 where
+  pub says : answer_of r ≡ search_answer u q (length before)
+  pub found : (p : Plan) → r ≡ Ok p → BestPlan u q p
+  pub work : WorkAfter (answer_of r) before words

@@ -1,14 +1,13 @@
 -- The best cycle of a function, the plan that holds it, and what search and read answer.
-use Rattle.std.specs.Prelude.{◌≡◌, not, List, ◌++◌, ℕ, ◌-◌, ◌*◌, ◌≤◌, leb, eqb, length, replicate}
+use Rattle.std.specs.Prelude.{◌≡◌, not, Result, List, ◌++◌, ℕ, ◌-◌, ◌*◌, ◌≤◌, leb, eqb, length, replicate, Ok, Err}
 use Rattle.unit.specs.declared.Plan.{Plan}
 use Rattle.unit.specs.declared.FunctionUnit.{FunctionUnit}
 use Rattle.unit.specs.declared.Refusal.{Refusal}
-use Rattle.unit.specs.declared.Refusal.TheVariants.{NotSound, ShortWork, TooManyStates, NoPlan}
-use Rattle.unit.specs.declared.Answer.{Answer}
-use Rattle.unit.specs.declared.Answer.TheVariants.{Done, Refused}
+use Rattle.unit.specs.declared.Refusal.TheVariants.{NotSound, ShortWork, NoPlan}
+use Rattle.unit.specs.Answers.{Answer}
 use Rattle.unit.specs.Table.{Table}
 use Rattle.unit.specs.Unit.{marked, sound_of}
-use Rattle.unit.specs.Calls.{check, and_then, tag_answer, no_plan}
+use Rattle.unit.specs.Calls.{check, and_then, tag_answer}
 use Rattle.collision.specs.Pipeline.{Cycle, total, NeverCollides}
 use Rattle.collision.specs.Vector.{vector_word}
 use Rattle.diagram.specs.Diagram.{width}
@@ -16,7 +15,6 @@ use Rattle.diagram.specs.Cycles.{CycleFrom}
 use Rattle.diagram.specs.Answers.{few_states}
 use Rattle.cycles.specs.Greedy.{WorkAfter}
 use Rattle.cycles.specs.Rotation.{LeastRotated}
-use Rattle.planner.specs.declared.Handed.{Handed}
 
 -- The best cycle
 
@@ -34,6 +32,11 @@ abbrev pub SameAverage : Type 0
 SameAverage = (g : ℕ) (T : Table) (q : ℕ) (a b : List ℕ) → Best g T q a → Best g T q b → total a * length b ≡ total b * length a
 
 -- The plan
+
+-- what a call that hands out a plan answers, its plan aside
+abbrev pub answer_of : Result Plan Refusal → Answer
+answer_of (Ok _) = Ok tt
+answer_of (Err why) = Err why
 
 -- tag, K, S, and the cycle in 256 bytes of which the rest are 0
 abbrev pub plan_of : ℕ → List ℕ → Plan
@@ -69,19 +72,19 @@ pub record Found (u : FunctionUnit) (q : ℕ) (after : FunctionUnit) : Type 0 wh
 -- Free are the first 2,048 working words, unless the search is refused by 1, 2 or 5 (`WorkAfter`).
 pub record SearchPromise (u : FunctionUnit) (q : ℕ) (before words : List ℕ) (answer : Answer) (after : FunctionUnit) : Type 0 where
   pub says : answer ≡ search_answer u q (length before)
-  pub kept : (why : Refusal) → answer ≡ Refused why → after ≡ u
-  pub found : answer ≡ Done → Found u q after
+  pub kept : (why : Refusal) → answer ≡ Err why → after ≡ u
+  pub found : answer ≡ Ok tt → Found u q after
   pub work : WorkAfter answer before words
 
 -- Read
 
 unfoldable pub read_answer : FunctionUnit → Answer
-read_answer u = check (sound_of u) NotSound (check (not (eqb u.plan.tag 0)) NoPlan Done)
+read_answer u = check (sound_of u) NotSound (check (not (eqb u.plan.tag 0)) NoPlan (Ok tt))
 
 -- the plan by value; none where the read is refused
-abbrev pub handing : Answer → Plan → Handed
-handing Done p = record { answer = Done; plan = p }
-handing (Refused why) p = record { answer = Refused why; plan = no_plan }
+abbrev pub handing : Answer → Plan → Result Plan Refusal
+handing (Ok _) p = Ok p
+handing (Err why) p = Err why
 
-unfoldable pub read_of : FunctionUnit → Handed
+unfoldable pub read_of : FunctionUnit → Result Plan Refusal
 read_of u = handing (read_answer u) u.plan

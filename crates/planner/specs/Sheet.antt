@@ -1,17 +1,16 @@
 -- Every list of calls on a unit, held against a sheet that is fed the calls and their arguments alone.
-use Rattle.std.specs.Prelude.{ℕ, ◌-◌, ◌≤◌, ◌≡◌, true, false, cond, List, [], ◌∷◌, leb, eqb, length, take, drop, replicate}
+use Rattle.std.specs.Prelude.{ℕ, ◌-◌, ◌≤◌, ◌≡◌, true, false, cond, List, [], ◌∷◌, leb, eqb, length, take, drop, replicate, Result, Ok, Err}
 use Rattle.unit.specs.declared.Plan.{Plan}
 use Rattle.unit.specs.declared.FunctionUnit.{FunctionUnit}
 use Rattle.unit.specs.declared.Outcome.{Outcome}
-use Rattle.unit.specs.declared.Answer.{Answer}
-use Rattle.unit.specs.declared.Answer.TheVariants.{Done, Refused}
+use Rattle.unit.specs.declared.Refusal.{Refusal}
+use Rattle.unit.specs.Answers.{Answer}
 use Rattle.unit.specs.Numbers.{number_of}
 use Rattle.unit.specs.Table.{Table, empty, changed}
 use Rattle.unit.specs.Unit.{inside, marked, good_counts, sound_of}
 use Rattle.unit.specs.Calls.{fresh_of, mark_of, unmark_of}
 use Rattle.collision.specs.Pipeline.{total}
 use Rattle.diagram.specs.Answers.{states_of}
-use Rattle.planner.specs.declared.Handed.{Handed}
 use Rattle.planner.specs.Plans.{Best, SearchPromise, read_of}
 
 -- The calls, and what a caller is told
@@ -29,12 +28,12 @@ pub data Reply : Type 0 where
   handed : Plan → Reply
 
 abbrev pub reply_to : Answer → Reply
-reply_to Done = accepted
-reply_to (Refused why) = refused (number_of why)
+reply_to (Ok _) = accepted
+reply_to (Err why) = refused (number_of why)
 
-abbrev pub read_reply : Answer → Plan → Reply
-read_reply Done p = handed p
-read_reply (Refused why) p = refused (number_of why)
+abbrev pub read_reply : Result Plan Refusal → Reply
+read_reply (Ok p) = handed p
+read_reply (Err why) = refused (number_of why)
 
 -- A run
 
@@ -52,7 +51,7 @@ abbrev pub Step : FunctionUnit → Call → Reply → FunctionUnit → Type 0
 Step u (Mark q s c) a after = (r : Outcome) × (r ≡ mark_of u q s c) × (a ≡ reply_to r.answer) × (after ≡ r.unit)
 Step u (Unmark q s c) a after = (r : Outcome) × (r ≡ unmark_of u q s c) × (a ≡ reply_to r.answer) × (after ≡ r.unit)
 Step u (Search q room) a after = Searching u q room a after
-Step u Read a after = (r : Handed) × (r ≡ read_of u) × (a ≡ read_reply r.answer r.plan) × (after ≡ u)
+Step u Read a after = (r : Result Plan Refusal) × (r ≡ read_of u) × (a ≡ read_reply r) × (after ≡ u)
 
 -- a list of calls, each on the unit as the one before left it
 abbrev pub Run : FunctionUnit → List Call → List Reply → Type 0

@@ -4,26 +4,11 @@
 
 ghost use Rattle.std.specs.Prelude.{◌≡◌, ◌++◌, ◌-◌, ◌≤◌, ◌<◌, length, take, replicate};
 ghost use Rattle.graphs.specs.Rotation.{rotate};
-ghost use Rattle.planner.specs.Plans.{plan_of, SearchPromise, read_answer, read_of};
+ghost use Rattle.planner.specs.Plans.{plan_of, SearchPromise, read_of};
 ghost use Rattle.planner.specs.Inner.{found, in_first_rotation, Small, Standing, Sought};
 
-use collision::Number;
 use mean_cycle::Cycle;
-use unit::{Answer, FunctionUnit, Outcome, Plan, Refusal, Tag};
-
-// A plan that is handed out by value, or why there is none.
-#[derive(Clone, Copy)]
-pub struct Handed {
-    pub answer: Answer,
-    pub plan: Plan,
-}
-
-// What a search finds before it stores it.
-#[derive(Clone, Copy)]
-struct Searched {
-    answer: Answer,
-    plan: Plan,
-}
+use unit::{FunctionUnit, Outcome, Plan, Refusal, Tag};
 
 // The latencies that stand in the working words from 1536 on, as bytes; the rest are 0.
 fn bytes_of(work: &[u32], count: usize) -> [u8; 256]
@@ -31,10 +16,8 @@ fn bytes_of(work: &[u32], count: usize) -> [u8; 256]
     ensures { result ≡ found work.now count ++ replicate (256 - count) 0 }
 {
     let mut bytes = [0u8; 256];
-    let mut i: usize = 0;
-    while i < count {
+    for i in 0..count {
         bytes[i] = work[1536 + i] as u8;
-        i += 1;
     }
     bytes
 }
@@ -45,11 +28,8 @@ fn rotated(bytes: [u8; 256], count: usize, first: usize) -> [u8; 256]
     ensures { result ≡ rotate (take count bytes) first ++ replicate (256 - count) 0 }
 {
     let mut turned = [0u8; 256];
-    let mut i: usize = 0;
-    while i < count {
-        turned[i] = bytes[(first + i) % count];
-        i += 1;
-    }
+    turned[..count - first].copy_from_slice(&bytes[first..count]);
+    turned[count - first..count].copy_from_slice(&bytes[..first]);
     turned
 }
 
@@ -70,91 +50,54 @@ fn plan_of(tag: Tag, cycle: Cycle, work: &[u32]) -> Plan
     }
 }
 
-// No plan, and why.
-fn refused(why: Refusal) -> Searched
-    ensures { result.answer ≡ Answer.Refused why }
-{
-    let plan = unit::no_plan();
-    Searched {
-        answer: Answer::Refused(why),
-        plan,
-    }
-}
-
 // The plan of a function's best cycle, or why there is none.
-fn find(u: FunctionUnit, tag: Tag, work: &mut [u32]) -> Searched
-    ensures { Sought u tag.0 work.old work.new result.answer result.plan }
+fn find(u: FunctionUnit, tag: Tag, work: &mut [u32]) -> Result<Plan, Refusal>
+    ensures { Sought u tag.0 work.old work.new result }
 {
-    let vector = collision::vector(u, tag);
-    match vector {
-        Number::Refused(why) => refused(why),
-        Number::Value(word) => {
-            if work.len() < 16000 {
-                return refused(Refusal::ShortWork);
-            }
-            let best = mean_cycle::least_mean_cycle(word, work);
-            match best {
-                mean_cycle::Answer::No => refused(Refusal::TooManyStates),
-                mean_cycle::Answer::Found(cycle) => {
-                    let plan = plan_of(tag, cycle, work);
-                    Searched {
-                        answer: Answer::Done,
-                        plan,
-                    }
-                }
-            }
-        }
+    let word = collision::vector(u, tag)?;
+    if work.len() < 16000 {
+        return Err(Refusal::ShortWork);
     }
+    let Some(cycle) = mean_cycle::least_mean_cycle(word, work) else {
+        return Err(Refusal::TooManyStates);
+    };
+    Ok(plan_of(tag, cycle, work))
 }
 
 // Finds a function's best cycle and stores its plan in place of an older one; a refused search leaves the unit.
 pub fn search(u: FunctionUnit, tag: Tag, work: &mut [u32]) -> Outcome
     ensures { SearchPromise u tag.0 work.old work.new result.answer result.unit }
 {
-    let inner = find(u, tag, work);
-    let answer = inner.answer;
-    let Answer::Done = answer else {
-        return Outcome { answer, unit: u };
-    };
-    let marks = u.marks;
-    let plan = inner.plan;
-    Outcome {
-        answer: Answer::Done,
-        unit: FunctionUnit {
-            functions: u.functions,
-            segments: u.segments,
-            columns: u.columns,
-            marks,
-            plan,
+    match find(u, tag, work) {
+        Err(why) => Outcome {
+            answer: Err(why),
+            unit: u,
         },
+        Ok(plan) => {
+            let marks = u.marks;
+            Outcome {
+                answer: Ok(()),
+                unit: FunctionUnit {
+                    functions: u.functions,
+                    segments: u.segments,
+                    columns: u.columns,
+                    marks,
+                    plan,
+                },
+            }
+        }
     }
 }
 
-// Whether a read hands out a plan.
-fn check_plan(u: FunctionUnit) -> Answer
-    ensures { result ≡ read_answer u }
-{
-    if !unit::sound(u) {
-        return Answer::Refused(Refusal::NotSound);
-    }
-    if u.plan.tag == 0 {
-        return Answer::Refused(Refusal::NoPlan);
-    }
-    Answer::Done
-}
-
-// Hands out the plan by value; a refused read hands out none.
-pub fn read(u: FunctionUnit) -> Handed
+// Hands out the plan by value, or says why there is none.
+pub fn read(u: FunctionUnit) -> Result<Plan, Refusal>
     ensures { result ≡ read_of u }
 {
-    let answer = check_plan(u);
-    let Answer::Done = answer else {
-        let none = unit::no_plan();
-        return Handed { answer, plan: none };
-    };
-    let plan = u.plan;
-    Handed {
-        answer: Answer::Done,
-        plan,
+    if !unit::sound(u) {
+        return Err(Refusal::NotSound);
     }
+    if u.plan.tag == 0 {
+        return Err(Refusal::NoPlan);
+    }
+    Ok(u.plan)
 }

@@ -1,18 +1,16 @@
 -- What `play` wrote: what the sheet says, or 1 throughout where the counts are refused. Assumes nothing.
+use Rattle.std.proofs.Common.{Err}
 use Prim.Native.Nat.{ℕ, zero, suc, ◌+◌}
-use mathlib.Core.Path.{◌≡◌, refl, sym, ap, ap₂, subst, ◌∙◌}
+use mathlib.Core.Path.{◌≡◌, refl, ap, ap₂, ◌∙◌}
 use mathlib.Core.Bool.{true, false}
-use mathlib.Core.List.{List, [], ◌∷◌, ◌++◌}
+use mathlib.Core.List.{List, [], ◌∷◌}
 use native.Mathlib.Numerals.{add-one}
 use lib.ListN.{length, replicate, length-append}
 use Rattle.unit.specs.declared.FunctionUnit.{FunctionUnit}
 use Rattle.unit.specs.declared.Outcome.{Outcome}
 use Rattle.unit.specs.declared.Refusal.TheVariants.{NotSound}
-use Rattle.unit.specs.declared.Answer.{Answer}
-use Rattle.unit.specs.declared.Answer.TheVariants.{Refused}
 use Rattle.unit.specs.Unit.{good_counts, sound_of}
-use Rattle.unit.specs.Calls.{no_plan, tag_answer, spot_answer, fresh_of, mark_of, unmark_of}
-use Rattle.planner.specs.declared.Handed.{Handed}
+use Rattle.unit.specs.Calls.{tag_answer, spot_answer, fresh_of, mark_of, unmark_of}
 use Rattle.planner.specs.Plans.{search_answer, read_answer, read_of}
 use Rattle.planner.specs.Sheet.{Call, Reply, reply_to, read_reply, Step, Run, start, Right}
 use Rattle.planner.specs.Sheet.Call.{Mark, Unmark, Search, Read}
@@ -28,19 +26,19 @@ played_right f s c g calls before after work words n h = every_list f s c g (cal
 
 -- Counts that are refused
 
-mark_unsound : (u : FunctionUnit) (q s c : ℕ) → sound_of u ≡ false → mark_of u q s c ≡ record { answer = Refused NotSound; unit = u }
+mark_unsound : (u : FunctionUnit) (q s c : ℕ) → sound_of u ≡ false → mark_of u q s c ≡ record { answer = Err NotSound; unit = u }
 unfolding mark_of spot_answer
 mark_unsound u q s c h = simp h
 
-unmark_unsound : (u : FunctionUnit) (q s c : ℕ) → sound_of u ≡ false → unmark_of u q s c ≡ record { answer = Refused NotSound; unit = u }
+unmark_unsound : (u : FunctionUnit) (q s c : ℕ) → sound_of u ≡ false → unmark_of u q s c ≡ record { answer = Err NotSound; unit = u }
 unfolding unmark_of spot_answer
 unmark_unsound u q s c h = simp h
 
-search_unsound : (u : FunctionUnit) (q room : ℕ) → sound_of u ≡ false → search_answer u q room ≡ Refused NotSound
+search_unsound : (u : FunctionUnit) (q room : ℕ) → sound_of u ≡ false → search_answer u q room ≡ Err NotSound
 unfolding search_answer tag_answer
 search_unsound u q room h = simp h
 
-read_unsound : (u : FunctionUnit) → sound_of u ≡ false → read_of u ≡ record { answer = Refused NotSound; plan = no_plan }
+read_unsound : (u : FunctionUnit) → sound_of u ≡ false → read_of u ≡ Err NotSound
 unfolding read_of read_answer
 read_unsound u h = simp h
 
@@ -55,7 +53,7 @@ step_unsound (Search q room) u a after h w =
     let m = w.promise.says ∙ search_unsound u q (length w.before) h in
     (w.told ∙ ap reply_to m, w.promise.kept NotSound m)
 step_unsound Read u a after h (r, e, t, l) =
-    (t ∙ ap (λ (o : Handed). read_reply o.answer o.plan) (e ∙ read_unsound u h), l)
+    (t ∙ ap read_reply (e ∙ read_unsound u h), l)
 
 run_unsound : (calls : List Call) (replies : List Reply) (u : FunctionUnit) → sound_of u ≡ false → Run u calls replies → replies ≡ replicate (length calls) (refused 1)
 run_unsound [] [] u h r = refl

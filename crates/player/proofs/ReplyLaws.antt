@@ -1,11 +1,10 @@
 -- The bytes of a reply, as they are written. Assumes nothing.
-use Prim.Native.Nat.{ℕ, ◌+◌, ◌/◌, ◌%◌, ◌≤◌, ◌<◌}
-use mathlib.Core.Path.{◌≡◌, refl, sym, ap, ap₂, ◌∙◌}
+use Prim.Native.Nat.{ℕ, ◌/◌, ◌%◌, ◌≤◌}
+use mathlib.Core.Path.{◌≡◌, refl, ap, ap₂, ◌∙◌}
 use mathlib.Core.List.{List, [], ◌∷◌, ◌++◌, append-nil}
-use native.Mathlib.Numerals.{add-one}
 use native.Mathlib.Omega.{arith}
-use lib.ListN.{length, get_or, set, take, drop_of_length-le, length-set}
-use lib.Seq.{take_all, paste, paste-suc, length-paste}
+use lib.ListN.{length, set, take, drop_of_length-le, length-set}
+use lib.Seq.{take_all, paste}
 use Rattle.unit.specs.declared.Plan.{Plan}
 use Rattle.player.specs.Play.{plan_bytes}
 
@@ -30,21 +29,7 @@ headed_front (a ∷ b ∷ c ∷ d ∷ e ∷ f ∷ l) number p h = refl
 -- The plan's bytes behind them
 
 module _ (l : List ℕ) (number : ℕ) (p : Plan) (room : length l ≡ 262) (size : length p.latencies ≡ 256) where
-  -- the reply but for the plan's bytes from i on
-  abbrev pub written : ℕ → List ℕ
-  written i = paste (headed l number p) 6 p.latencies i
-
-  pub written_length : (i : ℕ) → i ≤ 256 → length (written i) ≡ 262
-  written_length i h =
-      let n : length (headed l number p) ≡ 262 = headed_length l number p ∙ room in
-      length-paste (headed l number p) 6 p.latencies i (omega arith) (omega arith) ∙ n
-
-  pub written_more : (i : ℕ) → i < 256 → set (written i) (6 + i) (get_or p.latencies i 0) ≡ written (i + 1)
-  written_more i h =
-      let n : length (headed l number p) ≡ 262 = headed_length l number p ∙ room in
-      paste-suc (headed l number p) 6 p.latencies i 0 (omega arith) (omega arith) ∙ ap written (sym (add-one i))
-
-  pub written_end : written 256 ≡ number ∷ plan_bytes p
+  pub written_end : paste (headed l number p) 6 p.latencies 256 ≡ number ∷ plan_bytes p
   unfolding plan_bytes
   written_end =
       let n : length (headed l number p) ≡ 262 = headed_length l number p ∙ room in

@@ -1,4 +1,5 @@
 -- One call from its four bytes, with the bytes of its reply. Assumes nothing.
+use Rattle.std.proofs.Common.{Result, Ok, Err}
 use Prim.Native.Nat.{ℕ, ◌≤◌}
 use mathlib.Core.Path.{◌≡◌, refl, sym, ap, ap₂, subst, ◌∙◌}
 use mathlib.Core.Bool.{false}
@@ -9,12 +10,11 @@ use borrow.Author.Tests.{eq-eqb, ne_eqb, eqb-false}
 use Rattle.unit.specs.declared.Plan.{Plan}
 use Rattle.unit.specs.declared.FunctionUnit.{FunctionUnit}
 use Rattle.unit.specs.declared.Outcome.{Outcome}
-use Rattle.unit.specs.declared.Answer.{Answer}
-use Rattle.unit.specs.declared.Answer.TheVariants.{Done, Refused}
+use Rattle.unit.specs.declared.Refusal.{Refusal}
+use Rattle.unit.specs.Answers.{Answer}
 use Rattle.unit.specs.Numbers.{number_of, number_in}
 use Rattle.unit.specs.Calls.{no_plan, mark_of, unmark_of}
-use Rattle.planner.specs.declared.Handed.{Handed}
-use Rattle.planner.specs.Plans.{SearchPromise, handing, read_answer, read_of}
+use Rattle.planner.specs.Plans.{SearchPromise, read_of}
 use Rattle.planner.specs.Sheet.{Call, reply_to, read_reply, Step}
 use Rattle.planner.specs.Sheet.Call.{Mark, Unmark, Search, Read}
 use Rattle.player.specs.Play.{call_of, plan_bytes, reply_bytes, may_use}
@@ -28,25 +28,23 @@ no_plan_bytes = refl
 
 told_bytes : (a : Answer) → number_in a ∷ plan_bytes no_plan ≡ reply_bytes (reply_to a)
 unfolding reply_bytes
-told_bytes Done = ap (λ (l : List ℕ). 0 ∷ l) no_plan_bytes
-told_bytes (Refused why) = ap (λ (l : List ℕ). number_of why ∷ l) no_plan_bytes
+told_bytes (Ok _) = ap (λ (l : List ℕ). 0 ∷ l) no_plan_bytes
+told_bytes (Err why) = ap (λ (l : List ℕ). number_of why ∷ l) no_plan_bytes
 
-handing_bytes : (a : Answer) (p : Plan)
-    → number_in (handing a p).answer ∷ plan_bytes (handing a p).plan ≡ reply_bytes (read_reply (handing a p).answer (handing a p).plan)
+pub handed_bytes : (p : Plan) → 0 ∷ plan_bytes p ≡ reply_bytes (read_reply (Ok p))
 unfolding reply_bytes
-handing_bytes Done p = refl
-handing_bytes (Refused why) p = ap (λ (l : List ℕ). number_of why ∷ l) no_plan_bytes
+handed_bytes p = refl
 
-read_bytes : (u : FunctionUnit) → number_in (read_of u).answer ∷ plan_bytes (read_of u).plan ≡ reply_bytes (read_reply (read_of u).answer (read_of u).plan)
-unfolding read_of
-read_bytes u = handing_bytes (read_answer u) u.plan
+pub refused_bytes : {n : ℕ} {p : Plan} (why : Refusal) → n ≡ number_of why → p ≡ no_plan → n ∷ plan_bytes p ≡ reply_bytes (read_reply (Err why))
+unfolding reply_bytes
+refused_bytes why e f = ap₂ (λ (x : ℕ) (y : Plan). x ∷ plan_bytes y) e f ∙ ap (λ (l : List ℕ). number_of why ∷ l) no_plan_bytes
 
 -- The working words after a search
 
 search_kept : (u after : FunctionUnit) (q : ℕ) (work words : List ℕ) (a : Answer) → SearchPromise u q work words a after
     → may_use (Search q (length work)) (reply_to a) ≡ false → words ≡ work
-search_kept u after q work words Done h e = let z : ◌≡◌ {A = ℕ} 0 1 = cc in absurd (omega arith)
-search_kept u after q work words (Refused why) h e = h.work.kept why refl (λ t. eqb-false (number_of why) 7 e (ap number_of t))
+search_kept u after q work words (Ok _) h e = let z : ◌≡◌ {A = ℕ} 0 1 = cc in absurd (omega arith)
+search_kept u after q work words (Err why) h e = h.work.kept why refl (λ t. eqb-false (number_of why) 7 e (ap number_of t))
 
 module _ (u : FunctionUnit) (kind q s c : ℕ) (work : List ℕ) (n : ℕ) (p : Plan) (after : FunctionUnit) where
   at_call : (k : Call) (words : List ℕ) → call_of (length work) kind q s c ≡ k → Turned u k work words n p after
@@ -87,15 +85,14 @@ module _ (u : FunctionUnit) (kind q s c : ℕ) (work : List ℕ) (n : ℕ) (p : 
       h.work.beyond
       (search_kept u r.unit q work words r.answer h))
 
-  pub read_turn : (r : Handed) → (kind ≡ 0 → ⊥) → (kind ≡ 1 → ⊥) → (kind ≡ 2 → ⊥) → r ≡ read_of u → n ≡ number_in r.answer → p ≡ r.plan → after ≡ u
-      → Turned u (call_of (length work) kind q s c) work work n p after
-  read_turn r x y z e b f g =
+  pub read_turn : (r : Result Plan Refusal) → (kind ≡ 0 → ⊥) → (kind ≡ 1 → ⊥) → (kind ≡ 2 → ⊥) → r ≡ read_of u → n ∷ plan_bytes p ≡ reply_bytes (read_reply r)
+      → after ≡ u → Turned u (call_of (length work) kind q s c) work work n p after
+  read_turn r x y z e b g =
       at_call Read work (simp (ne_eqb kind 0 x, ne_eqb kind 1 y, ne_eqb kind 2 z))
       (record {
-        reply = read_reply r.answer r.plan;
+        reply = read_reply r;
         step = (r, e, refl, g);
-        bytes = ap₂ (λ (i : ℕ) (j : Plan). i ∷ plan_bytes j) b f
-            ∙ subst (λ (h : Handed). number_in h.answer ∷ plan_bytes h.plan ≡ reply_bytes (read_reply h.answer h.plan)) (sym e) (read_bytes u);
+        bytes = b;
         room = refl;
         beyond = λ i h. refl;
         kept = λ h. refl;

@@ -7,7 +7,7 @@ ghost use Rattle.std.specs.Prelude.{◌≡◌, ◌∷◌, min, length};
 ghost use Rattle.player.specs.Play.{plan_bytes, call_of, Played};
 ghost use Rattle.player.specs.Inner.{Told, Turned};
 
-use unit::{Answer, FunctionUnit, Outcome, Plan, Segment, Tag};
+use unit::{FunctionUnit, Outcome, Plan, Segment, Tag};
 
 // What one call leaves: the refusal's number or 0, the plan that was handed out or no plan, and the unit.
 #[derive(Clone, Copy)]
@@ -51,14 +51,17 @@ fn one(u: FunctionUnit, kind: u8, tag: u8, segment: u8, column: u8, work: &mut [
     if kind == 2 {
         return told(planner::search(u, Tag(tag), work));
     }
-    let handed = planner::read(u);
-    let answer = handed.answer;
-    let plan = handed.plan;
-    let number = unit::number_in(answer);
-    Turn {
-        number,
-        plan,
-        unit: u,
+    match planner::read(u) {
+        Ok(plan) => Turn {
+            number: 0,
+            plan,
+            unit: u,
+        },
+        Err(why) => Turn {
+            number: u8::from(why),
+            plan: unit::no_plan(),
+            unit: u,
+        },
     }
 }
 
@@ -74,11 +77,7 @@ fn put_reply(out: &mut [u8], number: u8, plan: Plan)
     out[3] = (plan.count / 256) as u8;
     out[4] = (plan.sum % 256) as u8;
     out[5] = (plan.sum / 256) as u8;
-    let mut i: usize = 0;
-    while i < 256 {
-        out[6 + i] = latencies[i];
-        i += 1;
-    }
+    out[6..].copy_from_slice(&latencies);
 }
 
 // Plays as many of the calls as have room for their replies, from a fresh unit of the three counts, each on the unit as
@@ -96,8 +95,7 @@ pub fn play(
     let fresh = unit::fresh(functions, segments, columns);
     let most = smaller(calls.len() / 4, out.len() / 262);
     let mut u = fresh.unit;
-    let mut n: usize = 0;
-    while n < most {
+    for n in 0..most {
         let kind = calls[n * 4];
         let tag = calls[n * 4 + 1];
         let segment = calls[n * 4 + 2];
@@ -110,7 +108,6 @@ pub fn play(
         let end = at + 262;
         put_reply(&mut out[at..end], number, plan);
         u = left;
-        n += 1;
     }
-    n
+    most
 }

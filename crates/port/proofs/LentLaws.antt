@@ -1,4 +1,5 @@
 -- Records that were copied out of a lent list, changed and copied back. Assumes nothing.
+use Rattle.std.proofs.Common.{Ok, Err, Some, None}
 use Prim.Native.Nat.{ℕ, ◌+◌, ◌-◌, ◌*◌, ◌≤◌}
 use mathlib.Core.Path.{◌≡◌, refl, ap, ◌∙◌, sym}
 use mathlib.Core.Bool.{Bool, true, false, cond}
@@ -9,13 +10,12 @@ use lib.ListN.{length, take, drop, set, replicate, length-append, length-set, ta
 use lib.Seq.{length-take-le, take-append-le, drop-append-le, take-append-add, take-take}
 use borrow.Author.Tests.{leb-true, le-leb}
 use Rattle.unit.specs.declared.FunctionUnit.{FunctionUnit}
-use Rattle.unit.specs.declared.Answer.{Answer}
-use Rattle.unit.specs.declared.Answer.TheVariants.{Done, Refused}
+use Rattle.unit.specs.Answers.{Answer}
 use Rattle.unit.specs.Unit.{inside}
 use Rattle.unit.proofs.Laws.{within, inside_of}
 use Rattle.controller.specs.declared.Bank.{Bank}
 use Rattle.queue.specs.declared.Waiting.{Waiting}
-use Rattle.queue.specs.declared.Passed.{Passed}
+use Rattle.queue.specs.Passed.{Passed}
 use Rattle.queue.specs.Line.{no_record, forward}
 use Rattle.queue.specs.Calls.{count_then, list_then, oldest, passed_then}
 use Rattle.queue.proofs.LineLaws.{forward_length}
@@ -102,8 +102,8 @@ module _ (u : FunctionUnit) (C i : ℕ) (ys : List Waiting) (count : ℕ) (w : W
 
   stored : (a : Answer) → arrival_in u C i (length ys) held count w.tag ≡ a
       → stored_of ys (with_queue held i (list_then a (queue_of held i) count w)) own ≡ with_queue ys i (list_then a (queue_of ys i) count w)
-  stored (Refused why) e = ap (λ (l : List Waiting). stored_of ys l own) (parts held i) ∙ stored_own ys own (reach_there i (length ys)) ∙ sym (parts ys i)
-  stored Done e =
+  stored (Err why) e = ap (λ (l : List Waiting). stored_of ys l own) (parts held i) ∙ stored_own ys own (reach_there i (length ys)) ∙ sym (parts ys i)
+  stored (Ok _) e =
       let a = arrival_accepted u C i (length ys) held count w.tag e in
       let c = one_of_lem C i a.caller in
       let n = reach_all i (length ys) (omega (arith, c.few, c.most)) (omega (arith, c.least, a.long)) in
@@ -143,9 +143,9 @@ module _ (u : FunctionUnit) (b : Bank) (C turn : ℕ) (ys : List Waiting) (count
   passes = passed_same u C turn whole ys counts alike b
 
   left : (a : Passed) → passed_at u b C turn ys counts ≡ a → stored_of ys (list_by whole counts caller a) all ≡ list_by ys counts caller a
-  left Passed.Idle e = ap (λ (l : List Waiting). stored_of ys l all) (parts whole caller) ∙ stored_own ys all (reach_there C (length ys)) ∙ sym (parts ys caller)
-  left (Passed.Refused why) e = ap (λ (l : List Waiting). stored_of ys l all) (parts whole caller) ∙ stored_own ys all (reach_there C (length ys)) ∙ sym (parts ys caller)
-  left (Passed.Started w) e =
+  left (Ok None) e = ap (λ (l : List Waiting). stored_of ys l all) (parts whole caller) ∙ stored_own ys all (reach_there C (length ys)) ∙ sym (parts ys caller)
+  left (Err why) e = ap (λ (l : List Waiting). stored_of ys l all) (parts whole caller) ∙ stored_own ys all (reach_there C (length ys)) ∙ sym (parts ys caller)
+  left (Ok (Some w)) e =
       let d = started_there u b C turn ys counts w e in
       let n = reach_all C (length ys) d.caller.few d.long in
       ap (λ (l : List Waiting). stored_of ys (with_queue whole caller (forward l (count_of counts caller))) all)

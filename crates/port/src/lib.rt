@@ -2,7 +2,7 @@
 // Every public function here is proved, total and without a `requires`.
 #![tactic(auto)]
 
-ghost use Rattle.std.specs.Prelude.{◌≡◌, ◌≤◌, ◌<◌, length, get_or, set, replicate};
+ghost use Rattle.std.specs.Prelude.{◌≡◌, ◌≤◌, length, replicate};
 ghost use Rattle.queue.specs.Line.{no_record};
 ghost use Rattle.callers.specs.Calls.{arrival_of, arrival_list, unit_of, unit_list};
 ghost use Rattle.callers.specs.Parts.{arrival_in, arrival_on_by, unit_in, unit_on_by};
@@ -36,37 +36,14 @@ fn no_records() -> Records
     }
 }
 
-// The records with another one at a place.
-fn with_record(records: Records, place: usize, waiting: Waiting) -> Records
-    requires { place < 32 }
-    ensures { result.list ≡ set records.list place waiting }
-{
-    let mut list = records.list;
-    list[place] = waiting;
-    Records { list }
-}
-
-// The record at a place.
-fn record_at(records: Records, place: usize) -> Waiting
-    requires { place < 32 }
-    ensures { result ≡ get_or records.list place no_record }
-{
-    let held = records.list;
-    held[place]
-}
-
 // The first records of a lent list, which stays as it is.
 fn load(list: &mut [Waiting], count: usize) -> Records
     requires { (count ≤ 32) × (count ≤ length list.old) }
     ensures { (result.list ≡ loaded_of list.old count) × (list.new ≡ list.old) }
 {
-    let mut records = no_records();
-    let mut at = 0;
-    while at < count {
-        records = with_record(records, at, list[at]);
-        at = at + 1;
-    }
-    records
+    let mut held = no_records().list;
+    held[..count].copy_from_slice(&list[..count]);
+    Records { list: held }
 }
 
 // The first records of a lent list become these.
@@ -74,11 +51,7 @@ fn store(list: &mut [Waiting], records: Records, count: usize)
     requires { (count ≤ 32) × (count ≤ length list.old) }
     ensures { list.new ≡ stored_of list.old records.list count }
 {
-    let mut at = 0;
-    while at < count {
-        list[at] = record_at(records, at);
-        at = at + 1;
-    }
+    list[..count].copy_from_slice(&records.list[..count]);
 }
 
 // The calls on the records that were copied out of the list

@@ -1,4 +1,5 @@
 -- A line that was written is the one that answers the question. Assumes nothing.
+use Rattle.std.proofs.Common.{Result, Ok, Err}
 use mathlib.Core.Path.{◌≡◌, sym, ap, ◌∙◌}
 use mathlib.Core.List.{List, ◌++◌}
 use Prim.Native.Nat.{ℕ}
@@ -9,8 +10,6 @@ use Rattle.text.specs.Wrote.{Wrote}
 use Rattle.unit.specs.declared.FunctionUnit.{FunctionUnit}
 use Rattle.unit.specs.declared.Refusal.{Refusal}
 use Rattle.unit.specs.Unit.{marked}
-use Rattle.collision.specs.declared.Number.{Number}
-use Rattle.collision.specs.declared.Number.TheVariants as Number
 use Rattle.collision.specs.Answers.{vector_answer, row_answer}
 use Rattle.diagram.specs.Diagram.{width}
 use Rattle.listing.specs.Lines.{newline, refused_line}
@@ -20,10 +19,10 @@ use Rattle.questions.specs.Replies.{numbered, vector_reply, matrix_width, row_re
 
 -- A number that was asked for
 
-pub numbered_refused : {asked : Number} {why : Refusal} (line : ℕ → List ℕ) → asked ≡ Number.Refused why → refused_line why ≡ numbered asked line
+pub numbered_refused : {asked : (Result ℕ Refusal)} {why : Refusal} (line : ℕ → List ℕ) → asked ≡ Err why → refused_line why ≡ numbered asked line
 numbered_refused line t = ap (λ a. numbered a line) (sym t)
 
-pub numbered_value : {asked : Number} {n : ℕ} (line : ℕ → List ℕ) → asked ≡ Number.Value n → line n ≡ numbered asked line
+pub numbered_value : {asked : (Result ℕ Refusal)} {n : ℕ} (line : ℕ → List ℕ) → asked ≡ Ok n → line n ≡ numbered asked line
 numbered_value line t = ap (λ a. numbered a line) (sym t)
 
 -- Rows
@@ -32,22 +31,22 @@ numbered_value line t = ap (λ a. numbered a line) (sym t)
 abbrev pub row_line : List ℕ → ℕ → ℕ → List ℕ
 row_line word n w = word ++ vector_text n w ++ newline
 
-module _ (u : FunctionUnit) (q : ℕ) {asked : Number} (a : asked ≡ vector_answer u q) where
-  pub vector_refused : {why : Refusal} → asked ≡ Number.Refused why → refused_line why ≡ vector_reply u q
+module _ (u : FunctionUnit) (q : ℕ) {asked : (Result ℕ Refusal)} (a : asked ≡ vector_answer u q) where
+  pub vector_refused : {why : Refusal} → asked ≡ Err why → refused_line why ≡ vector_reply u q
   unfolding vector_reply
   vector_refused t = numbered_refused (λ w. row_line (ascii "vector ") (width w) w) (sym a ∙ t)
 
-  pub vector_shown : {w columns : ℕ} → asked ≡ Number.Value w → columns ≡ width w → row_line (ascii "vector ") columns w ≡ vector_reply u q
+  pub vector_shown : {w columns : ℕ} → asked ≡ Ok w → columns ≡ width w → row_line (ascii "vector ") columns w ≡ vector_reply u q
   unfolding vector_reply
   vector_shown {w} t e =
       ap (λ n. row_line (ascii "vector ") n w) e ∙ numbered_value (λ w. row_line (ascii "vector ") (width w) w) (sym a ∙ t)
 
-module _ (u : FunctionUnit) (q r : ℕ) {asked : Number} (a : asked ≡ row_answer u q r) where
-  pub row_refused : {why : Refusal} → asked ≡ Number.Refused why → refused_line why ≡ row_reply u q r
+module _ (u : FunctionUnit) (q r : ℕ) {asked : (Result ℕ Refusal)} (a : asked ≡ row_answer u q r) where
+  pub row_refused : {why : Refusal} → asked ≡ Err why → refused_line why ≡ row_reply u q r
   unfolding row_reply
   row_refused t = numbered_refused (row_line (ascii "row ") (matrix_width (marked u) r)) (sym a ∙ t)
 
-  pub row_shown : {w columns : ℕ} → asked ≡ Number.Value w → columns ≡ matrix_width (marked u) r → row_line (ascii "row ") columns w ≡ row_reply u q r
+  pub row_shown : {w columns : ℕ} → asked ≡ Ok w → columns ≡ matrix_width (marked u) r → row_line (ascii "row ") columns w ≡ row_reply u q r
   unfolding row_reply
   row_shown {w} t e = ap (λ n. row_line (ascii "row ") n w) e ∙ numbered_value (row_line (ascii "row ") (matrix_width (marked u) r)) (sym a ∙ t)
 

@@ -1,16 +1,11 @@
 -- What a designer who asks about a function is told, one line for each question.
-use Rattle.std.specs.Prelude.{List, ◌++◌, ℕ, ◌+◌}
+use Rattle.std.specs.Prelude.{List, ◌++◌, ℕ, ◌+◌, Result, Ok, Err, Bool, true, false}
 use Rattle.words.specs.Below.{max_below}
 use Rattle.text.specs.Text.{ascii, decimal, vector_text, spaced}
 use Rattle.unit.specs.declared.FunctionUnit.{FunctionUnit}
-use Rattle.unit.specs.declared.Answer.{Answer}
-use Rattle.unit.specs.declared.Answer.TheVariants.{Done, Refused}
+use Rattle.unit.specs.Answers.{Answer}
 use Rattle.unit.specs.Table.{Table}
 use Rattle.unit.specs.Unit.{marked}
-use Rattle.collision.specs.declared.Number.{Number}
-use Rattle.collision.specs.declared.Number.TheVariants as Number
-use Rattle.judge.specs.declared.Verdict.{Verdict}
-use Rattle.judge.specs.declared.Verdict.TheVariants as Verdict
 use Rattle.collision.specs.Vector.{row_word}
 use Rattle.collision.specs.Answers.{vector_answer, row_answer, bound_answer, upper_answer, constant_answer}
 use Rattle.judge.specs.Judge.{judge_answer}
@@ -19,16 +14,17 @@ use Rattle.diagram.specs.Answers.{states_of, states_answer}
 use Rattle.cycles.specs.Greedy.{greedy_of, greedy_refusal}
 use Rattle.listing.specs.Lines.{newline, number_line, cycle_line, refused_line}
 use Rattle.questions.specs.declared.Question.{Question}
+use Rattle.unit.specs.declared.Refusal.{Refusal}
 use Rattle.questions.specs.declared.Question.TheVariants as Question
 
 -- the line of an answer that is not refused, else `refused` and the number
-abbrev pub numbered : Number → (ℕ → List ℕ) → List ℕ
-numbered (Number.Value n) line = line n
-numbered (Number.Refused why) line = refused_line why
+abbrev pub numbered : Result ℕ Refusal → (ℕ → List ℕ) → List ℕ
+numbered (Ok n) line = line n
+numbered (Err why) line = refused_line why
 
 abbrev pub answered : Answer → List ℕ → List ℕ
-answered Done line = line
-answered (Refused why) line = refused_line why
+answered (Ok _) line = line
+answered (Err why) line = refused_line why
 
 -- columns n to 1 of the collision vector
 unfoldable pub vector_reply : FunctionUnit → ℕ → List ℕ
@@ -50,10 +46,10 @@ states_reply u q =
 unfoldable pub greedy_reply : FunctionUnit → ℕ → List ℕ
 greedy_reply u q = answered (greedy_refusal u q 16000 256) (cycle_line "greedy" (greedy_of 1 (marked u) q))
 
-abbrev pub verdict_line : Verdict → List ℕ
-verdict_line Verdict.Yes = ascii "yes\n"
-verdict_line Verdict.No = ascii "no\n"
-verdict_line (Verdict.Refused why) = refused_line why
+abbrev pub verdict_line : Result Bool Refusal → List ℕ
+verdict_line (Ok true) = ascii "yes\n"
+verdict_line (Ok false) = ascii "no\n"
+verdict_line (Err why) = refused_line why
 
 -- the line that answers a question; the cycle is what a judge is asked about
 unfoldable pub reply_to : FunctionUnit → Question → List ℕ → List ℕ

@@ -9,10 +9,7 @@ ghost use Rattle.listing.specs.Lines.{newline, refused_line};
 ghost use Rattle.questions.specs.Replies.{numbered, vector_reply, matrix_width, row_reply, states_reply, greedy_reply, verdict_line, reply_to};
 
 use crate::Question;
-use collision::Number;
-use cycles::GreedyAnswer;
-use judge::Verdict;
-use unit::{Answer, FunctionUnit, Refusal, Tag};
+use unit::{FunctionUnit, Refusal, Tag};
 
 // A word, a number, and the end of the line.
 fn put_value(line: &mut [u8], word: &[u8], number: u32) -> usize
@@ -29,21 +26,17 @@ fn put_refusal(line: &mut [u8], why: Refusal) -> usize
     requires { 4096 ≤ length line.old }
     ensures { Wrote line.old 0 (refused_line why) line.new result }
 {
-    put_value(
-        line,
-        b"refused ",
-        unit::number_in(Answer::Refused(why)) as u32,
-    )
+    put_value(line, b"refused ", u32::from(why))
 }
 
 // A word and the number that was asked for.
-fn put_asked(line: &mut [u8], word: &[u8], asked: Number) -> usize
+fn put_asked(line: &mut [u8], word: &[u8], asked: Result<u32, Refusal>) -> usize
     requires { (length word.now ≤ 9) × (4096 ≤ length line.old) }
     ensures { Wrote line.old 0 (numbered asked (λ n. word.now ++ decimal n ++ newline)) line.new result }
 {
     match asked {
-        Number::Refused(why) => put_refusal(line, why),
-        Number::Value(number) => put_value(line, word, number),
+        Err(why) => put_refusal(line, why),
+        Ok(number) => put_value(line, word, number),
     }
 }
 
@@ -63,8 +56,8 @@ fn put_vector(line: &mut [u8], u: FunctionUnit, tag: Tag) -> usize
 {
     let asked = collision::vector(u, tag);
     match asked {
-        Number::Refused(why) => put_refusal(line, why),
-        Number::Value(vector) => {
+        Err(why) => put_refusal(line, why),
+        Ok(vector) => {
             let columns = diagram::width_of(vector);
             put_columns(line, b"vector ", columns, vector)
         }
@@ -86,13 +79,11 @@ fn matrix_width(u: FunctionUnit, r: Tag) -> u32
     ensures { result ≡ matrix_width (marked u) r.0 }
 {
     let mut widest: u32 = 0;
-    let mut tag: u8 = 0;
-    while tag < 4 {
+    for tag in 0..4 {
         let columns = row_width(u, Tag(tag + 1), r);
         if widest < columns {
             widest = columns;
         }
-        tag += 1;
     }
     widest
 }
@@ -103,8 +94,8 @@ fn put_row(line: &mut [u8], u: FunctionUnit, q: Tag, r: Tag) -> usize
 {
     let asked = collision::matrix_row(u, q, r);
     match asked {
-        Number::Refused(why) => put_refusal(line, why),
-        Number::Value(row) => {
+        Err(why) => put_refusal(line, why),
+        Ok(row) => {
             let columns = matrix_width(u, r);
             put_columns(line, b"row ", columns, row)
         }
@@ -130,8 +121,8 @@ fn put_states(line: &mut [u8], u: FunctionUnit, tag: Tag) -> usize
     let mut list = [0u32; 256];
     let asked = state_list::states(u, tag, &mut list);
     match asked {
-        Number::Refused(why) => put_refusal(line, why),
-        Number::Value(number) => {
+        Err(why) => put_refusal(line, why),
+        Ok(number) => {
             let count = number as usize;
             put_list(line, number, &list[..count])
         }
@@ -158,22 +149,22 @@ fn put_greedy(line: &mut [u8], u: FunctionUnit, tag: Tag) -> usize
     let mut cycle = [0u8; 256];
     let asked = cycles::greedy(u, tag, &mut work, &mut cycle);
     match asked {
-        GreedyAnswer::Refused(why) => put_refusal(line, why),
-        GreedyAnswer::Cycle(counted) => {
+        Err(why) => put_refusal(line, why),
+        Ok(counted) => {
             let count = counted.count as usize;
             put_cycle(line, &cycle[..count], counted.sum)
         }
     }
 }
 
-fn put_verdict(line: &mut [u8], verdict: Verdict) -> usize
+fn put_verdict(line: &mut [u8], verdict: Result<bool, Refusal>) -> usize
     requires { 4096 ≤ length line.old }
     ensures { Wrote line.old 0 (verdict_line verdict) line.new result }
 {
     match verdict {
-        Verdict::Yes => text::put(line, 0, b"yes\n"),
-        Verdict::No => text::put(line, 0, b"no\n"),
-        Verdict::Refused(why) => put_refusal(line, why),
+        Ok(true) => text::put(line, 0, b"yes\n"),
+        Ok(false) => text::put(line, 0, b"no\n"),
+        Err(why) => put_refusal(line, why),
     }
 }
 

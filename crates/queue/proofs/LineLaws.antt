@@ -1,21 +1,18 @@
 -- The line of waiting records after an arrival and after a start. Assumes nothing.
 use Prim.Native.Nat.{ℕ, zero, suc, ◌+◌, ◌-◌, ◌≤◌, ◌<◌}
-use mathlib.Core.Path.{◌≡◌, refl, ap, ◌∙◌, sym}
-use mathlib.Core.Bool.{Bool, true, false, cond, ◌&&◌}
+use mathlib.Core.Path.{◌≡◌, refl, ap, ◌∙◌}
+use mathlib.Core.Bool.{Bool, true, false, ◌&&◌}
 use mathlib.Core.List.{List, [], ◌∷◌, ◌++◌}
 use native.Mathlib.Omega.{arith}
 use native.Mathlib.Numerals.{add-one}
-use lib.ListN.{length, get_or, take, drop, set, length-take, length-drop}
-use lib.Seq.{take_at, take-suc, take-suc-set}
-use lib.Dec.{eqb}
-use borrow.Author.Tests.{ne_eqb}
+use lib.ListN.{length, take, drop, set, length-append, length-take, length-drop}
+use lib.Seq.{take_at, take-suc-set, length-take-le}
+use Rattle.std.specs.List.{copy_within, list_all}
 use Rattle.words.proofs.Tests.{and_left, and_right, and_true}
 use Rattle.unit.specs.declared.FunctionUnit.{FunctionUnit}
 use Rattle.unit.specs.Unit.{inside}
 use Rattle.queue.specs.declared.Waiting.{Waiting}
-use Rattle.queue.specs.Line.{no_record, tags_inside, forward}
-use Rattle.queue.specs.Inner.{seen_of, look_of}
-use Rattle.queue.proofs.Shift.{shift_length}
+use Rattle.queue.specs.Line.{tags_inside, forward}
 
 and_one : (b : Bool) → b && true ≡ true && b
 and_one true = refl
@@ -45,6 +42,12 @@ pub tags_joined : (u : FunctionUnit) (line : List Waiting) (w : Waiting) → tag
     → tags_inside u.functions (line ++ w ∷ []) ≡ true
 tags_joined u line w e i = tags_one_more u.functions line w ∙ and_true e i
 
+-- whether all of them have
+pub tags_all : (f : ℕ) (line : List Waiting) → list_all (λ w. inside w.tag f) line ≡ tags_inside f line
+unfolding tags_inside
+tags_all f [] = refl
+tags_all f (w ∷ line) = ap (λ t. inside w.tag f && t) (tags_all f line)
+
 pub tags_take : (f n : ℕ) (line : List Waiting) → tags_inside f line ≡ true → tags_inside f (take n line) ≡ true
 unfolding tags_inside
 tags_take f zero line e = refl
@@ -58,9 +61,15 @@ set_line list count w h = rw add-one (take-suc-set list count w h)
 
 -- A start
 
+-- the method of a list that moves a part of it
+pub copied_forward : (list after : List Waiting) (count : ℕ) → after ≡ copy_within list 1 count 0 → after ≡ forward list count
+unfolding forward
+copied_forward list after count e = e ∙ ap (λ k. take (count - 1) (drop 1 list) ++ drop k list) (omega arith)
+
 pub forward_length : (list : List Waiting) (count : ℕ) → count ≤ length list → 1 ≤ count → length (forward list count) ≡ length list
 unfolding forward
-forward_length list count h l = shift_length list (count - 1) (omega arith)
+forward_length list count h l =
+    omega (arith, length-append (take (count - 1) (drop 1 list)) (drop (count - 1) list), length-take-le (count - 1) (drop 1 list) (omega (arith, length-drop 1 list)), length-drop 1 list, length-drop (count - 1) list)
 
 pub forward_line : (list : List Waiting) (count : ℕ) (w : Waiting) (line : List Waiting) → count ≤ length list → take count list ≡ w ∷ line
     → take (count - 1) (forward list count) ≡ line
@@ -74,21 +83,3 @@ forward_line list count w line h e =
     rest list zero e = let z : ◌≡◌ {A = ℕ} 0 1 = cc in absurd (omega arith)
     rest [] (suc count) e = let z : ◌≡◌ {A = ℕ} 0 1 = cc in absurd (omega arith)
     rest (x ∷ list) (suc count) e = let s : suc count - 1 ≡ count = omega arith in rw s (cc)
-
--- A look at the records
-
-pub seen_none : (f : ℕ) (list : List Waiting) → seen_of 0 [] ≡ seen_of f (take 0 list)
-unfolding seen_of tags_inside
-seen_none f list = refl
-
-pub seen_more : (f : ℕ) (list : List Waiting) (j : ℕ) → j < length list → look_of f (seen_of f (take j list)) j (get_or list j no_record) ≡ seen_of f (take (suc j) list)
-unfolding seen_of look_of
-seen_more f list j h = λ i. record { fit = fits i; first = firsts list j h i }
-  where
-    fits : tags_inside f (take j list) && inside (get_or list j no_record).tag f ≡ tags_inside f (take (suc j) list)
-    fits = sym (ap (tags_inside f) (take-suc list j no_record h) ∙ tags_one_more f (take j list) (get_or list j no_record))
-
-    firsts : (list : List Waiting) (j : ℕ) → j < length list → cond (eqb j 0) (get_or list j no_record) (get_or (take j list) 0 no_record) ≡ get_or (take (suc j) list) 0 no_record
-    firsts [] j h = absurd (omega arith)
-    firsts (x ∷ list) zero h = refl
-    firsts (x ∷ list) (suc j) h = let e : eqb (suc j) 0 ≡ false = ne_eqb (suc j) 0 (λ z. omega arith) in simp e

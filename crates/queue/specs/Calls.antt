@@ -1,9 +1,9 @@
 -- What an arrival and a time unit answer, and the list, the count and the bank that they leave. A queue has room for 32 records; the room is a
 -- parameter, because each caller's queue in a port that several share has another.
-use Rattle.std.specs.Prelude.{ℕ, ◌+◌, ◌-◌, Bool, cond, List, [], ◌∷◌, leb, ltb, length, take, set, replicate}
+use Rattle.std.specs.Prelude.{ℕ, ◌+◌, ◌-◌, Bool, cond, List, [], ◌∷◌, leb, ltb, length, take, set, replicate, Ok, Err, Some, None}
 use Rattle.unit.specs.declared.FunctionUnit.{FunctionUnit}
 use Rattle.unit.specs.declared.Refusal.TheVariants.{NotSound, NoSuchTag, ShortOutput, TooManyWait}
-use Rattle.unit.specs.declared.Answer.{Answer}
+use Rattle.unit.specs.Answers.{Answer}
 use Rattle.unit.specs.Unit.{inside, sound_of}
 use Rattle.unit.specs.Calls.{check}
 use Rattle.controller.specs.declared.Bank.{Bank}
@@ -11,7 +11,7 @@ use Rattle.controller.specs.declared.Event.TheVariants.{Tick, Start}
 use Rattle.controller.specs.Bank.{granted, step_of}
 use Rattle.queue.specs.declared.Waiting.{Waiting}
 use Rattle.queue.specs.declared.Arrival.{Arrival}
-use Rattle.queue.specs.declared.Passed.{Passed}
+use Rattle.queue.specs.Passed.{Passed}
 use Rattle.queue.specs.declared.Pass.{Pass}
 use Rattle.queue.specs.declared.Queue.{Queue}
 use Rattle.queue.specs.declared.Joined.{Joined}
@@ -32,19 +32,19 @@ arrival_by size u length count tag fit =
     (check (leb size length) ShortOutput
     (check (inside tag u.functions) NoSuchTag
     (check (ltb count size) TooManyWait
-    (check fit NoSuchTag Answer.Done))))
+    (check fit NoSuchTag (Ok tt)))))
 
 unfoldable pub arrival_answer : ℕ → FunctionUnit → List Waiting → ℕ → Waiting → Answer
 arrival_answer size u list count offered = arrival_by size u (length list) count offered.tag (tags_inside u.functions (take count list))
 
 -- an accepted arrival waits behind the others; a refused one changes nothing
 abbrev pub count_then : Answer → ℕ → ℕ
-count_then Answer.Done count = count + 1
-count_then (Answer.Refused why) count = count
+count_then (Ok _) count = count + 1
+count_then (Err why) count = count
 
 abbrev pub list_then : Answer → List Waiting → ℕ → Waiting → List Waiting
-list_then Answer.Done list count offered = set list count offered
-list_then (Answer.Refused why) list count offered = list
+list_then (Ok _) list count offered = set list count offered
+list_then (Err why) list count offered = list
 
 unfoldable pub arrival_of : ℕ → FunctionUnit → List Waiting → ℕ → Waiting → Arrival
 arrival_of size u list count offered = record {
@@ -64,39 +64,39 @@ unit_by size u length count fit =
     check (sound_of u) NotSound
     (check (leb size length) ShortOutput
     (check (leb count size) TooManyWait
-    (check fit NoSuchTag Answer.Done)))
+    (check fit NoSuchTag (Ok tt))))
 
 unfoldable pub unit_answer : ℕ → FunctionUnit → List Waiting → ℕ → Answer
 unit_answer size u list count = unit_by size u (length list) count (tags_inside u.functions (take count list))
 
 -- the oldest of the records that wait is started if the bank grants it; otherwise none is
 unfoldable pub oldest : Bank → List Waiting → Passed
-oldest b [] = Passed.Idle
-oldest b (w ∷ line) = cond (granted b w.tag) (Passed.Started w) Passed.Idle
+oldest b [] = Ok None
+oldest b (w ∷ line) = cond (granted b w.tag) (Ok (Some w)) (Ok None)
 
 abbrev pub passed_then : Answer → Passed → Passed
-passed_then Answer.Done next = next
-passed_then (Answer.Refused why) next = Passed.Refused why
+passed_then (Ok _) next = next
+passed_then (Err why) next = Err why
 
 unfoldable pub passed_of : ℕ → FunctionUnit → Bank → List Waiting → ℕ → Passed
 passed_of size u b list count = passed_then (unit_answer size u list count) (oldest b (take count list))
 
 -- a start is the controller's start of the record's tag, and otherwise the unit passes as the controller's tick
 abbrev pub bank_then : FunctionUnit → Passed → Bank → Bank
-bank_then u (Passed.Started w) b = (step_of u b (Start (tag_of w))).bank
-bank_then u Passed.Idle b = (step_of u b Tick).bank
-bank_then u (Passed.Refused why) b = b
+bank_then u (Ok (Some w)) b = (step_of u b (Start (tag_of w))).bank
+bank_then u (Ok None) b = (step_of u b Tick).bank
+bank_then u (Err why) b = b
 
 -- a start leaves one record less, and moves the others one place forward
 abbrev pub fewer : Passed → ℕ → ℕ
-fewer (Passed.Started w) count = count - 1
-fewer Passed.Idle count = count
-fewer (Passed.Refused why) count = count
+fewer (Ok (Some w)) count = count - 1
+fewer (Ok None) count = count
+fewer (Err why) count = count
 
 abbrev pub list_after : Passed → List Waiting → ℕ → List Waiting
-list_after (Passed.Started w) list count = forward list count
-list_after Passed.Idle list count = list
-list_after (Passed.Refused why) list count = list
+list_after (Ok (Some w)) list count = forward list count
+list_after (Ok None) list count = list
+list_after (Err why) list count = list
 
 unfoldable pub pass_of : ℕ → FunctionUnit → Bank → List Waiting → ℕ → Pass
 pass_of size u b list count = record {

@@ -1,3 +1,4 @@
 pub mod Line
 pub mod Calls
 pub mod Inner
+pub mod Passed

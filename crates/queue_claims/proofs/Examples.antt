@@ -1,5 +1,6 @@
 -- Figure 2 of the paper: when the tasks that wait at its port start. A small unit: each refusal, the claims at their limit, and what does not hold where a
 -- condition is missing. As theorems. Assumes nothing.
+use Rattle.std.proofs.Common.{Ok, Err, Some, None}
 use Prim.Native.Nat.{ℕ, ◌+◌, ◌*◌}
 use mathlib.Core.Path.{◌≡◌, refl, sym, ap, ◌∙◌}
 use mathlib.Core.Bool.{true}
@@ -11,7 +12,6 @@ use lib.ListN.{length, get_or, replicate}
 use Rattle.words.specs.Below.{some_below, word_below, span_below, max_below, least_from}
 use Rattle.unit.specs.declared.FunctionUnit.{FunctionUnit}
 use Rattle.unit.specs.declared.Refusal.TheVariants.{NotSound, NoSuchTag, ShortOutput, TooManyWait}
-use Rattle.unit.specs.declared.Answer.TheVariants.{Done, Refused}
 use Rattle.unit.specs.Unit.{marked, marks_inside, sound_of}
 use Rattle.unit.specs.Calls.{no_plan}
 use Rattle.unit.proofs.Laws.{never_done}
@@ -23,7 +23,6 @@ use Rattle.controller.specs.Bank.{register, empty, row_for, event_answer, moved,
 use Rattle.controller.specs.History.{History, bank_after, history_after, Free, Apart, played}
 use Rattle.controller.proofs.Examples.{figure2}
 use Rattle.queue.specs.declared.Waiting.{Waiting}
-use Rattle.queue.specs.declared.Passed.TheVariants as Passed
 use Rattle.queue.specs.Line.{no_record, tags_inside, forward}
 use Rattle.queue.specs.Calls.{room, arrival_answer, arrival_of, arrival_list, unit_answer, oldest, passed_of, pass_of, pass_list}
 use Rattle.queue_claims.specs.Runs.{Port, Call, Start as Begun, no_start, after, done, done_all, empty_port, units_in, starts}
@@ -89,50 +88,50 @@ not_2 o =
 abbrev none : List Waiting
 none = replicate 32 no_record
 
-pub unit_first : arrival_answer room (record { functions = 0; segments = 1; columns = 2; marks = replicate 128 0; plan = no_plan }) [] 33 b ≡ Refused NotSound
+pub unit_first : arrival_answer room (record { functions = 0; segments = 1; columns = 2; marks = replicate 128 0; plan = no_plan }) [] 33 b ≡ Err NotSound
 unfolding no_plan sound_of marks_inside marked some_below arrival_answer
 unit_first = refl
 
 -- 6 before 2
-pub list_of_31 : arrival_answer room pair (replicate 31 no_record) 33 b ≡ Refused ShortOutput
+pub list_of_31 : arrival_answer room pair (replicate 31 no_record) 33 b ≡ Err ShortOutput
 unfolding pair no_plan sound_of marks_inside marked some_below arrival_answer
 list_of_31 = refl
 
 -- 2 for the tag offered before 14
-pub tag_before_14 : arrival_answer room pair none 32 b ≡ Refused NoSuchTag
+pub tag_before_14 : arrival_answer room pair none 32 b ≡ Err NoSuchTag
 unfolding pair no_plan sound_of marks_inside marked some_below arrival_answer
 tag_before_14 = refl
 
 -- 14 before 2 for a record that waits: here their tags are 0
-pub full : arrival_answer room pair none 32 a ≡ Refused TooManyWait
+pub full : arrival_answer room pair none 32 a ≡ Err TooManyWait
 unfolding pair no_plan sound_of marks_inside marked some_below arrival_answer
 full = refl
 
 -- a longer list is taken, and 32 stays the limit
-pub full_of_40 : arrival_answer room pair (replicate 40 a) 32 a ≡ Refused TooManyWait
+pub full_of_40 : arrival_answer room pair (replicate 40 a) 32 a ≡ Err TooManyWait
 unfolding pair no_plan sound_of marks_inside marked some_below arrival_answer
 full_of_40 = refl
 
-pub strange_tag_waits : arrival_answer room pair none 1 a ≡ Refused NoSuchTag
+pub strange_tag_waits : arrival_answer room pair none 1 a ≡ Err NoSuchTag
 unfolding pair no_plan sound_of marks_inside marked some_below tags_inside arrival_answer
 strange_tag_waits = refl
 
 -- the 32nd is accepted
-pub last_place : arrival_answer room pair (replicate 32 a) 31 a ≡ Done
+pub last_place : arrival_answer room pair (replicate 32 a) 31 a ≡ Ok tt
 unfolding pair no_plan sound_of marks_inside marked some_below tags_inside arrival_answer
 last_place = refl
 
 -- Refusals of a time unit
 
-pub unit_of_33 : unit_answer room pair (replicate 40 a) 33 ≡ Refused TooManyWait
+pub unit_of_33 : unit_answer room pair (replicate 40 a) 33 ≡ Err TooManyWait
 unfolding pair no_plan sound_of marks_inside marked some_below unit_answer
 unit_of_33 = refl
 
-pub unit_of_32 : unit_answer room pair (replicate 40 a) 32 ≡ Done
+pub unit_of_32 : unit_answer room pair (replicate 40 a) 32 ≡ Ok tt
 unfolding pair no_plan sound_of marks_inside marked some_below tags_inside unit_answer
 unit_of_32 = refl
 
-pub unit_with_strange_tag : unit_answer room pair none 1 ≡ Refused NoSuchTag
+pub unit_with_strange_tag : unit_answer room pair none 1 ≡ Err NoSuchTag
 unfolding pair no_plan sound_of marks_inside marked some_below tags_inside unit_answer
 unit_with_strange_tag = refl
 
@@ -238,7 +237,7 @@ due_at_once = refl
 abbrev by_hand : Port
 by_hand = done pair (port 0 0 (a ∷ []) 1) (event (Start (record { 0 = 1 })))
 
-pub put_off : passed_of room pair by_hand.bank by_hand.list by_hand.count ≡ Passed.Idle
+pub put_off : passed_of room pair by_hand.bank by_hand.list by_hand.count ≡ Ok None
 unfolding pair no_plan sound_of marks_inside marked some_below row_for row_word word_below collides register event_answer moved step_of tags_inside forward arrival_answer arrival_of arrival_list unit_answer oldest passed_of pass_of pass_list after done
 put_off = refl
 
@@ -279,12 +278,12 @@ abbrev held_1 : Bank
 held_1 = record { r1 = 1; r2 = 0; r3 = 0; r4 = 0 }
 
 -- a bank that is not that of the tasks so far: the oldest is not started, though it would meet none
-pub not_exactly : ((passed_of room pair held_1 (a ∷ none) 1 ≡ Passed.Started a) ↔ Free (marked pair) first []) → ⊥
+pub not_exactly : ((passed_of room pair held_1 (a ∷ none) 1 ≡ Ok (Some a)) ↔ Free (marked pair) first []) → ⊥
 unfolding pair no_plan sound_of marks_inside marked some_below row_for row_word word_below collides register event_answer moved step_of tags_inside forward arrival_answer arrival_of arrival_list unit_answer oldest passed_of pass_of pass_list after
-not_exactly e = let z : Passed.Idle ≡ Passed.Started a = e.1 (λ y m x. Memᴰ.not-nil m) in let y : ◌≡◌ {A = ℕ} 0 1 = cc in omega arith
+not_exactly e = let z : (Ok None) ≡ Ok (Some a) = e.1 (λ y m x. Memᴰ.not-nil m) in let y : ◌≡◌ {A = ℕ} 0 1 = cc in omega arith
 
 -- and an empty bank although a task is under way: it is started, though it would meet that one
-pub not_free : ((passed_of room pair empty (a ∷ none) 1 ≡ Passed.Started a) ↔ Free (marked pair) second (first ∷ [])) → ⊥
+pub not_free : ((passed_of room pair empty (a ∷ none) 1 ≡ Ok (Some a)) ↔ Free (marked pair) second (first ∷ [])) → ⊥
 unfolding pair no_plan sound_of marks_inside marked some_below row_for row_word word_below collides register event_answer moved step_of tags_inside forward arrival_answer arrival_of arrival_list unit_answer oldest passed_of pass_of pass_list after
 not_free e = e.0 refl first (Memᴰ.head refl) meet
 

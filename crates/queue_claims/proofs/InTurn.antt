@@ -1,6 +1,7 @@
 -- Each waiting task starts in its turn, in the time unit that the bank and the records ahead of it give, whatever arrives later.
 -- The argument: the line of records only loses its first and gains at its end. A time unit either starts the first, and the others are due in that
 -- many units from the bank after this start, or passes as a tick, and all are due one unit later. Assumes nothing.
+use Rattle.std.proofs.Common.{Ok}
 use Prim.Native.Nat.{ℕ, zero, suc, ◌+◌, ◌*◌, ◌≤◌, ◌<◌}
 use mathlib.Core.Path.{◌≡◌, refl, ap, ◌∙◌, sym, subst}
 use mathlib.Core.Bool.{true, false}
@@ -12,15 +13,13 @@ use lib.ListN.{length, get_or, take, length-append, length-take, get_or-append, 
 use lib.Seq.{take-append-le, get_or-set_same, get_or-take, take-take}
 use Rattle.words.proofs.Tests.{by_test}
 use Rattle.unit.specs.declared.FunctionUnit.{FunctionUnit}
-use Rattle.unit.specs.declared.Answer.TheVariants.{Done}
 use Rattle.unit.specs.Unit.{marked, sound_of}
 use Rattle.collision.specs.Vector.{largest_column}
 use Rattle.controller.specs.declared.Bank.{Bank}
 use Rattle.controller.specs.Bank.{started, granted}
 use Rattle.controller.proofs.TickLaws.{empty_below, step_below}
 use Rattle.queue.specs.declared.Waiting.{Waiting}
-use Rattle.queue.specs.declared.Passed.{Passed}
-use Rattle.queue.specs.declared.Passed.TheVariants as Passed
+use Rattle.queue.specs.Passed.{Passed}
 use Rattle.queue.specs.Line.{no_record, tags_inside}
 use Rattle.queue.proofs.LineLaws.{tags_take}
 use Rattle.queue.specs.Calls.{room, passed_of}
@@ -224,7 +223,7 @@ starts_in_turn u list actions w e calls =
     let p = done_all u (empty_port list) actions in
     let a = arrival_accepted room u p.list p.count w e in
     let q : Port = after u p (arrival w) in
-    let j = arrival_port u p w Done e in
+    let j = arrival_port u p w (Ok tt) e in
     let count : q.count ≡ p.count + 1 = ap (λ (x : Port). x.count) j in
     let last : get_or q.list p.count no_record ≡ w =
     ap (λ (x : Port). get_or x.list p.count no_record) j ∙ get_or-set_same p.list p.count w no_record (omega (arith, a.few, a.long)) in

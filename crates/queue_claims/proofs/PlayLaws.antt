@@ -1,12 +1,12 @@
 -- A time unit is one of the controller's events, so that its theorems hold of the tasks that time units start. Assumes nothing.
+use Rattle.std.proofs.Common.{Ok, Err, Some, None}
 use mathlib.Core.Path.{◌≡◌, refl, ap, ◌∙◌, sym, subst}
 use mathlib.Core.Bool.{true, false}
 use mathlib.Core.Logic.{◌↔◌}
 use mathlib.Core.List.{List, [], ◌∷◌, ◌++◌}
 use Rattle.words.proofs.Tests.{by_test}
 use Rattle.unit.specs.declared.FunctionUnit.{FunctionUnit}
-use Rattle.unit.specs.declared.Answer.{Answer}
-use Rattle.unit.specs.declared.Answer.TheVariants.{Done}
+use Rattle.unit.specs.Answers.{Answer}
 use Rattle.unit.specs.Unit.{inside, marked, sound_of}
 use Rattle.controller.specs.declared.Bank.{Bank}
 use Rattle.controller.specs.declared.Event.{Event}
@@ -17,8 +17,7 @@ use Rattle.controller.proofs.StepLaws.{start_answered, start_accepted}
 use Rattle.controller.proofs.TickLaws.{tick_answered}
 use Rattle.controller.proofs.Demand2.{granted_exactly, granted_apart}
 use Rattle.queue.specs.declared.Waiting.{Waiting}
-use Rattle.queue.specs.declared.Passed.{Passed}
-use Rattle.queue.specs.declared.Passed.TheVariants as Passed
+use Rattle.queue.specs.Passed.{Passed}
 use Rattle.queue.specs.Line.{tag_of, tags_inside}
 use Rattle.queue.specs.Calls.{bank_then}
 use Rattle.queue.proofs.LineLaws.{tags_first}
@@ -31,24 +30,24 @@ played_joined u c [] two = refl
 played_joined u c (e ∷ one) two = played_joined u (next u c e) one two
 
 -- an accepted event goes into the history
-accepted_next : (u : FunctionUnit) (c : Course) (e : Event) → event_answer u c.bank e ≡ Done
+accepted_next : (u : FunctionUnit) (c : Course) (e : Event) → event_answer u c.bank e ≡ Ok tt
     → next u c e ≡ record { bank = (step_of u c.bank e).bank; history = accepted c.history e }
 unfolding step_of
 accepted_next u c e a = ap (λ (x : Answer). record { bank = (step_of u c.bank e).bank; history = history_then x c.history e }) a
 
 -- a record that was started is the controller's granted start
 pub started_answered : (u : FunctionUnit) {b : Bank} {answer : Answer} {line : List Waiting} {w : Waiting} → Started b answer line w → sound_of u ≡ true
-    → tags_inside u.functions line ≡ true → event_answer u b (Start (tag_of w)) ≡ Done
+    → tags_inside u.functions line ≡ true → event_answer u b (Start (tag_of w)) ≡ Ok tt
 started_answered u {b} {answer} {line} {w} s sound tags =
     start_answered u b (tag_of w) sound (tags_first u w s.rest (ap (tags_inside u.functions) (sym s.first) ∙ tags)) s.granted
 
 -- a time unit, by what was done in it, is the controller's start, its tick, or no event
-pub unit_plays : (u : FunctionUnit) (c : Course) (a : Passed) → ((w : Waiting) → a ≡ Passed.Started w → event_answer u c.bank (Start (tag_of w)) ≡ Done)
-    → (a ≡ Passed.Idle → sound_of u ≡ true) → played u c (unit_events a) ≡ record { bank = bank_then u a c.bank; history = unit_then a c.history }
+pub unit_plays : (u : FunctionUnit) (c : Course) (a : Passed) → ((w : Waiting) → a ≡ Ok (Some w) → event_answer u c.bank (Start (tag_of w)) ≡ Ok tt)
+    → (a ≡ Ok None → sound_of u ≡ true) → played u c (unit_events a) ≡ record { bank = bank_then u a c.bank; history = unit_then a c.history }
 unfolding played
-unit_plays u c (Passed.Started w) s i = accepted_next u c (Start (tag_of w)) (s w refl)
-unit_plays u c Passed.Idle s i = accepted_next u c Tick (tick_answered u (i refl) c.bank)
-unit_plays u c (Passed.Refused why) s i = refl
+unit_plays u c (Ok (Some w)) s i = accepted_next u c (Start (tag_of w)) (s w refl)
+unit_plays u c (Ok None) s i = accepted_next u c Tick (tick_answered u (i refl) c.bank)
+unit_plays u c (Err why) s i = refl
 
 -- A unit that is not sound: every event is refused
 

@@ -1,4 +1,5 @@
 -- What a call leaves at a port whose records are those of a line. Assumes nothing.
+use Rattle.std.proofs.Common.{Ok, Err, Some, None}
 use Prim.Native.Nat.{suc, ◌+◌, ◌-◌, ◌≤◌}
 use mathlib.Core.Path.{◌≡◌, refl, ap, ◌∙◌, sym, subst}
 use mathlib.Core.Bool.{true, false, cond}
@@ -7,8 +8,7 @@ use mathlib.Core.List.{List, [], ◌∷◌, ◌++◌}
 use native.Mathlib.Omega.{arith}
 use lib.ListN.{length, take, length-set, length-take}
 use Rattle.unit.specs.declared.FunctionUnit.{FunctionUnit}
-use Rattle.unit.specs.declared.Answer.{Answer}
-use Rattle.unit.specs.declared.Answer.TheVariants.{Done, Refused}
+use Rattle.unit.specs.Answers.{Answer}
 use Rattle.unit.specs.Unit.{inside, marked, sound_of}
 use Rattle.collision.specs.Vector.{largest_column}
 use Rattle.controller.specs.declared.Bank.{Bank}
@@ -18,8 +18,7 @@ use Rattle.controller.specs.Bank.{shifted, started, granted, moved, step_of}
 use Rattle.controller.proofs.StepLaws.{step_done, start_answered}
 use Rattle.controller.proofs.TickLaws.{tick_shifts, shifted_below, step_below}
 use Rattle.queue.specs.declared.Waiting.{Waiting}
-use Rattle.queue.specs.declared.Passed.{Passed}
-use Rattle.queue.specs.declared.Passed.TheVariants as Passed
+use Rattle.queue.specs.Passed.{Passed}
 use Rattle.queue.specs.Line.{tag_of, tags_inside}
 use Rattle.queue.specs.Calls.{room, arrival_answer, count_then, list_then, arrival_of, arrival_list, oldest, passed_then, passed_of, bank_then, fewer, list_after, pass_of, pass_list}
 use Rattle.queue_claims.specs.Runs.{Port, after}
@@ -54,11 +53,11 @@ pub arrival_port : (u : FunctionUnit) (p : Port) (w : Waiting) (a : Answer) → 
 unfolding after arrival_of arrival_list
 arrival_port u p w a e = ap (λ (a : Answer). record { bank = p.bank; list = list_then a p.list p.count w; count = count_then a p.count }) e
 
-pub ready_joined : (u : FunctionUnit) (p : Port) (w : Waiting) → Low u p.bank → arrival_answer room u p.list p.count w ≡ Done
+pub ready_joined : (u : FunctionUnit) (p : Port) (w : Waiting) → Low u p.bank → arrival_answer room u p.list p.count w ≡ Ok tt
     → Ready u (after u p (arrival w)) (take p.count p.list ++ w ∷ [])
 ready_joined u p w low e =
     let a = arrival_accepted room u p.list p.count w e in
-    subst (λ (q : Port). Ready u q (take p.count p.list ++ w ∷ [])) (sym (arrival_port u p w Done e))
+    subst (λ (q : Port). Ready u q (take p.count p.list ++ w ∷ [])) (sym (arrival_port u p w (Ok tt) e))
     (record {
       low = low;
       long = omega (arith, length-set p.list p.count w, a.long);
@@ -73,8 +72,8 @@ ready_arrival u p line w r = go (arrival_answer room u p.list p.count w) refl
   where
     go : (a : Answer) → arrival_answer room u p.list p.count w ≡ a
         → Ready u (after u p (arrival w)) line ⊎ Ready u (after u p (arrival w)) (line ++ w ∷ [])
-    go Done e = inr (subst (λ (l : List Waiting). Ready u (after u p (arrival w)) (l ++ w ∷ [])) r.waits (ready_joined u p w r.low e))
-    go (Refused why) e = inl (subst (λ (q : Port). Ready u q line) (sym (arrival_port u p w (Refused why) e)) r)
+    go (Ok _) e = inr (subst (λ (l : List Waiting). Ready u (after u p (arrival w)) (l ++ w ∷ [])) r.waits (ready_joined u p w r.low e))
+    go (Err why) e = inl (subst (λ (q : Port). Ready u q line) (sym (arrival_port u p w (Err why) e)) r)
 
 pub arrival_bank : (u : FunctionUnit) (p : Port) (w : Waiting) → (after u p (arrival w)).bank ≡ p.bank
 unfolding after
@@ -103,14 +102,14 @@ module _ (u : FunctionUnit) (sound : sound_of u ≡ true) (p : Port) where
     pub bank : (after u p unit).bank ≡ b
     pub ready : Ready u (after u p unit) line
 
-  ticks_on : (line : List Waiting) → Ready u p line → passed_of room u p.bank p.list p.count ≡ Passed.Idle
-      → Does Passed.Idle (shifted p.bank) line
+  ticks_on : (line : List Waiting) → Ready u p line → passed_of room u p.bank p.list p.count ≡ Ok None
+      → Does (Ok None) (shifted p.bank) line
   ticks_on line r e =
       let t = tick_shifts u sound p.bank in
       record {
         passed = e;
-        bank = ap (λ (q : Port). q.bank) (unit_port u p Passed.Idle e) ∙ t;
-        ready = subst (λ (q : Port). Ready u q line) (sym (unit_port u p Passed.Idle e))
+        bank = ap (λ (q : Port). q.bank) (unit_port u p (Ok None) e) ∙ t;
+        ready = subst (λ (q : Port). Ready u q line) (sym (unit_port u p (Ok None) e))
             (record {
               low = subst (Low u) (sym t) (shifted_below (largest_column (marked u)) p.bank r.low);
               long = r.long;
@@ -124,21 +123,21 @@ module _ (u : FunctionUnit) (sound : sound_of u ≡ true) (p : Port) where
     tag_there : inside w.tag u.functions ≡ true
     tag_there = tags_first u w line r.tags
 
-    pub unit_waits : granted p.bank w.tag ≡ false → Does Passed.Idle (shifted p.bank) (w ∷ line)
+    pub unit_waits : granted p.bank w.tag ≡ false → Does (Ok None) (shifted p.bank) (w ∷ line)
     unfolding oldest
-    unit_waits g = ticks_on (w ∷ line) r (passed_oldest (w ∷ line) r ∙ ap (λ ok. cond ok (Passed.Started w) Passed.Idle) g)
+    unit_waits g = ticks_on (w ∷ line) r (passed_oldest (w ∷ line) r ∙ ap (λ ok. cond ok (Ok (Some w)) (Ok None)) g)
 
-    pub unit_starts : granted p.bank w.tag ≡ true → Does (Passed.Started w) (started u w.tag p.bank) line
+    pub unit_starts : granted p.bank w.tag ≡ true → Does (Ok (Some w)) (started u w.tag p.bank) line
     unfolding oldest
     unit_starts g =
-        let e : passed_of room u p.bank p.list p.count ≡ Passed.Started w =
-        passed_oldest (w ∷ line) r ∙ ap (λ ok. cond ok (Passed.Started w) Passed.Idle) g in
+        let e : passed_of room u p.bank p.list p.count ≡ Ok (Some w) =
+        passed_oldest (w ∷ line) r ∙ ap (λ ok. cond ok (Ok (Some w)) (Ok None)) g in
         let s = bank_start u p.bank w sound tag_there g in
         let n : suc (length line) ≡ p.count = ready_count r in
         record {
           passed = e;
-          bank = ap (λ (q : Port). q.bank) (unit_port u p (Passed.Started w) e) ∙ s;
-          ready = subst (λ (q : Port). Ready u q line) (sym (unit_port u p (Passed.Started w) e))
+          bank = ap (λ (q : Port). q.bank) (unit_port u p (Ok (Some w)) e) ∙ s;
+          ready = subst (λ (q : Port). Ready u q line) (sym (unit_port u p (Ok (Some w)) e))
               (record {
                 low = subst (Low u) (sym s) (low_started u w.tag p.bank sound tag_there r.low);
                 long = omega (arith, r.long, r.few, forward_length p.list p.count (omega (arith, r.long, r.few)) (omega arith));
@@ -158,6 +157,6 @@ unfolding after pass_of
 unit_low u sound p low = go (passed_of room u p.bank p.list p.count)
   where
     go : (a : Passed) → Low u (bank_then u a p.bank)
-    go (Passed.Started w) = step_below u p.bank (Start (tag_of w)) sound low
-    go Passed.Idle = step_below u p.bank Tick sound low
-    go (Passed.Refused why) = low
+    go (Ok (Some w)) = step_below u p.bank (Start (tag_of w)) sound low
+    go (Ok None) = step_below u p.bank Tick sound low
+    go (Err why) = low

@@ -1,4 +1,5 @@
 -- From empty on, a call is refused for the unit, the list and the tag offered, and where 32 wait, and for nothing else. Assumes nothing.
+use Rattle.std.proofs.Common.{Ok, Err, Some, None}
 use Prim.Native.Nat.{ℕ, suc, ◌≤◌}
 use mathlib.Core.Path.{◌≡◌, refl, ap, ◌∙◌, sym, subst}
 use mathlib.Core.Bool.{true}
@@ -9,13 +10,11 @@ use lib.ListN.{length, take, length-set, length-take}
 use borrow.Author.Tests.{le-leb}
 use Rattle.unit.specs.declared.FunctionUnit.{FunctionUnit}
 use Rattle.unit.specs.declared.Refusal.TheVariants.{NotSound, NoSuchTag, ShortOutput, TooManyWait}
-use Rattle.unit.specs.declared.Answer.{Answer}
-use Rattle.unit.specs.declared.Answer.TheVariants.{Done, Refused}
+use Rattle.unit.specs.Answers.{Answer}
 use Rattle.unit.specs.Unit.{inside, sound_of}
 use Rattle.unit.specs.Calls.{check}
 use Rattle.queue.specs.declared.Waiting.{Waiting}
-use Rattle.queue.specs.declared.Passed.{Passed}
-use Rattle.queue.specs.declared.Passed.TheVariants as Passed
+use Rattle.queue.specs.Passed.{Passed}
 use Rattle.queue.specs.Line.{tags_inside}
 use Rattle.queue.specs.Calls.{room, arrival_answer, count_then, list_then, arrival_of, arrival_list, unit_answer, passed_of, fewer, list_after, pass_of, pass_list}
 use Rattle.queue.proofs.LineLaws.{tags_rest, tags_joined, set_line, forward_length, forward_line}
@@ -43,8 +42,8 @@ module _ (u : FunctionUnit) where
   held_arrival p w h = go (arrival_answer room u p.list p.count w) refl
     where
       go : (a : Answer) → arrival_answer room u p.list p.count w ≡ a → Held u (list_then a p.list p.count w) (count_then a p.count)
-      go (Refused why) e = h
-      go Done e =
+      go (Err why) e = h
+      go (Ok _) e =
           let a = arrival_accepted room u p.list p.count w e in
           record {
             sound = λ l. a.sound;
@@ -59,9 +58,9 @@ module _ (u : FunctionUnit) where
   held_unit p h = go (passed_of room u p.bank p.list p.count) refl
     where
       go : (a : Passed) → passed_of room u p.bank p.list p.count ≡ a → Held u (list_after a p.list p.count) (fewer a p.count)
-      go (Passed.Refused why) e = h
-      go Passed.Idle e = h
-      go (Passed.Started w) e =
+      go (Err why) e = h
+      go (Ok None) e = h
+      go (Ok (Some w)) e =
           let s = was_started p.bank (unit_answer room u p.list p.count) (take p.count p.list) w e in
           let a = unit_accepted room u p.list p.count s.accepted in
           let l : p.count ≤ length p.list = omega (arith, a.few, a.long) in
@@ -91,19 +90,19 @@ module _ (u : FunctionUnit) where
   -- so that the tests of the count and of the tags that wait always pass
 
   units : (list : List Waiting) (count : ℕ) → Held u list count
-      → unit_answer room u list count ≡ check (sound_of u) NotSound (check (leb room (length list)) ShortOutput Done)
+      → unit_answer room u list count ≡ check (sound_of u) NotSound (check (leb room (length list)) ShortOutput (Ok tt))
   unfolding unit_answer
   units list count h = simp (le-leb count room h.few, h.tags)
 
   arrivals : (list : List Waiting) (count : ℕ) (w : Waiting) → Held u list count
       → arrival_answer room u list count w
       ≡ check (sound_of u) NotSound
-      (check (leb room (length list)) ShortOutput (check (inside w.tag u.functions) NoSuchTag (check (ltb count room) TooManyWait Done)))
+      (check (leb room (length list)) ShortOutput (check (inside w.tag u.functions) NoSuchTag (check (ltb count room) TooManyWait (Ok tt))))
   unfolding arrival_answer
   arrivals list count w h = simp h.tags
 
   -- and a time unit is accepted where something waits
-  pub waits_accepted : (list : List Waiting) (count : ℕ) → Held u list count → 1 ≤ count → unit_answer room u list count ≡ Done
+  pub waits_accepted : (list : List Waiting) (count : ℕ) → Held u list count → 1 ≤ count → unit_answer room u list count ≡ Ok tt
   waits_accepted list count h l = unit_answered room u list count (h.sound l) (h.long l) h.few h.tags
 
 pub stays_steady : StaysSteady

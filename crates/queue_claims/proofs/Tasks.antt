@@ -1,19 +1,18 @@
 -- The queue's actions are the controller's events, so that its theorems hold of the tasks that the queue starts. Assumes nothing.
+use Rattle.std.proofs.Common.{Ok, Some}
 use Prim.Native.Nat.{suc, ◌≤◌}
 use mathlib.Core.Path.{◌≡◌, refl, ap, ◌∙◌, sym, subst}
 use mathlib.Core.List.{List, [], ◌∷◌}
 use native.Mathlib.Omega.{arith}
 use lib.ListN.{length, take, length-take}
 use Rattle.unit.specs.declared.FunctionUnit.{FunctionUnit}
-use Rattle.unit.specs.declared.Answer.{Answer}
-use Rattle.unit.specs.declared.Answer.TheVariants.{Done}
+use Rattle.unit.specs.Answers.{Answer}
 use Rattle.unit.specs.Unit.{marked}
 use Rattle.controller.specs.declared.Event.TheVariants.{Start}
 use Rattle.controller.specs.Bank.{granted, event_answer}
 use Rattle.controller.specs.History.{History, Course, accepted, outset, played, Apart}
 use Rattle.queue.specs.declared.Waiting.{Waiting}
-use Rattle.queue.specs.declared.Passed.{Passed}
-use Rattle.queue.specs.declared.Passed.TheVariants as Passed
+use Rattle.queue.specs.Passed.{Passed}
 use Rattle.queue.specs.Line.{tag_of, tags_inside}
 use Rattle.queue.specs.Calls.{room, unit_answer, oldest, passed_then, passed_of, pass_of}
 use Rattle.queue_claims.specs.Runs.{Port, Action, after, done, done_all, empty_port}
@@ -43,10 +42,10 @@ module _ (u : FunctionUnit) where
       line : List Waiting
       line = take p.count p.list
 
-      accepts : answer ≡ Done → UnitAccepted room u (length p.list) p.count (tags_inside u.functions line)
+      accepts : answer ≡ Ok tt → UnitAccepted room u (length p.list) p.count (tags_inside u.functions line)
       accepts e = unit_accepted room u p.list p.count e
 
-      begun : (w : Waiting) → passed_then answer (oldest p.bank line) ≡ Passed.Started w → event_answer u p.bank (Start (tag_of w)) ≡ Done
+      begun : (w : Waiting) → passed_then answer (oldest p.bank line) ≡ Ok (Some w) → event_answer u p.bank (Start (tag_of w)) ≡ Ok tt
       begun w e = let s = was_started p.bank answer line w e in started_answered u s (accepts s.accepted).sound (accepts s.accepted).tags
 
   action_plays : (p : Port) (h : History) (d : Action) → played u (at p h) (action_events u p d) ≡ at (done u p d) (history_next u p h d)

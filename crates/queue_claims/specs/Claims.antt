@@ -1,9 +1,8 @@
 -- When a waiting task starts: within (k + 1) × (n + 1) time units, whatever arrives later.
-use Rattle.std.specs.Prelude.{ℕ, ◌+◌, ◌*◌, ◌≤◌, ◌<◌, ◌≡◌, true, List, [], ◌∷◌, leb, ltb, length, get_or, take}
+use Rattle.std.specs.Prelude.{ℕ, ◌+◌, ◌*◌, ◌≤◌, ◌<◌, ◌≡◌, true, List, [], ◌∷◌, leb, ltb, length, get_or, take, Ok}
 use Rattle.words.specs.Below.{least_from}
 use Rattle.unit.specs.declared.FunctionUnit.{FunctionUnit}
 use Rattle.unit.specs.declared.Refusal.TheVariants.{NotSound, NoSuchTag, ShortOutput, TooManyWait}
-use Rattle.unit.specs.declared.Answer.TheVariants.{Done}
 use Rattle.unit.specs.Unit.{inside, marked, sound_of}
 use Rattle.unit.specs.Calls.{check}
 use Rattle.collision.specs.Pipeline.{Collides}
@@ -63,7 +62,7 @@ WaitsInTurn =
 abbrev pub StartsInTurn : Type 0
 StartsInTurn =
     (u : FunctionUnit) (list : List Waiting) (actions : List Action) (w : Waiting)
-    → arrival_answer room u (brought u list actions).list (brought u list actions).count w ≡ Done
+    → arrival_answer room u (brought u list actions).list (brought u list actions).count w ≡ Ok tt
     → (calls : List Call) → InTurn u (after u (brought u list actions) (arrival w)) (brought u list actions).count w calls
 
 -- Later arrivals can't alter a start
@@ -85,12 +84,12 @@ Unaltered =
 
 -- no time unit is refused but for the unit and the list, and no arrival but for these, for the tag offered, and where 32 wait
 pub record Steady (u : FunctionUnit) (p : Port) : Type 0 where
-  pub units : unit_answer room u p.list p.count ≡ check (sound_of u) NotSound (check (leb room (length p.list)) ShortOutput Done)
+  pub units : unit_answer room u p.list p.count ≡ check (sound_of u) NotSound (check (leb room (length p.list)) ShortOutput (Ok tt))
   pub arrivals : (w : Waiting) → arrival_answer room u p.list p.count w
       ≡ check (sound_of u) NotSound
       (check (leb room (length p.list)) ShortOutput
       (check (inside w.tag u.functions) NoSuchTag
-      (check (ltb p.count room) TooManyWait Done)))
+      (check (ltb p.count room) TooManyWait (Ok tt))))
 
 -- so it is from empty on: neither a count above 32 nor a waiting tag that is not the unit's ever comes up (`stays_steady`, proofs/Steady.antt)
 abbrev pub StaysSteady : Type 0

@@ -1,12 +1,11 @@
 -- A list of calls on one unchanged unit, each handing bank, list and count to the next, and the tasks that it starts.
-use Rattle.std.specs.Prelude.{ℕ, ◌+◌, List, [], ◌∷◌, ◌++◌}
+use Rattle.std.specs.Prelude.{ℕ, ◌+◌, List, [], ◌∷◌, ◌++◌, Ok, Err, Some, None}
 use Rattle.unit.specs.declared.FunctionUnit.{FunctionUnit}
 use Rattle.controller.specs.declared.Bank.{Bank}
 use Rattle.controller.specs.declared.Event.{Event}
 use Rattle.controller.specs.Bank.{empty, step_of}
 use Rattle.queue.specs.declared.Waiting.{Waiting}
-use Rattle.queue.specs.declared.Passed.{Passed}
-use Rattle.queue.specs.declared.Passed.TheVariants as Passed
+use Rattle.queue.specs.Passed.{Passed}
 use Rattle.queue.specs.Line.{no_record}
 use Rattle.queue.specs.Calls.{room, arrival_of, arrival_list, passed_of, pass_of, pass_list}
 
@@ -74,9 +73,9 @@ abbrev pub no_start : Start
 no_start = record { task = no_record; unit = 0 }
 
 abbrev pub start_in : Passed → ℕ → List Start
-start_in (Passed.Started w) n = record { task = w; unit = n } ∷ []
-start_in Passed.Idle n = []
-start_in (Passed.Refused why) n = []
+start_in (Ok (Some w)) n = record { task = w; unit = n } ∷ []
+start_in (Ok None) n = []
+start_in (Err why) n = []
 
 -- the starts of a list of calls, the earliest first, where n time units have passed before
 unfoldable pub starts : FunctionUnit → Port → ℕ → List Call → List Start

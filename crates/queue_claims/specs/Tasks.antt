@@ -1,6 +1,6 @@
 -- The tasks that the queue starts are granted by the issue controller: each time unit is one of the controller's events, so that what holds of every list
 -- of events holds of the queue.
-use Rattle.std.specs.Prelude.{◌+◌, ◌≡◌, ◌↔◌, List, [], ◌∷◌, ◌++◌, take}
+use Rattle.std.specs.Prelude.{◌+◌, ◌≡◌, ◌↔◌, List, [], ◌∷◌, ◌++◌, take, Ok, Err, Some, None}
 use Rattle.unit.specs.declared.FunctionUnit.{FunctionUnit}
 use Rattle.unit.specs.Unit.{marked}
 use Rattle.controller.specs.declared.Event.{Event}
@@ -8,8 +8,7 @@ use Rattle.controller.specs.declared.Event.TheVariants.{Tick, Start}
 use Rattle.controller.specs.Bank.{step_of}
 use Rattle.controller.specs.History.{History, accepted, history_then, task_now, outset, bank_after, history_after, Free, Apart}
 use Rattle.queue.specs.declared.Waiting.{Waiting}
-use Rattle.queue.specs.declared.Passed.{Passed}
-use Rattle.queue.specs.declared.Passed.TheVariants as Passed
+use Rattle.queue.specs.Passed.{Passed}
 use Rattle.queue.specs.Line.{tag_of}
 use Rattle.queue.specs.Calls.{room, passed_of}
 use Rattle.queue_claims.specs.Runs.{Port, Action, done, empty_port, brought}
@@ -20,9 +19,9 @@ use Rattle.queue_claims.specs.Runs.Action.{event, call}
 
 -- a time unit that started a record adds its task; one that was refused takes no time
 abbrev pub unit_then : Passed → History → History
-unit_then (Passed.Started w) h = accepted h (Start (tag_of w))
-unit_then Passed.Idle h = accepted h Tick
-unit_then (Passed.Refused why) h = h
+unit_then (Ok (Some w)) h = accepted h (Start (tag_of w))
+unit_then (Ok None) h = accepted h Tick
+unit_then (Err why) h = h
 
 -- an event goes into the history by the controller's answer, and an arrival takes no time
 unfoldable pub history_next : FunctionUnit → Port → History → Action → History
@@ -41,9 +40,9 @@ tasks_after u list actions = history_from u (empty_port list) outset.history act
 -- The events of the controller that they are
 
 abbrev pub unit_events : Passed → List Event
-unit_events (Passed.Started w) = Start (tag_of w) ∷ []
-unit_events Passed.Idle = Tick ∷ []
-unit_events (Passed.Refused why) = []
+unit_events (Ok (Some w)) = Start (tag_of w) ∷ []
+unit_events (Ok None) = Tick ∷ []
+unit_events (Err why) = []
 
 abbrev pub action_events : FunctionUnit → Port → Action → List Event
 action_events u p (event e) = e ∷ []
@@ -75,5 +74,5 @@ abbrev pub QueueExactly : Type 0
 QueueExactly =
     (u : FunctionUnit) (list : List Waiting) (actions : List Action) (w : Waiting) (line : List Waiting)
     → take (brought u list actions).count (brought u list actions).list ≡ w ∷ line
-    → (passed_of room u (brought u list actions).bank (brought u list actions).list (brought u list actions).count ≡ Passed.Started w)
+    → (passed_of room u (brought u list actions).bank (brought u list actions).list (brought u list actions).count ≡ Ok (Some w))
     ↔ Free (marked u) (task_now (tasks_after u list actions) w.tag) (tasks_after u list actions).tasks

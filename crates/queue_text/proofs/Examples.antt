@@ -1,4 +1,5 @@
 -- Some lines at the issue port, worked out by hand. Assumes nothing.
+use Rattle.std.proofs.Common.{Ok, Err, Some, None}
 use Prim.Native.Nat.{ℕ}
 use mathlib.Core.Path.{◌≡◌, refl, ap}
 use mathlib.Core.List.{List, ◌∷◌}
@@ -8,7 +9,6 @@ use Rattle.words.specs.Below.{join_below}
 use Rattle.text.specs.Text.{ascii, digits, decimal, spaced}
 use Rattle.unit.specs.declared.Refusal.TheVariants.{TooManyWait}
 use Rattle.queue.specs.declared.Waiting.{Waiting}
-use Rattle.queue.specs.declared.Passed.TheVariants as Passed
 use Rattle.queue.specs.Calls.{empty_queue}
 use Rattle.queue_text.specs.Told.{flat, passed_line, queue_line}
 
@@ -32,13 +32,13 @@ pub not_reversed : queue_line (record { list = a ∷ b ∷ replicate 30 a; count
 unfolding join_below digits decimal spaced flat
 not_reversed e = let z : ◌≡◌ {A = ℕ} 49 50 = ap (λ (l : List ℕ). get_or l 9 0) e in omega arith
 
-pub one_starts : passed_line (Passed.Started b) ≡ ascii "started 2 4294967295\n"
+pub one_starts : passed_line (Ok (Some b)) ≡ ascii "started 2 4294967295\n"
 unfolding digits decimal
 one_starts = refl
 
-pub none_starts : passed_line Passed.Idle ≡ ascii "none\n"
+pub none_starts : passed_line (Ok None) ≡ ascii "none\n"
 none_starts = refl
 
-pub too_many : passed_line (Passed.Refused TooManyWait) ≡ ascii "refused 14\n"
+pub too_many : passed_line (Err TooManyWait) ≡ ascii "refused 14\n"
 unfolding digits decimal
 too_many = refl

@@ -1,14 +1,12 @@
 -- What a designer is told at the issue port, and what the session is then.
-use Rattle.std.specs.Prelude.{◌≡◌, List, [], ◌∷◌, ◌++◌, ℕ, length, take}
+use Rattle.std.specs.Prelude.{◌≡◌, List, [], ◌∷◌, ◌++◌, ℕ, length, take, Err, Ok, Some, None}
 use Rattle.text.specs.Text.{ascii, decimal, spaced, put_in, put_end}
-use Rattle.unit.specs.declared.Answer.TheVariants.{Refused}
 use Rattle.listing.specs.Lines.{newline}
 use Rattle.queue.specs.declared.Waiting.{Waiting}
 use Rattle.queue.specs.declared.Queue.{Queue}
 use Rattle.queue.specs.declared.Joined.{Joined}
 use Rattle.queue.specs.declared.Advanced.{Advanced}
-use Rattle.queue.specs.declared.Passed.{Passed}
-use Rattle.queue.specs.declared.Passed.TheVariants as Passed
+use Rattle.queue.specs.Passed.{Passed}
 use Rattle.queue.specs.Calls.{join_of, advance_of}
 use Rattle.command_table.specs.declared.Issue.{Issue}
 use Rattle.command_table.specs.declared.Issue.TheVariants as Issue
@@ -37,9 +35,9 @@ started_line w = ascii "started " ++ decimal w.tag ++ ascii " " ++ decimal w.tic
 
 -- or that none was
 abbrev pub passed_line : Passed → List ℕ
-passed_line (Passed.Started w) = started_line w
-passed_line Passed.Idle = ascii "none\n"
-passed_line (Passed.Refused why) = answer_line (Refused why)
+passed_line (Ok (Some w)) = started_line w
+passed_line (Ok None) = ascii "none\n"
+passed_line (Err why) = answer_line (Err why)
 
 -- the tags and tickets of records, one after the other
 unfoldable pub flat : List Waiting → List ℕ

@@ -11,9 +11,9 @@ ghost use Rattle.queue_text.specs.Told.{started_line, passed_line, flat, queue_l
 
 use command::Request;
 use command_table::Issue;
-use queue::{Passed, Queue, Waiting};
+use queue::{Queue, Waiting};
 use session::{Reply, Session};
-use unit::Answer;
+use unit::Refusal;
 use words::byte;
 
 // The tags and tickets of the first records of an array, one after the other.
@@ -22,12 +22,9 @@ fn numbers_of(list: [Waiting; 32], count: usize) -> [u32; 64]
     ensures { (take (2 * count) result ≡ flat (take count list)) × (length result ≡ 64) × (length list ≡ 32) }
 {
     let mut numbers = [0u32; 64];
-    let mut i = 0;
-    while i < count {
-        let waiting = list[i];
+    for (i, waiting) in list[..count].iter().enumerate() {
         numbers[2 * i] = waiting.tag as u32;
         numbers[2 * i + 1] = waiting.ticket;
-        i = i + 1;
     }
     numbers
 }
@@ -87,13 +84,13 @@ fn put_started(out: &mut [u8], started: Waiting) -> usize
 }
 
 // What a time unit did.
-fn put_passed(out: &mut [u8], passed: Passed) -> usize
+fn put_passed(out: &mut [u8], passed: Result<Option<Waiting>, Refusal>) -> usize
     ensures { Line (passed_line passed) out.old out.new result }
 {
     match passed {
-        Passed::Started(started) => put_started(out, started),
-        Passed::Idle => text::put(out, 0, b"none\n"),
-        Passed::Refused(why) => session::put_answer(out, Answer::Refused(why)),
+        Ok(Some(started)) => put_started(out, started),
+        Ok(None) => text::put(out, 0, b"none\n"),
+        Err(why) => session::put_answer(out, Err(why)),
     }
 }
 

@@ -1,4 +1,5 @@
 -- A plan that was searched for can be recorded, and 8 is for exactly the functions that have none. Assumes nothing.
+use Rattle.std.proofs.Common.{Ok, Err}
 use Prim.Native.Nat.{ℕ, ◌-◌, ◌≤◌}
 use mathlib.Core.Path.{◌≡◌, refl, sym, ap, ◌∙◌, subst, subst₂}
 use mathlib.Core.Bool.{true}
@@ -11,15 +12,12 @@ use Rattle.unit.specs.declared.Plan.{Plan}
 use Rattle.unit.specs.declared.FunctionUnit.{FunctionUnit}
 use Rattle.unit.specs.declared.Refusal.{Refusal}
 use Rattle.unit.specs.declared.Refusal.TheVariants.{NoPlan, BadRecord, ShortOutput}
-use Rattle.unit.specs.declared.Answer.{Answer}
-use Rattle.unit.specs.declared.Answer.TheVariants.{Done, Refused}
+use Rattle.unit.specs.Answers.{Answer}
 use Rattle.unit.specs.Numbers.{number_of}
 use Rattle.unit.specs.Unit.{inside, sound_of}
 use Rattle.unit.specs.Calls.{and_then, tag_answer}
 use Rattle.unit.proofs.Laws.{tag_accepted, tag_range}
 use Rattle.unit.proofs.EndLaws.{then_both}
-use Rattle.unit_file.specs.declared.Written.{Written}
-use Rattle.unit_file.specs.declared.Written.TheVariants as Written
 use Rattle.unit_file.specs.Write.{length_answer}
 use Rattle.plan_record.specs.Record.{record_of, longest_record}
 use Rattle.plan_record.specs.Write.{cycle_in, write_refusal, write_answer}
@@ -36,28 +34,28 @@ use Rattle.record_text.proofs.RecordLaws.{writer_answer, writer_out}
 -- The writer takes its plan
 
 -- an answer that is no refusal of the writer's is the record's length
-taken : (p : Plan) (room : ℕ) → (p.tag ≡ 0 → ⊥) → GivenPlan p → longest_record ≤ room → write_answer p room ≡ Written.Length (length (record_of (cycle_in p)))
+taken : (p : Plan) (room : ℕ) → (p.tag ≡ 0 → ⊥) → GivenPlan p → longest_record ≤ room → write_answer p room ≡ Ok (length (record_of (cycle_in p)))
 unfolding write_answer
 taken p room n g h = go (write_refusal p room) refl
   where
-    never : (why : Refusal) → write_answer p room ≡ Written.Refused why → ⊥
+    never : (why : Refusal) → write_answer p room ≡ Err why → ⊥
     never why e = by ((plan_exactly p room).numbers why e)
       where
         by : (why ≡ BadRecord) ⊎ (why ≡ ShortOutput) → ⊥
-        by (inl z) = no ((plan_exactly p room).fifteen.0 (e ∙ ap Written.Refused z))
+        by (inl z) = no ((plan_exactly p room).fifteen.0 (e ∙ ap Err z))
           where
             no : (p.tag ≡ 0) ⊎ (GivenPlan p → ⊥) → ⊥
             no (inl t) = n t
             no (inr f) = f g
-        by (inr z) = (plan_exactly p room).suffices h (e ∙ ap Written.Refused z)
+        by (inr z) = (plan_exactly p room).suffices h (e ∙ ap Err z)
 
-    go : (a : Answer) → write_refusal p room ≡ a → length_answer (write_refusal p room) (length (record_of (cycle_in p))) ≡ Written.Length (length (record_of (cycle_in p)))
-    go Done e = ap (λ (a : Answer). length_answer a (length (record_of (cycle_in p)))) e
-    go (Refused why) e = absurd (never why (ap (λ (a : Answer). length_answer a (length (record_of (cycle_in p)))) e))
+    go : (a : Answer) → write_refusal p room ≡ a → length_answer (write_refusal p room) (length (record_of (cycle_in p))) ≡ Ok (length (record_of (cycle_in p)))
+    go (Ok _) e = ap (λ (a : Answer). length_answer a (length (record_of (cycle_in p)))) e
+    go (Err why) e = absurd (never why (ap (λ (a : Answer). length_answer a (length (record_of (cycle_in p)))) e))
 
 -- The claim
 
-searched : (u after : FunctionUnit) (q : ℕ) → tag_answer u q ≡ Done → Found u q after → (bytes : List ℕ) → longest_record ≤ length bytes → RecordedBest u q after bytes
+searched : (u after : FunctionUnit) (q : ℕ) → tag_answer u q ≡ Ok tt → Found u q after → (bytes : List ℕ) → longest_record ≤ length bytes → RecordedBest u q after bytes
 searched u after q t f bytes room = record {
   size = length (record_of (cycle_in p));
   written = writer_answer after q owns (length bytes) ∙ answer;
@@ -85,10 +83,10 @@ searched u after q t f bytes room = record {
     member : inside q after.functions ≡ true
     member = ap (λ (x : FunctionUnit). inside q x.functions) f.unit ∙ (tag_accepted u q t).tag
 
-    owns : own_answer after q ≡ Done
+    owns : own_answer after q ≡ Ok tt
     owns = (own_exactly after q (tag_taken after q sound member)).done.1 own
 
-    answer : write_answer p (length bytes) ≡ Written.Length (length (record_of (cycle_in p)))
+    answer : write_answer p (length bytes) ≡ Ok (length (record_of (cycle_in p)))
     answer = taken p (length bytes) (λ z. some (sym own ∙ z))
         (subst (λ (x : Plan). GivenPlan x) (sym is) (planned q f.cycle (best_recordable u q f.cycle f.few f.best))) room
 
@@ -106,10 +104,10 @@ pub eight_exactly : EightExactly
 unfolding plan_record_answer plan_record_refusal
 eight_exactly u q room t = (never, other)
   where
-    other : (u.plan.tag ≡ q → ⊥) → plan_record_answer u q room ≡ Written.Refused NoPlan
+    other : (u.plan.tag ≡ q → ⊥) → plan_record_answer u q room ≡ Err NoPlan
     other n = ap (λ (a : Answer). length_answer (and_then a (write_refusal u.plan room)) (length (record_of (cycle_in u.plan)))) ((own_exactly u q t).eight.1 n)
 
-    never : plan_record_answer u q room ≡ Written.Refused NoPlan → u.plan.tag ≡ q → ⊥
+    never : plan_record_answer u q room ≡ Err NoPlan → u.plan.tag ≡ q → ⊥
     never e own =
         let w = sym (writer_answer u q ((own_exactly u q t).done.1 own) room) ∙ e in
         by ((plan_exactly u.plan room).numbers NoPlan w)

@@ -1,4 +1,5 @@
 -- The lines of a record, and the record of a function's plan, worked out by hand. Assumes nothing.
+use Rattle.std.proofs.Common.{Result, Ok, Err}
 use mathlib.Core.Path.{◌≡◌, refl, sym, ap, ap₂, ◌∙◌}
 use mathlib.Core.List.{List, [], ◌∷◌}
 use Prim.Native.Nat.{ℕ, zero, suc, ◌≤◌, ◌<◌}
@@ -13,8 +14,6 @@ use Rattle.unit.specs.Table.{Table, empty}
 use Rattle.unit.specs.Unit.{marked, marks_inside, sound_of}
 use Rattle.unit.specs.Calls.{tag_answer}
 use Rattle.unit.proofs.EditLaws.{blank_table}
-use Rattle.unit_file.specs.declared.Written.{Written}
-use Rattle.unit_file.specs.declared.Written.TheVariants as Written
 use Rattle.collision.specs.Pipeline.{NeverCollides, total}
 use Rattle.plan_record.specs.Record.{recordable, starts, ring_byte, ring_of, record_of}
 use Rattle.plan_record.specs.Read.{is_record, record_answer, report_answer, report_list, load_answer, load_ring}
@@ -24,6 +23,7 @@ use Rattle.function_plan.specs.Own.{own_answer}
 use Rattle.record_text.specs.Plans.{plan_record_refusal, plan_record_answer, plan_record_out}
 use Rattle.record_text.specs.Claims.{RecordedBest}
 use Rattle.record_text.specs.Lines.{bits_text, report_line, load_line}
+use Rattle.unit.specs.declared.Refusal.{Refusal}
 
 -- the record of 3 4
 pub report_of_3_4 : report_line (2 ∷ 0 ∷ 7 ∷ 0 ∷ 8 ∷ 0 ∷ 10 ∷ 0 ∷ 3 ∷ 4 ∷ 246 ∷ []) ≡ ascii "count 2 list 3 4\n"
@@ -55,20 +55,20 @@ planned tag = record {
 }
 
 -- the plan is function 1's, and not function 2's; there is no function 9, and of it 8 says nothing
-pub of_1 : plan_record_answer (planned 1) 1 11 ≡ Written.Length 11
+pub of_1 : plan_record_answer (planned 1) 1 11 ≡ Ok 11
 unfolding plan_record_answer plan_record_refusal own_answer tag_answer read_answer sound_of marks_inside marked write_refusal writable holds_cycle recordable record_of ring_of ring_byte starts list_below word_below some_below same
 of_1 = refl
 
-pub of_2 : plan_record_answer (planned 1) 2 11 ≡ Written.Refused NoPlan
+pub of_2 : plan_record_answer (planned 1) 2 11 ≡ Err NoPlan
 unfolding plan_record_answer plan_record_refusal own_answer tag_answer read_answer sound_of marks_inside marked some_below
 of_2 = refl
 
-pub of_9 : plan_record_answer (planned 1) 9 11 ≡ Written.Refused NoSuchTag
+pub of_9 : plan_record_answer (planned 1) 9 11 ≡ Err NoSuchTag
 unfolding plan_record_answer plan_record_refusal own_answer tag_answer sound_of marks_inside marked some_below
 of_9 = refl
 
 -- a plan that was dropped, whatever its other fields hold
-pub of_none : plan_record_answer (planned 0) 1 11 ≡ Written.Refused NoPlan
+pub of_none : plan_record_answer (planned 0) 1 11 ≡ Err NoPlan
 unfolding plan_record_answer plan_record_refusal own_answer tag_answer read_answer sound_of marks_inside marked some_below
 of_none = refl
 
@@ -94,9 +94,9 @@ no_marks = blank_table 2 1 1
 one_never : NeverCollides (marked (planned 0)) 1 (1 ∷ [])
 one_never i j h c = nowhere (sym (ap (λ (t : Table). t 1 c.segment c.one.column) no_marks) ∙ c.one.marked)
 
-abbrev length_told : Written → ℕ
-length_told (Written.Length n) = n
-length_told (Written.Refused why) = 0
+abbrev length_told : Result ℕ Refusal → ℕ
+length_told (Ok n) = n
+length_told (Err why) = 0
 
 pub not_best : RecordedBest (planned 0) 1 (planned 1) (replicate 11 9) → ⊥
 not_best r =

@@ -1,4 +1,5 @@
 -- The lines that show a record. Assumes nothing.
+use Rattle.std.proofs.Common.{Result, Ok, Err}
 use mathlib.Core.Path.{◌≡◌, sym, ap, ◌∙◌}
 use mathlib.Core.Bool.{true, false, cond}
 use mathlib.Core.List.{List}
@@ -14,8 +15,6 @@ use Rattle.collision.specs.Pipeline.{total}
 use Rattle.listing.specs.Lines.{refused_line}
 use Rattle.session.specs.Sessions.{Line}
 use Rattle.session.proofs.LineLaws.{line_as}
-use Rattle.plan_record.specs.declared.Shown.{Shown}
-use Rattle.plan_record.specs.declared.Shown.TheVariants as Shown
 use Rattle.plan_record.specs.Record.{ring_bit}
 use Rattle.plan_record.specs.Read.{report_answer, report_list, load_answer, load_ring}
 use Rattle.plan_record.proofs.CycleLaws.{total_most}
@@ -26,13 +25,13 @@ use Rattle.record_text.specs.Lines.{list_line, bit_text, bits_text, ring_line, s
 
 -- What is shown is not too long
 
-pub list_few : (file : List ℕ) (K : ℕ) → report_answer file ≡ Shown.Number K → length (report_list file) ≤ 256
+pub list_few : (file : List ℕ) (K : ℕ) → report_answer file ≡ Ok K → length (report_list file) ≤ 256
 list_few file K e =
     let a = accepted_exactly file in
     let g = a.report.0 (record { number = K; shows = e }) in
     omega (arith, ap length (a.shown g).list, g.recordable.few)
 
-pub ring_fits : (file : List ℕ) (S : ℕ) → load_answer file ≡ Shown.Number S → (S ≤ 8192) × (S ≤ 8 * length (load_ring file))
+pub ring_fits : (file : List ℕ) (S : ℕ) → load_answer file ≡ Ok S → (S ≤ 8192) × (S ≤ 8 * length (load_ring file))
 ring_fits file S e =
     let a = accepted_exactly file in
     let g = a.load.0 (record { number = S; shows = e }) in
@@ -62,18 +61,18 @@ bits_length count ring = list_length count (bit_text ring)
 -- What is told of a file
 
 module _ (file before after : List ℕ) (end : ℕ) where
-  pub report_refused : (why : Refusal) → report_answer file ≡ Shown.Refused why → Line (refused_line why) before after end → Line (report_line file) before after end
+  pub report_refused : (why : Refusal) → report_answer file ≡ Err why → Line (refused_line why) before after end → Line (report_line file) before after end
   unfolding report_line
-  report_refused why e l = line_as (ap (λ (x : Shown). shown_line x (λ K. list_line K (report_list file))) (sym e)) l
+  report_refused why e l = line_as (ap (λ (x : Result ℕ Refusal). shown_line x (λ K. list_line K (report_list file))) (sym e)) l
 
-  pub report_shown : (K : ℕ) → report_answer file ≡ Shown.Number K → Line (list_line K (report_list file)) before after end → Line (report_line file) before after end
+  pub report_shown : (K : ℕ) → report_answer file ≡ Ok K → Line (list_line K (report_list file)) before after end → Line (report_line file) before after end
   unfolding report_line
-  report_shown K e l = line_as (ap (λ (x : Shown). shown_line x (λ K. list_line K (report_list file))) (sym e)) l
+  report_shown K e l = line_as (ap (λ (x : Result ℕ Refusal). shown_line x (λ K. list_line K (report_list file))) (sym e)) l
 
-  pub load_refused : (why : Refusal) → load_answer file ≡ Shown.Refused why → Line (refused_line why) before after end → Line (load_line file) before after end
+  pub load_refused : (why : Refusal) → load_answer file ≡ Err why → Line (refused_line why) before after end → Line (load_line file) before after end
   unfolding load_line
-  load_refused why e l = line_as (ap (λ (x : Shown). shown_line x (λ S. ring_line S (load_ring file))) (sym e)) l
+  load_refused why e l = line_as (ap (λ (x : Result ℕ Refusal). shown_line x (λ S. ring_line S (load_ring file))) (sym e)) l
 
-  pub load_shown : (S : ℕ) → load_answer file ≡ Shown.Number S → Line (ring_line S (load_ring file)) before after end → Line (load_line file) before after end
+  pub load_shown : (S : ℕ) → load_answer file ≡ Ok S → Line (ring_line S (load_ring file)) before after end → Line (load_line file) before after end
   unfolding load_line
-  load_shown S e l = line_as (ap (λ (x : Shown). shown_line x (λ S. ring_line S (load_ring file))) (sym e)) l
+  load_shown S e l = line_as (ap (λ (x : Result ℕ Refusal). shown_line x (λ S. ring_line S (load_ring file))) (sym e)) l

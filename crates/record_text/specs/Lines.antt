@@ -1,12 +1,11 @@
 -- The lines that show a plan record.
-use Rattle.std.specs.Prelude.{cond, List, ◌++◌, ℕ}
+use Rattle.std.specs.Prelude.{cond, List, ◌++◌, ℕ, Result, Ok, Err}
 use Rattle.words.specs.Below.{list_below}
 use Rattle.text.specs.Text.{ascii, digit, decimal, spaced}
 use Rattle.listing.specs.Lines.{newline, refused_line}
-use Rattle.plan_record.specs.declared.Shown.{Shown}
-use Rattle.plan_record.specs.declared.Shown.TheVariants as Shown
 use Rattle.plan_record.specs.Record.{ring_bit}
 use Rattle.plan_record.specs.Read.{report_answer, report_list, load_answer, load_ring}
+use Rattle.unit.specs.declared.Refusal.{Refusal}
 
 -- `count 2 list 3 4`
 abbrev pub list_line : ℕ → List ℕ → List ℕ
@@ -24,9 +23,9 @@ abbrev pub ring_line : ℕ → List ℕ → List ℕ
 ring_line S ring = ascii "sum " ++ decimal S ++ ascii " ring " ++ bits_text S ring ++ newline
 
 -- a line with the number that a reader shows, or `refused` and the number of the refusal
-abbrev pub shown_line : Shown → (ℕ → List ℕ) → List ℕ
-shown_line (Shown.Number n) line = line n
-shown_line (Shown.Refused why) line = refused_line why
+abbrev pub shown_line : Result ℕ Refusal → (ℕ → List ℕ) → List ℕ
+shown_line (Ok n) line = line n
+shown_line (Err why) line = refused_line why
 
 -- what the report reads from a file, and what the loader reads
 unfoldable pub report_line : List ℕ → List ℕ

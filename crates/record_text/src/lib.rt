@@ -8,21 +8,15 @@ ghost use Rattle.session.specs.Sessions.{Line};
 ghost use Rattle.record_text.specs.Plans.{plan_record_answer, plan_record_out};
 ghost use Rattle.record_text.specs.Lines.{bit_text, bits_text, list_line, ring_line, report_line, load_line};
 
-use plan_record::Shown;
-use unit::{Answer, FunctionUnit, Tag};
-use unit_file::Written;
+use unit::{FunctionUnit, Refusal, Tag};
 
 // Writes the record of a function's plan to the front of the lent bytes; the others stay as before.
-pub fn write_plan(u: FunctionUnit, tag: Tag, out: &mut [u8]) -> Written
+pub fn write_plan(u: FunctionUnit, tag: Tag, out: &mut [u8]) -> Result<u32, Refusal>
     ensures value { result ≡ plan_record_answer u tag.0 (length out.old) }
     ensures out_after { out.new ≡ plan_record_out u tag.0 out.old }
 {
-    let own = function_plan::read_for(u, tag);
-    let answer = own.answer;
-    match answer {
-        Answer::Refused(why) => Written::Refused(why),
-        Answer::Done => plan_record::write(own.plan, out),
-    }
+    let plan = function_plan::read_for(u, tag)?;
+    plan_record::write(plan, out)
 }
 
 // `count`, K, `list` and the latencies.
@@ -52,8 +46,8 @@ pub fn report(file: &[u8], out: &mut [u8]) -> usize
 {
     let shown = plan_record::report(file);
     match shown {
-        Shown::Refused(why) => session::put_answer(out, Answer::Refused(why)),
-        Shown::Number(count) => {
+        Err(why) => session::put_answer(out, Err(why)),
+        Ok(count) => {
             let list = plan_record::report_list(file);
             put_list(out, count as u32, list)
         }
@@ -76,10 +70,8 @@ fn write_bits(line: &mut [u8], at: usize, ring: &[u8], count: usize) -> usize
     requires { (count ≤ 8 * length ring.now) × (at + count ≤ length line.old) }
     ensures { Wrote line.old at (bits_text count ring.now) line.new result }
 {
-    let mut i: usize = 0;
-    while i < count {
+    for i in 0..count {
         line[at + i] = bit_text(ring, i);
-        i += 1;
     }
     at + count
 }
@@ -111,8 +103,8 @@ pub fn ring(file: &[u8], out: &mut [u8]) -> usize
 {
     let shown = plan_record::load(file);
     match shown {
-        Shown::Refused(why) => session::put_answer(out, Answer::Refused(why)),
-        Shown::Number(sum) => {
+        Err(why) => session::put_answer(out, Err(why)),
+        Ok(sum) => {
             let ring = plan_record::load_ring(file);
             put_ring(out, sum, ring)
         }

@@ -1,4 +1,5 @@
 -- What a session takes in. Assumes nothing.
+use Rattle.std.proofs.Common.{Ok, Err}
 use mathlib.Core.Path.{◌≡◌, sym, ap, ap₂, ◌∙◌, subst}
 use mathlib.Core.Bool.{true}
 use mathlib.Core.List.{List}
@@ -6,8 +7,7 @@ use Prim.Native.Nat.{ℕ}
 use Rattle.unit.specs.declared.FunctionUnit.{FunctionUnit}
 use Rattle.unit.specs.declared.Outcome.{Outcome}
 use Rattle.unit.specs.declared.Refusal.{Refusal}
-use Rattle.unit.specs.declared.Answer.{Answer}
-use Rattle.unit.specs.declared.Answer.TheVariants.{Done, Refused}
+use Rattle.unit.specs.Answers.{Answer}
 use Rattle.controller.specs.Bank.{empty}
 use Rattle.queue.specs.declared.Queue.{Queue}
 use Rattle.queue.specs.Calls.{empty_queue}
@@ -23,11 +23,11 @@ by_three f {x} {y} {z} {a} e g h = ap (λ n. f n y z) e ∙ ap₂ (f a) g h
 
 -- A unit that was made
 
-pub taken_refused : (s : Session) (u : FunctionUnit) {a : Answer} {why : Refusal} {before after : List ℕ} {end : ℕ} → a ≡ Refused why
+pub taken_refused : (s : Session) (u : FunctionUnit) {a : Answer} {why : Refusal} {before after : List ℕ} {end : ℕ} → a ≡ Err why
     → Line (answer_line a) before after end → Made s (record { answer = a; unit = u }) before after record { session = s; end = end }
 taken_refused s u e l = record { out = l.out; end = l.next; next = ap (λ b. taken s b u) (sym e) }
 
-pub taken_done : (s : Session) (u : FunctionUnit) {a : Answer} {q : Queue} {p : Shared} {before after : List ℕ} {end : ℕ} → a ≡ Done → q ≡ empty_queue
+pub taken_done : (s : Session) (u : FunctionUnit) {a : Answer} {q : Queue} {p : Shared} {before after : List ℕ} {end : ℕ} → a ≡ Ok tt → q ≡ empty_queue
     → p ≡ empty_shared s.shared.callers → Line (answer_line a) before after end
     → Made s (record { answer = a; unit = u }) before after
     record { session = record { present = true; unit = u; bank = empty; queue = q; shared = p }; end = end }

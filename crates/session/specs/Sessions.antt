@@ -1,12 +1,11 @@
 -- A designer's session: the unit, the bank, the queue and the callers' queues that the commands work on, how it begins, and a unit that is taken into it.
-use Rattle.std.specs.Prelude.{◌≡◌, true, false, List, ℕ}
+use Rattle.std.specs.Prelude.{◌≡◌, true, false, List, ℕ, Ok, Err}
 use Rattle.words.specs.Bytes.{narrow}
 use Rattle.text.specs.Text.{ascii, put_in, put_end}
 use Rattle.unit.specs.declared.FunctionUnit.{FunctionUnit}
 use Rattle.unit.specs.declared.Outcome.{Outcome}
 use Rattle.unit.specs.declared.Tag.{Tag}
-use Rattle.unit.specs.declared.Answer.{Answer}
-use Rattle.unit.specs.declared.Answer.TheVariants.{Done, Refused}
+use Rattle.unit.specs.Answers.{Answer}
 use Rattle.unit.specs.Calls.{blank, fresh_of}
 use Rattle.controller.specs.declared.Bank.{Bank}
 use Rattle.controller.specs.Bank.{empty}
@@ -30,8 +29,8 @@ with_port s b q p = record { present = s.present; unit = s.unit; bank = b; queue
 -- a unit that was made, loaded or edited, with an empty bank and empty queues, for as many callers as before; a refused one keeps the session
 -- as it was
 abbrev pub taken : Session → Answer → FunctionUnit → Session
-taken s Done u = record { present = true; unit = u; bank = empty; queue = empty_queue; shared = empty_shared s.shared.callers }
-taken s (Refused why) u = s
+taken s (Ok _) u = record { present = true; unit = u; bank = empty; queue = empty_queue; shared = empty_shared s.shared.callers }
+taken s (Err why) u = s
 
 -- Numbers of a request as tags: a number too large for a byte is taken for 0, which is no count, no tag, no segment and no column
 
@@ -51,8 +50,8 @@ tag n = record { 0 = n }
 
 -- `ok`, or `refused` and the number
 abbrev pub answer_line : Answer → List ℕ
-answer_line Done = ascii "ok\n"
-answer_line (Refused why) = refused_line why
+answer_line (Ok _) = ascii "ok\n"
+answer_line (Err why) = refused_line why
 
 -- a line stands in front of the lent bytes, if there is room for it
 pub record Line (text before after : List ℕ) (end : ℕ) : Type 0 where

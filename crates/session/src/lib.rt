@@ -12,7 +12,7 @@ use callers::Shared;
 use command::Request;
 use controller::Bank;
 use queue::Queue;
-use unit::{Answer, FunctionUnit, Outcome, Refusal};
+use unit::{FunctionUnit, Outcome, Refusal};
 
 // Whether there is a unit, the unit, and what is at its issue port: the bank, the queue, and the port that callers share.
 #[derive(Clone, Copy)]
@@ -76,11 +76,7 @@ fn write_refused(line: &mut [u8], why: Refusal) -> usize
     ensures { Wrote line.old 0 (refused_line why) line.new result }
 {
     let after_word = text::put(line, 0, b"refused ");
-    let after_number = text::put_number(
-        line,
-        after_word,
-        unit::number_in(Answer::Refused(why)) as u32,
-    );
+    let after_number = text::put_number(line, after_word, u32::from(why));
     text::put(line, after_number, b"\n")
 }
 
@@ -93,12 +89,12 @@ fn put_refused(out: &mut [u8], why: Refusal) -> usize
 }
 
 // `ok`, or `refused` and the number.
-pub fn put_answer(out: &mut [u8], answer: Answer) -> usize
+pub fn put_answer(out: &mut [u8], answer: Result<(), Refusal>) -> usize
     ensures { Line (answer_line answer) out.old out.new result }
 {
     match answer {
-        Answer::Done => text::put(out, 0, b"ok\n"),
-        Answer::Refused(why) => put_refused(out, why),
+        Ok(()) => text::put(out, 0, b"ok\n"),
+        Err(why) => put_refused(out, why),
     }
 }
 
@@ -109,8 +105,8 @@ pub fn take_unit(session: Session, made: Outcome, out: &mut [u8]) -> Reply
     let answer = made.answer;
     let end = put_answer(out, answer);
     match answer {
-        Answer::Refused(_) => Reply { session, end },
-        Answer::Done => {
+        Err(_) => Reply { session, end },
+        Ok(()) => {
             let unit = made.unit;
             let bank = Bank {
                 r1: 0,

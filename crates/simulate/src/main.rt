@@ -5,11 +5,10 @@
 
 ghost use Rattle.std.specs.Prelude.{◌≤◌, length};
 
-use chart::Charted;
-use command::{Parsed, Request};
+use command::{Request, Trouble};
 use std::env::{Env, FillError};
 use std::io::{Input, Print, Read};
-use unit::{Answer, FunctionUnit, Outcome, Refusal, Tag};
+use unit::{FunctionUnit, Outcome, Refusal, Tag};
 
 // Answers. Where one can't be written, there is nobody to tell.
 
@@ -21,7 +20,7 @@ fn print_text(rt: &impl Print, area: &[u8], length: usize) {
 
 fn print_refusal(rt: &impl Print, why: Refusal) {
     let mut area = [0u8; 64];
-    let end = session::put_answer(&mut area, Answer::Refused(why));
+    let end = session::put_answer(&mut area, Err(why));
     print_text(rt, &area, end);
 }
 
@@ -43,6 +42,7 @@ fn read_full(input: &mut impl Read, buffer: &mut [u8]) -> usize
     ensures { result ≤ length buffer.new }
 {
     let mut done = 0;
+    // A while: each read fills as much of the rest as it can.
     while done < buffer.len() {
         let count = read_some(input, &mut buffer[done..]);
         if count == 0 {
@@ -87,8 +87,8 @@ fn print_chart(rt: &impl Print, u: FunctionUnit, tag: Tag, units: u32) {
     let mut area = chart::area();
     let charted = chart::simulate(u, tag, units, &mut area);
     match charted {
-        Charted::Length(length) => print_text(rt, &area, length),
-        Charted::Refused(why) => print_refusal(rt, why),
+        Ok(length) => print_text(rt, &area, length),
+        Err(why) => print_refusal(rt, why),
     }
 }
 
@@ -97,8 +97,8 @@ fn play(rt: &impl Print, u: FunctionUnit, tag: Tag, units: u32) {
     let answer = found.answer;
     let planned = found.unit;
     match answer {
-        Answer::Done => print_chart(rt, planned, tag, units),
-        Answer::Refused(why) => print_refusal(rt, why),
+        Ok(()) => print_chart(rt, planned, tag, units),
+        Err(why) => print_refusal(rt, why),
     }
 }
 
@@ -108,8 +108,8 @@ fn obey(rt: &(impl Input + Print), request: Request) {
     let answer = read.answer;
     let u = read.unit;
     match answer {
-        Answer::Done => play(rt, u, tag, request.second),
-        Answer::Refused(why) => print_refusal(rt, why),
+        Ok(()) => play(rt, u, tag, request.second),
+        Err(why) => print_refusal(rt, why),
     }
 }
 
@@ -137,15 +137,20 @@ fn is_long(line: &[u8], index: usize, length: usize) -> bool {
 
 // What the front of the line says, if its words are as long as the arguments. An argument that is empty or holds blanks, or for which there is no room,
 // leaves a word of another length, or none.
-fn parse_front(area: &[u8], end: usize, first: usize, second: usize) -> Parsed {
+fn parse_front(
+    area: &[u8],
+    end: usize,
+    first: usize,
+    second: usize,
+) -> Result<Option<Request>, Trouble> {
     if area.len() < end {
-        return Parsed::Nothing;
+        return Ok(None);
     }
     let line = &area[..end];
     if is_long(line, 1, first) && is_long(line, 2, second) {
         return command::parse(line);
     }
-    Parsed::Nothing
+    Ok(None)
 }
 
 // Whether there is an argument of this index, however long.
@@ -162,9 +167,9 @@ fn has_two_arguments(rt: &impl Env) -> bool {
 }
 
 // What the arguments say: the command `simulate` with its two numbers, or anything else.
-fn parse_arguments(rt: &impl Env) -> Parsed {
+fn parse_arguments(rt: &impl Env) -> Result<Option<Request>, Trouble> {
     if !has_two_arguments(rt) {
-        return Parsed::Nothing;
+        return Ok(None);
     }
     let mut line = [0u8; 4096];
     let name = text::put(&mut line, 0, b"simulate ");
@@ -177,7 +182,7 @@ fn parse_arguments(rt: &impl Env) -> Parsed {
 fn main(rt: HostRuntime) {
     let said = parse_arguments(&rt);
     match said {
-        Parsed::Command(request) => obey(&rt, request),
+        Ok(Some(request)) => obey(&rt, request),
         _ => print_usage(&rt),
     }
 }

@@ -1,4 +1,5 @@
 -- Every plan that a read hands out plays on the unit, for as long as no edit is accepted. Assumes nothing.
+use Rattle.std.proofs.Common.{Ok, Err}
 use Prim.Native.Nat.{ℕ, ◌-◌}
 use mathlib.Core.Path.{◌≡◌, refl, sym, ap, ap₂, ◌∙◌, subst, subst₂}
 use mathlib.Core.Bool.{true, not}
@@ -13,21 +14,20 @@ use Rattle.unit.specs.declared.FunctionUnit.{FunctionUnit}
 use Rattle.unit.specs.declared.Outcome.{Outcome}
 use Rattle.unit.specs.declared.Refusal.{Refusal}
 use Rattle.unit.specs.declared.Refusal.TheVariants.{NotSound, NoPlan}
-use Rattle.unit.specs.declared.Answer.{Answer}
-use Rattle.unit.specs.declared.Answer.TheVariants.{Done, Refused}
+use Rattle.unit.specs.Answers.{Answer}
 use Rattle.unit.specs.Table.{Table}
 use Rattle.unit.specs.Unit.{inside, marked, sound_of}
 use Rattle.unit.specs.Calls.{tag_answer, spot_answer}
-use Rattle.unit.proofs.Laws.{never_done, check_ok, check_next, tag_accepted}
+use Rattle.unit.proofs.Laws.{check_ok, check_next, tag_accepted}
 use Rattle.unit.proofs.EndLaws.{then_both}
 use Rattle.unit.proofs.EditLaws.{mark_answer, unmark_answer, mark_refused, unmark_refused}
 use Rattle.collision.specs.Pipeline.{NeverCollides}
-use Rattle.planner.specs.declared.Handed.{Handed}
-use Rattle.planner.specs.Plans.{Best, plan_of, search_answer, Found, read_answer, handing, read_of}
+use Rattle.planner.specs.Plans.{Best, plan_of, search_answer, Found, read_answer, read_of}
 use Rattle.planner.specs.Sheet.{Call, Reply, reply_to, Step, Sheet, start, fed, Owed, Leaves, Noted}
 use Rattle.planner.specs.Sheet.Call.{Mark, Unmark, Search, Read}
 use Rattle.planner.specs.Sheet.Reply.{accepted}
 use Rattle.planner.proofs.EveryList.{plan_marks, found_sound, every_unit}
+use Rattle.planner.proofs.ReadLaws.{read_done}
 use Rattle.plan_record.specs.Write.{cycle_in, holds_cycle}
 use Rattle.plan_record.proofs.Claims.{holds_exactly}
 use Rattle.function_plan.proofs.Claims.{best_recordable, planned}
@@ -63,15 +63,12 @@ module _ (u : FunctionUnit) (t : Sheet) (n : Noted u t) (some : t.owed ≡ 0 →
 
 -- What a read that hands out a plan says
 
-read_gives : (u : FunctionUnit) (p : Plan) → read_of u ≡ record { answer = Done; plan = p } → (u.plan ≡ p) × (u.plan.tag ≡ 0 → ⊥)
-unfolding read_of read_answer
-read_gives u p e = go (read_answer u) refl e
-  where
-    go : (a : Answer) → read_answer u ≡ a → handing a u.plan ≡ record { answer = Done; plan = p } → (u.plan ≡ p) × (u.plan.tag ≡ 0 → ⊥)
-    go Done d e =
-        let held = check_ok (not (eqb u.plan.tag 0)) NoPlan Done (check_next (sound_of u) NotSound _ d) in
-        (ap (λ (h : Handed). h.plan) e, eqb-false u.plan.tag 0 (not-true (eqb u.plan.tag 0) held))
-    go (Refused why) d e = never_done (ap (λ (h : Handed). h.answer) e)
+read_gives : (u : FunctionUnit) (p : Plan) → read_of u ≡ Ok p → (u.plan ≡ p) × (u.plan.tag ≡ 0 → ⊥)
+unfolding read_answer
+read_gives u p e =
+    let d = read_done u e in
+    let held = check_ok (not (eqb u.plan.tag 0)) NoPlan (Ok tt) (check_next (sound_of u) NotSound _ d.0) in
+    (d.1, eqb-false u.plan.tag 0 (not-true (eqb u.plan.tag 0) held))
 
 -- Calls of which no edit is accepted
 
@@ -95,9 +92,9 @@ found_same u q after f = record {
 }
 
 -- an edit that is not accepted leaves the unit
-left_alone : (u after : FunctionUnit) (x : Answer) (a : Reply) → a ≡ reply_to x → (a ≡ accepted → ⊥) → ((why : Refusal) → x ≡ Refused why → after ≡ u) → after ≡ u
-left_alone u after Done a e n f = absurd (n e)
-left_alone u after (Refused why) a e n f = f why refl
+left_alone : (u after : FunctionUnit) (x : Answer) (a : Reply) → a ≡ reply_to x → (a ≡ accepted → ⊥) → ((why : Refusal) → x ≡ Err why → after ≡ u) → after ≡ u
+left_alone u after (Ok _) a e n f = absurd (n e)
+left_alone u after (Err why) a e n f = f why refl
 
 step_same : (k : Call) (calls : List Call) (u : FunctionUnit) (a : Reply) (replies : List Reply) (after : FunctionUnit)
     → Step u k a after → NoEdit (k ∷ calls) (a ∷ replies) → SameMarks u after × NoEdit calls replies
@@ -116,8 +113,8 @@ step_same (Unmark q s c) calls u a replies after (r, er, ea, eu) (n, rest) = (
 step_same (Search q room) calls u a replies after h rest = (go h.answer refl, rest)
   where
     go : (x : Answer) → h.answer ≡ x → SameMarks u after
-    go Done e = found_same u q after (h.promise.found e)
-    go (Refused why) e = same_unit u after (h.promise.kept why e)
+    go (Ok _) e = found_same u q after (h.promise.found e)
+    go (Err why) e = same_unit u after (h.promise.kept why e)
 step_same Read calls u a replies after (r, er, ea, eu) rest = (same_unit u after eu, rest)
 
 unedited : (calls : List Call) (replies : List Reply) (u left : FunctionUnit) → Leaves u calls replies left → NoEdit calls replies → SameMarks u left

@@ -1,4 +1,5 @@
 -- A plan played on Fig. 1's unit, worked out by hand; and what does not play. Assumes nothing.
+use Rattle.std.proofs.Common.{Ok, Err}
 use Prim.Native.Nat.{ℕ, zero, suc, ◌≤◌, ◌<◌}
 use mathlib.Core.Path.{◌≡◌, refl, sym, ap, ◌∙◌, subst}
 use mathlib.Core.Bool.{Bool, true, false}
@@ -14,7 +15,6 @@ use Rattle.unit.specs.declared.Plan.{Plan}
 use Rattle.unit.specs.declared.FunctionUnit.{FunctionUnit}
 use Rattle.unit.specs.declared.Refusal.{Refusal}
 use Rattle.unit.specs.declared.Refusal.TheVariants.{NotSound, NoSuchTag, BadRecord, NotGranted, TooManyStates}
-use Rattle.unit.specs.declared.Answer.TheVariants.{Done, Refused}
 use Rattle.unit.specs.Table.{Table, empty}
 use Rattle.unit.specs.Unit.{marked, marks_inside, sound_of}
 use Rattle.unit.specs.Calls.{check, tag_answer, spot_answer, no_plan, fresh_of, mark_of}
@@ -50,11 +50,11 @@ holding w = record { r1 = w; r2 = 0; r3 = 0; r4 = 0 }
 
 -- an accepted step: whether a task has started, the next position, and register 1
 abbrev goes : Bool → ℕ → ℕ → UnitPlayed
-goes started i w = record { answer = Done; started = started; position = i; bank = holding w }
+goes started i w = record { answer = (Ok tt); started = started; position = i; bank = holding w }
 
 -- a refused step: position and register 1 stay
 abbrev stays : Refusal → ℕ → ℕ → UnitPlayed
-stays why i w = record { answer = Refused why; started = false; position = i; bank = holding w }
+stays why i w = record { answer = Err why; started = false; position = i; bank = holding w }
 
 -- The first turn of Fig. 1's plan 3 4
 
@@ -206,11 +206,11 @@ one_best = record {
 }
 
 -- the diagram has one state
-one_state : few_states 1 (marked clear) 1 ≡ Done
+one_state : few_states 1 (marked clear) 1 ≡ Ok tt
 unfolding span_below expand list_from
-one_state = ap (λ w. check (leb (length (states 256 1 (width w) w)) 256) TooManyStates Done) no_vector
+one_state = ap (λ w. check (leb (length (states 256 1 (width w) w)) 256) TooManyStates (Ok tt)) no_vector
 
-search_done : search_answer clear 1 16000 ≡ Done
+search_done : search_answer clear 1 16000 ≡ Ok tt
 unfolding search_answer fresh_of no_plan tag_answer sound_of marks_inside marked some_below
 search_done = one_state
 
@@ -221,7 +221,7 @@ lent = replicate 16000 0
 one_found : Found clear 1 (with_plan clear one)
 one_found = record { cycle = 1 ∷ []; few = omega arith; best = one_best; unit = refl }
 
-one_promise : SearchPromise clear 1 lent lent Done (with_plan clear one)
+one_promise : SearchPromise clear 1 lent lent (Ok tt) (with_plan clear one)
 one_promise = record {
   says = sym (ap (search_answer clear 1) (length-replicate {A = ℕ} 16000 0) ∙ search_done);
   kept = λ why e. never_done (sym e);
@@ -234,7 +234,7 @@ unfolding fresh_of no_plan mark_of spot_answer sound_of marks_inside marked some
 edits = (
   (mark_of (with_plan clear one) 1 1 1).unit,
   (mark_of (with_plan clear one) 1 1 1, refl, refl, refl),
-  (twice, (record { answer = Done; unit = twice }, refl, refl, refl), refl),
+  (twice, (record { answer = (Ok tt); unit = twice }, refl, refl, refl), refl),
 )
 
 one_found_plan : (later : List Call) (told : List Reply) (left : FunctionUnit) → Leaves (with_plan clear one) later told left → FoundPlan one later told left
@@ -255,12 +255,12 @@ searching = record {
   before = lent;
   words = lent;
   lent = length-replicate {A = ℕ} 16000 0;
-  answer = Done;
+  answer = (Ok tt);
   promise = one_promise;
   told = refl;
 }
 
-read_one : read_of (with_plan clear one) ≡ record { answer = Done; plan = one }
+read_one : read_of (with_plan clear one) ≡ Ok one
 unfolding read_of read_answer fresh_of no_plan sound_of marks_inside marked some_below
 read_one = refl
 
@@ -292,4 +292,4 @@ pub one_plays_on : Plays (with_plan clear one) one
 one_plays_on = every_search_plays one (Read ∷ []) (handed one ∷ []) (with_plan clear one) (one_found_plan _ _ (with_plan clear one) one_read) tt
   where
     one_read : Leaves (with_plan clear one) (Read ∷ []) (handed one ∷ []) (with_plan clear one)
-    one_read = (with_plan clear one, (record { answer = Done; plan = one }, sym read_one, refl, refl), refl)
+    one_read = (with_plan clear one, (Ok one, sym read_one, refl, refl), refl)

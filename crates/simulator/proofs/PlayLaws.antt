@@ -1,6 +1,7 @@
 -- A plan whose cycle never collides plays without end. The argument: the events of the ring's bits, one after the other, are a list of events from the
 -- empty bank; the tasks that it starts are those of the cycle; and a start of the cycle clashes with none before it, so that the bank grants it.
 -- Assumes nothing.
+use Rattle.std.proofs.Common.{Ok}
 use Prim.Native.Nat.{ℕ, zero, suc, ◌+◌, ◌*◌, ◌/◌, ◌%◌, ◌<◌}
 use mathlib.Core.Path.{◌≡◌, refl, sym, ap, ap₂, ◌∙◌, subst, subst₂}
 use mathlib.Core.Bool.{Bool, true, false, cond, not}
@@ -17,8 +18,7 @@ use lib.ListN.{length, take}
 use Rattle.words.proofs.Tests.{by_test}
 use Rattle.unit.specs.declared.Plan.{Plan}
 use Rattle.unit.specs.declared.FunctionUnit.{FunctionUnit}
-use Rattle.unit.specs.declared.Answer.{Answer}
-use Rattle.unit.specs.declared.Answer.TheVariants.{Done}
+use Rattle.unit.specs.Answers.{Answer}
 use Rattle.unit.specs.Unit.{inside, marked, sound_of}
 use Rattle.unit.specs.Calls.{tag_answer}
 use Rattle.collision.specs.Pipeline.{Task, Clash, Cycle, total, start_at, task_at, NeverCollides}
@@ -144,7 +144,7 @@ module _ (p : Plan) (holds : holds_cycle p ≡ true) where
     course n = played u outset (events_below p n)
 
     -- the bank grants every start
-    granted_start : (n : ℕ) → Told p n (course n).history → bit_of p (n % p.sum) ≡ false → event_answer u (course n).bank (Start (tag_of p)) ≡ Done
+    granted_start : (n : ℕ) → Told p n (course n).history → bit_of p (n % p.sum) ≡ false → event_answer u (course n).bank (Start (tag_of p)) ≡ Ok tt
     granted_start n t e = (granted_exactly u sound (events_below p n) (tag_of p) member).1 free
       where
         free : (y : Task) → Memᴰ y (course n).history.tasks → Clash (marked u) y (task_now (course n).history p.tag) → ⊥
@@ -156,11 +156,11 @@ module _ (p : Plan) (holds : holds_cycle p ≡ true) where
             never x.index s.index (start_order x.index s.index (omega (arith, x.before, s.start)))
             (subst₂ (λ (a b : Task). Clash (marked u) a b) x.task now clash)
 
-    tick_done : (b : Bank) → event_answer u b Tick ≡ Done
+    tick_done : (b : Bank) → event_answer u b Tick ≡ Ok tt
     unfolding event_answer
     tick_done b = rw sound
 
-    granted_event : (n : ℕ) → Told p n (course n).history → event_answer u (course n).bank (event_of p (n % p.sum)) ≡ Done
+    granted_event : (n : ℕ) → Told p n (course n).history → event_answer u (course n).bank (event_of p (n % p.sum)) ≡ Ok tt
     granted_event n t =
         by_test (bit_of p (n % p.sum))
         (λ e. ap (λ b. event_answer u (course n).bank (cond b Tick (Start (tag_of p)))) e ∙ tick_done (course n).bank)
@@ -210,7 +210,7 @@ module _ (p : Plan) (holds : holds_cycle p ≡ true) where
         subst (λ (h : History). Told p (suc n) h) (sym (history_next_lem n t)) (told_event n (course n).history t (bit_of p (n % p.sum)) refl)
 
     -- the step is played
-    played_is : (n : ℕ) → play_of u p (n % p.sum) (course n).bank ≡ playing Done u p (n % p.sum) (course n).bank
+    played_is : (n : ℕ) → play_of u p (n % p.sum) (course n).bank ≡ playing (Ok tt) u p (n % p.sum) (course n).bank
     unfolding play_of
     played_is n =
         ap (λ (a : Answer). playing a u p (n % p.sum) (course n).bank)
@@ -229,7 +229,7 @@ module _ (p : Plan) (holds : holds_cycle p ≡ true) where
           bank = (ap (λ (x : UnitPlayed). x.bank) (played_is n) ∙ sym (bank_next n (told n))) i;
         })
 
-    unit_is : (n : ℕ) → unit_after u p n ≡ playing Done u p (n % p.sum) (course n).bank
+    unit_is : (n : ℕ) → unit_after u p n ≡ playing (Ok tt) u p (n % p.sum) (course n).bank
     unit_is n = ap (λ (x : Place). play_of u p x.position x.bank) (place_is n) ∙ played_is n
 
     bank_is : (n : ℕ) → (place_after u p n).bank ≡ (course n).bank
@@ -244,13 +244,13 @@ module _ (p : Plan) (holds : holds_cycle p ≡ true) where
     -- the event of the unit, granted, and the bank that it leaves
     abbrev Goes : ℕ → Event → Bool → Type 0
     Goes n x started =
-        ((step_of u (place_after u p n).bank x).answer ≡ Done) × ((step_of u (place_after u p n).bank x).bank ≡ (place_after u p (n + 1)).bank)
+        ((step_of u (place_after u p n).bank x).answer ≡ Ok tt) × ((step_of u (place_after u p n).bank x).bank ≡ (place_after u p (n + 1)).bank)
         × ((unit_after u p n).started ≡ started)
 
     goes : (n : ℕ) (x : Event) (bit : Bool) → bit_of p (n % p.sum) ≡ bit → event_of p (n % p.sum) ≡ x → Goes n x (not bit)
     unfolding step_of
     goes n x bit b e =
-        let g : event_answer u (place_after u p n).bank x ≡ Done =
+        let g : event_answer u (place_after u p n).bank x ≡ Ok tt =
         ap₂ (λ (k : Bank) (y : Event). event_answer u k y) (bank_is n) (sym e) ∙ granted_event n (told n) in (
           g,
           ap (λ (a : Answer). bank_then a (place_after u p n).bank (moved u (place_after u p n).bank x)) g

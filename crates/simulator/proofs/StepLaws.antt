@@ -1,4 +1,5 @@
 -- What a step answers and leaves, case by case. Assumes nothing.
+use Rattle.std.proofs.Common.{Ok, Err}
 use Prim.Native.Nat.{ℕ, ◌≤◌, ◌<◌}
 use mathlib.Core.Path.{◌≡◌, refl, sym, ap, ◌∙◌}
 use mathlib.Core.Bool.{Bool, true, false, cond, not, ◌&&◌, ◌||◌}
@@ -10,8 +11,7 @@ use Rattle.unit.specs.declared.Plan.{Plan}
 use Rattle.unit.specs.declared.FunctionUnit.{FunctionUnit}
 use Rattle.unit.specs.declared.Refusal.{Refusal}
 use Rattle.unit.specs.declared.Refusal.TheVariants.{NotSound, NoSuchTag, BadRecord, NotGranted}
-use Rattle.unit.specs.declared.Answer.{Answer}
-use Rattle.unit.specs.declared.Answer.TheVariants.{Done, Refused}
+use Rattle.unit.specs.Answers.{Answer}
 use Rattle.unit.specs.Unit.{inside, sound_of}
 use Rattle.unit.specs.Calls.{check, and_then, tag_answer}
 use Rattle.unit.proofs.Laws.{check_ok, tag_accepted}
@@ -56,12 +56,12 @@ ring_answer_lem u p i b r = go (bit_of p i)
   where
     go : (bit : Bool) → event_answer u b (cond bit Tick (Start (tag_of p)))
         ≡ check (sound_of u) NotSound (check (inside p.tag u.functions) NoSuchTag
-        (check (holds_cycle p && ltb i p.sum) BadRecord (check (bit || granted b p.tag) NotGranted Done)))
+        (check (holds_cycle p && ltb i p.sum) BadRecord (check (bit || granted b p.tag) NotGranted (Ok tt))))
     go bit =
         let a = tag_accepted u p.tag r.tag in
         rw (a.tag, r.ring.holds, lt-ltb i p.sum r.ring.before) (by bit)
       where
-        by : (bit : Bool) → event_answer u b (cond bit Tick (Start (tag_of p))) ≡ check (sound_of u) NotSound (check (bit || granted b p.tag) NotGranted Done)
+        by : (bit : Bool) → event_answer u b (cond bit Tick (Start (tag_of p))) ≡ check (sound_of u) NotSound (check (bit || granted b p.tag) NotGranted (Ok tt))
         by true = refl
         by false = rw (tag_accepted u p.tag r.tag).tag refl
 
@@ -70,55 +70,55 @@ module _ (u : FunctionUnit) (p : Plan) (i : ℕ) (b : Bank) (r : Playable u p i)
   unfolding step_of
   answered = ap (λ (x : Stepped). x.answer) stepped ∙ ap (event_answer u b) same ∙ ring_answer_lem u p i b r
 
-  pub ring_refused : (why : Refusal) → s.answer ≡ Refused why → stopped why i b ≡ play_of u p i b
+  pub ring_refused : (why : Refusal) → s.answer ≡ Err why → stopped why i b ≡ play_of u p i b
   unfolding play_of
   ring_refused why a = sym (ap (λ (x : Answer). playing x u p i b) (sym answered ∙ a))
 
-  pub ring_played : (started : Bool) (next : ℕ) → s.answer ≡ Done → started ≡ is_start e → next ≡ position_after p i
-      → ◌≡◌ {A = UnitPlayed} (record { answer = Done; started = started; position = next; bank = s.bank }) (play_of u p i b)
+  pub ring_played : (started : Bool) (next : ℕ) → s.answer ≡ Ok tt → started ≡ is_start e → next ≡ position_after p i
+      → ◌≡◌ {A = UnitPlayed} (record { answer = (Ok tt); started = started; position = next; bank = s.bank }) (play_of u p i b)
   unfolding play_of step_of
   ring_played started next a st n =
-      let done : event_answer u b e ≡ Done = ap (event_answer u b) same ∙ ring_answer_lem u p i b r ∙ sym answered ∙ a in
+      let done : event_answer u b e ≡ Ok tt = ap (event_answer u b) same ∙ ring_answer_lem u p i b r ∙ sym answered ∙ a in
       let bank : s.bank ≡ moved u b (event_of p i) =
       ap (λ (x : Stepped). x.bank) stepped ∙ ap (λ (x : Answer). bank_then x b (moved u b e)) done ∙ ap (moved u b) same in
       let bit : started ≡ not (bit_of p i) = st ∙ ap is_start same ∙ start_bit p (bit_of p i) in
-      (λ k. record { answer = Done; started = bit k; position = n k; bank = bank k })
+      (λ k. record { answer = (Ok tt); started = bit k; position = n k; bank = bank k })
       ∙ sym (ap (λ (x : Answer). playing x u p i b) (sym answered ∙ a))
 
 -- A step that is refused before, by unit, tag, plan or position
 
-pub ring_not : (p : Plan) (i : ℕ) → holds_cycle p ≡ false → Refused BadRecord ≡ ring_answer p i
+pub ring_not : (p : Plan) (i : ℕ) → holds_cycle p ≡ false → Err BadRecord ≡ ring_answer p i
 ring_not p i e = rw e
 
-pub ring_beyond : (p : Plan) (i : ℕ) → holds_cycle p ≡ true → p.sum ≤ i → Refused BadRecord ≡ ring_answer p i
+pub ring_beyond : (p : Plan) (i : ℕ) → holds_cycle p ≡ true → p.sum ≤ i → Err BadRecord ≡ ring_answer p i
 ring_beyond p i e h = rw (e, le-ltb i p.sum h)
 
-pub ring_done : (p : Plan) (i : ℕ) → holds_cycle p ≡ true → i < p.sum → Done ≡ ring_answer p i
+pub ring_done : (p : Plan) (i : ℕ) → holds_cycle p ≡ true → i < p.sum → (Ok tt) ≡ ring_answer p i
 ring_done p i e h = rw (e, lt-ltb i p.sum h)
 
 module _ (u : FunctionUnit) (p : Plan) (i : ℕ) (b : Bank) where
   -- a step tests those first
-  ready_first : step_answer u p i b ≡ and_then (and_then (tag_answer u p.tag) (ring_answer p i)) (check (bit_of p i || granted b p.tag) NotGranted Done)
+  ready_first : step_answer u p i b ≡ and_then (and_then (tag_answer u p.tag) (ring_answer p i)) (check (bit_of p i || granted b p.tag) NotGranted (Ok tt))
   unfolding step_answer tag_answer
   ready_first = go (sound_of u) (inside p.tag u.functions) (holds_cycle p && ltb i p.sum)
     where
-      go : (s m r : Bool) → check s NotSound (check m NoSuchTag (check r BadRecord (check (bit_of p i || granted b p.tag) NotGranted Done)))
-          ≡ and_then (and_then (check s NotSound (check m NoSuchTag Done)) (check r BadRecord Done)) (check (bit_of p i || granted b p.tag) NotGranted Done)
+      go : (s m r : Bool) → check s NotSound (check m NoSuchTag (check r BadRecord (check (bit_of p i || granted b p.tag) NotGranted (Ok tt))))
+          ≡ and_then (and_then (check s NotSound (check m NoSuchTag (Ok tt))) (check r BadRecord (Ok tt))) (check (bit_of p i || granted b p.tag) NotGranted (Ok tt))
       go true true true = refl
       go true true false = refl
       go true false r = refl
       go false m r = refl
 
-  pub step_refused : (why : Refusal) → and_then (tag_answer u p.tag) (ring_answer p i) ≡ Refused why → stopped why i b ≡ play_of u p i b
+  pub step_refused : (why : Refusal) → and_then (tag_answer u p.tag) (ring_answer p i) ≡ Err why → stopped why i b ≡ play_of u p i b
   unfolding play_of
   step_refused why e =
       sym (ap (λ (x : Answer). playing x u p i b)
-      (ready_first ∙ ap (λ (x : Answer). and_then x (check (bit_of p i || granted b p.tag) NotGranted Done)) e))
+      (ready_first ∙ ap (λ (x : Answer). and_then x (check (bit_of p i || granted b p.tag) NotGranted (Ok tt))) e))
 
-  pub step_ready : and_then (tag_answer u p.tag) (ring_answer p i) ≡ Done → Playable u p i
+  pub step_ready : and_then (tag_answer u p.tag) (ring_answer p i) ≡ Ok tt → Playable u p i
   step_ready e =
       let both = then_both (tag_answer u p.tag) (ring_answer p i) e in
-      let ring = check_ok (holds_cycle p && ltb i p.sum) BadRecord Done both.1 in
+      let ring = check_ok (holds_cycle p && ltb i p.sum) BadRecord (Ok tt) both.1 in
       record {
         tag = both.0;
         ring = record { holds = and_left (holds_cycle p) _ ring; before = ltb-true i p.sum (and_right (holds_cycle p) _ ring) };

@@ -1,8 +1,7 @@
 -- A plan that a search has found plays without end: after every list of calls, for every number of units. Proved in proofs/Claims.antt.
-use Rattle.std.specs.Prelude.{ℕ, ◌+◌, ◌%◌, ◌<◌, ◌≡◌, true, false, ◌↔◌, List, [], ◌∷◌}
+use Rattle.std.specs.Prelude.{ℕ, ◌+◌, ◌%◌, ◌<◌, ◌≡◌, true, false, ◌↔◌, List, [], ◌∷◌, Ok}
 use Rattle.unit.specs.declared.Plan.{Plan}
 use Rattle.unit.specs.declared.FunctionUnit.{FunctionUnit}
-use Rattle.unit.specs.declared.Answer.TheVariants.{Done}
 use Rattle.unit.specs.Unit.{good_counts, marked}
 use Rattle.unit.specs.Calls.{fresh_of}
 use Rattle.collision.specs.Pipeline.{Task, Clash, start_at}
@@ -20,13 +19,13 @@ use Rattle.simulator.specs.Play.{place_after, unit_after}
 -- modulo S.
 pub record PlaysAt (u : FunctionUnit) (p : Plan) (n : ℕ) : Type 0 where
   pub position : (place_after u p n).position ≡ n % p.sum
-  pub accepted : (unit_after u p n).answer ≡ Done
+  pub accepted : (unit_after u p n).answer ≡ Ok tt
   pub start : bit_of p (place_after u p n).position ≡ false
-      → ((step_of u (place_after u p n).bank (Start (tag_of p))).answer ≡ Done)
+      → ((step_of u (place_after u p n).bank (Start (tag_of p))).answer ≡ Ok tt)
       × ((step_of u (place_after u p n).bank (Start (tag_of p))).bank ≡ (place_after u p (n + 1)).bank)
       × ((unit_after u p n).started ≡ true)
   pub tick : bit_of p (place_after u p n).position ≡ true
-      → ((step_of u (place_after u p n).bank Tick).answer ≡ Done)
+      → ((step_of u (place_after u p n).bank Tick).answer ≡ Ok tt)
       × ((step_of u (place_after u p n).bank Tick).bank ≡ (place_after u p (n + 1)).bank)
       × ((unit_after u p n).started ≡ false)
 
@@ -61,7 +60,7 @@ pub record FoundPlan (p : Plan) (later : List Call) (told : List Reply) (left : 
   pub before : List ℕ
   pub words : List ℕ
   pub found : FunctionUnit
-  pub search : SearchPromise unit tag before words Done found
+  pub search : SearchPromise unit tag before words (Ok tt) found
   pub plan : p ≡ found.plan
   pub stays : Leaves found later told left
 
@@ -79,7 +78,7 @@ pub record HandedOut (p : Plan) (later : List Call) (told : List Reply) (left : 
   pub replies : List Reply
   pub unit : FunctionUnit
   pub leaves : Leaves (fresh_of functions segments columns).unit calls replies unit
-  pub handed : read_of unit ≡ record { answer = Done; plan = p }
+  pub handed : read_of unit ≡ Ok p
   pub stays : Leaves unit later told left
 
 abbrev pub EveryPlanPlays : Type 0

@@ -1,12 +1,11 @@
 -- A plan's ring played beside a bank, one time unit at a step.
-use Rattle.std.specs.Prelude.{ℕ, ◌+◌, Bool, false, cond, not, ◌&&◌, ◌||◌, ltb, eqb}
+use Rattle.std.specs.Prelude.{ℕ, ◌+◌, Bool, false, cond, not, ◌&&◌, ◌||◌, ltb, eqb, Ok, Err}
 use Rattle.unit.specs.declared.Plan.{Plan}
 use Rattle.unit.specs.declared.Tag.{Tag}
 use Rattle.unit.specs.declared.FunctionUnit.{FunctionUnit}
 use Rattle.unit.specs.declared.Refusal.{Refusal}
 use Rattle.unit.specs.declared.Refusal.TheVariants.{NotSound, NoSuchTag, BadRecord, NotGranted}
-use Rattle.unit.specs.declared.Answer.{Answer}
-use Rattle.unit.specs.declared.Answer.TheVariants.{Done, Refused}
+use Rattle.unit.specs.Answers.{Answer}
 use Rattle.unit.specs.Unit.{inside, sound_of}
 use Rattle.unit.specs.Calls.{check}
 use Rattle.controller.specs.declared.Bank.{Bank}
@@ -35,7 +34,7 @@ step_answer u p i b =
     check (sound_of u) NotSound
     (check (inside p.tag u.functions) NoSuchTag
     (check (holds_cycle p && ltb i p.sum) BadRecord
-    (check (bit_of p i || granted b p.tag) NotGranted Done)))
+    (check (bit_of p i || granted b p.tag) NotGranted (Ok tt))))
 
 -- the position after i: 0 after S - 1
 abbrev pub position_after : Plan → ℕ → ℕ
@@ -43,12 +42,12 @@ position_after p i = cond (eqb (i + 1) p.sum) 0 (i + 1)
 
 -- a refused step starts nothing and leaves position and bank
 abbrev pub stopped : Refusal → ℕ → Bank → UnitPlayed
-stopped why i b = record { answer = Refused why; started = false; position = i; bank = b }
+stopped why i b = record { answer = Err why; started = false; position = i; bank = b }
 
 -- whether a task has started, the next position, and the bank after the event
 abbrev pub playing : Answer → FunctionUnit → Plan → ℕ → Bank → UnitPlayed
-playing Done u p i b = record { answer = Done; started = not (bit_of p i); position = position_after p i; bank = moved u b (event_of p i) }
-playing (Refused why) u p i b = stopped why i b
+playing (Ok _) u p i b = record { answer = (Ok tt); started = not (bit_of p i); position = position_after p i; bank = moved u b (event_of p i) }
+playing (Err why) u p i b = stopped why i b
 
 unfoldable pub play_of : FunctionUnit → Plan → ℕ → Bank → UnitPlayed
 play_of u p i b = playing (step_answer u p i b) u p i b

@@ -10,12 +10,12 @@ ghost use Rattle.simulator.specs.Inner.{is_start, OnRing, Playable, ring_answer}
 ghost use Rattle.unit.specs.Calls.{and_then};
 
 use controller::{Bank, Event};
-use unit::{Answer, FunctionUnit, Plan, Refusal, Tag};
+use unit::{FunctionUnit, Plan, Refusal, Tag};
 
 // What a step answers: whether a task has started, and the position and the bank for the next step.
 #[derive(Clone, Copy)]
 pub struct UnitPlayed {
-    pub answer: Answer,
+    pub answer: Result<(), Refusal>,
     pub started: bool,
     pub position: u16,
     pub bank: Bank,
@@ -27,10 +27,11 @@ fn starts_at(list: &[u8], position: usize) -> bool
     ensures { result ≡ starts list.now position }
 {
     let mut next: usize = 0;
-    let mut index: usize = 0;
-    while next < position {
-        next += list[index] as usize;
-        index += 1;
+    for latency in list {
+        if position <= next {
+            break;
+        }
+        next += *latency as usize;
     }
     next == position
 }
@@ -73,7 +74,7 @@ fn refused(why: Refusal, position: u16, bank: Bank) -> UnitPlayed
     ensures { result ≡ stopped why position bank }
 {
     UnitPlayed {
-        answer: Answer::Refused(why),
+        answer: Err(why),
         started: false,
         position,
         bank,
@@ -89,13 +90,13 @@ fn play(u: FunctionUnit, plan: Plan, position: u16, bank: Bank) -> UnitPlayed
     let after = controller::step(u, bank, event);
     let answer = after.answer;
     match answer {
-        Answer::Refused(why) => refused(why, position, bank),
-        Answer::Done => {
+        Err(why) => refused(why, position, bank),
+        Ok(()) => {
             let started = is_start(event);
             let next = position_after(plan, position);
             let moved = after.bank;
             UnitPlayed {
-                answer: Answer::Done,
+                answer: Ok(()),
                 started,
                 position: next,
                 bank: moved,
@@ -105,26 +106,24 @@ fn play(u: FunctionUnit, plan: Plan, position: u16, bank: Bank) -> UnitPlayed
 }
 
 // Whether the plan has a ring, and the position is one of it.
-fn check_ring(plan: Plan, position: u16) -> Answer
+fn check_ring(plan: Plan, position: u16) -> Result<(), Refusal>
     ensures { result ≡ ring_answer plan position }
 {
     if !plan_record::holds_cycle(plan) {
-        return Answer::Refused(Refusal::BadRecord);
+        return Err(Refusal::BadRecord);
     }
     if plan.sum <= position {
-        return Answer::Refused(Refusal::BadRecord);
+        return Err(Refusal::BadRecord);
     }
-    Answer::Done
+    Ok(())
 }
 
 // The first of two answers, or the second where the first refuses nothing.
-fn and_then(first: Answer, second: Answer) -> Answer
+fn and_then(first: Result<(), Refusal>, second: Result<(), Refusal>) -> Result<(), Refusal>
     ensures { result ≡ and_then first second }
 {
-    match first {
-        Answer::Refused(why) => Answer::Refused(why),
-        Answer::Done => second,
-    }
+    first?;
+    second
 }
 
 // One time unit of a plan: a start of its tag where its ring has a 0, else a tick. A refused step leaves position and bank.
@@ -135,7 +134,7 @@ pub fn step(u: FunctionUnit, plan: Plan, position: u16, bank: Bank) -> UnitPlaye
     let ring = check_ring(plan, position);
     let ready = and_then(known, ring);
     match ready {
-        Answer::Refused(why) => refused(why, position, bank),
-        Answer::Done => play(u, plan, position, bank),
+        Err(why) => refused(why, position, bank),
+        Ok(()) => play(u, plan, position, bank),
     }
 }

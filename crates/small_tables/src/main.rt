@@ -2,27 +2,17 @@
 // tenth of a second, so that there is no progress to tell. The program stops at the first line that can't be written.
 #![tactic(auto)]
 
-use std::io::Print;
+use std::io;
+use std::io::{ErrorKind, Print};
 
-// Writes the front of an area, and answers whether it could be written.
-fn print_front(rt: &impl Print, area: &[u8], length: usize) -> bool {
+fn print_front(rt: &impl Print, area: &[u8], length: usize) -> io::Result<()> {
     if length <= area.len() {
-        return rt.write_all(&area[..length]).is_ok();
+        return rt.write_all(&area[..length]);
     }
-    false
+    Err(io::Error::from(ErrorKind::InvalidInput))
 }
 
-fn print_size(rt: &impl Print, segments: u8, columns: u8) -> bool {
-    let mut area = [0u8; 4096];
-    let after_word = text::put(&mut area, 0, b"segments ");
-    let after_segments = text::put_number(&mut area, after_word, segments as u32);
-    let after_second = text::put(&mut area, after_segments, b" columns ");
-    let after_columns = text::put_number(&mut area, after_second, columns as u32);
-    let end = text::put(&mut area, after_columns, b" ");
-    print_front(rt, &area, end)
-}
-
-fn print_totals(rt: &impl Print, segments: u8, columns: u8) -> bool {
+fn print_totals(rt: &impl Print, segments: u8, columns: u8) -> io::Result<()> {
     let mut work = [0u32; 16000];
     let totalled = table_totals::totals(segments, columns, &mut work);
     let mut area = [0u8; 4096];
@@ -30,17 +20,16 @@ fn print_totals(rt: &impl Print, segments: u8, columns: u8) -> bool {
     print_front(rt, &area, end)
 }
 
-fn print_line(rt: &impl Print, segments: u8, columns: u8) -> bool {
-    if print_size(rt, segments, columns) {
-        return print_totals(rt, segments, columns);
+fn print_sizes(rt: &impl Print) -> io::Result<()> {
+    for segments in 1..=2u8 {
+        for columns in 1..=6u8 {
+            print!(rt; "segments {segments} columns {columns} ")?;
+            print_totals(rt, segments, columns)?;
+        }
     }
-    false
+    Ok(())
 }
 
 fn main(rt: HostRuntime) {
-    for size in 0..12u8 {
-        if !print_line(&rt, size / 6 + 1, size % 6 + 1) {
-            break;
-        }
-    }
+    let _ = print_sizes(&rt);
 }

@@ -1,4 +1,5 @@
 -- Lines of `small`, worked out by hand, and what the session is after it. Assumes nothing.
+use Rattle.std.proofs.Common.{Ok}
 use Prim.Native.Nat.{ℕ}
 use mathlib.Core.Path.{◌≡◌, refl, sym, ap, ◌∙◌}
 use mathlib.Core.Bool.{true}
@@ -6,7 +7,6 @@ use mathlib.Core.List.{List}
 use native.Mathlib.Omega.{arith}
 use Rattle.words.proofs.Tests.{nowhere}
 use Rattle.text.specs.Text.{ascii, digits, decimal}
-use Rattle.unit.specs.declared.Answer.TheVariants.{Done}
 use Rattle.unit.specs.Calls.{unit_of}
 use Rattle.command_table.specs.declared.Verb.TheVariants as Verb
 use Rattle.command.specs.declared.Request.{Request}
@@ -53,7 +53,7 @@ module _ {s : Session} {before after : List ℕ} {t : Reply} where
   kept_by_totals x = (x.totals (omega arith)).next
 
   -- `small 1 1 1` leaves the table with a mark
-  pub taken_1 : SmallOn s (number 1) before after t → t.session ≡ taken s Done (unit_of 1 1 1 (small_table 1 1 1))
+  pub taken_1 : SmallOn s (number 1) before after t → t.session ≡ taken s (Ok tt) (unit_of 1 1 1 (small_table 1 1 1))
   unfolding small_table_of small_table_answer
   taken_1 x = (x.table (omega arith)).next
 

@@ -1,4 +1,5 @@
 -- What `small` is answered, by the number of words after its name. Assumes nothing.
+use Rattle.std.proofs.Common.{Result}
 use Prim.Native.Nat.{ℕ, ◌≤◌, ◌<◌}
 use mathlib.Core.Path.{◌≡◌, refl, ap₂, ◌∙◌, subst}
 use mathlib.Core.List.{List}
@@ -11,11 +12,12 @@ use Rattle.session.specs.declared.Reply.{Reply}
 use Rattle.session.specs.Sessions.{one, two, Line, Made}
 use Rattle.session.proofs.SessionLaws.{made_as}
 use Rattle.table_numbers.specs.Tables.{small_table_of}
-use Rattle.table_totals.specs.declared.Totalled.{Totalled}
 use Rattle.table_totals.specs.Totals.{AnswersTotals, TotalsPromise}
 use Rattle.small_text.specs.Told.{totalled_line, TotalsTold, SmallOn}
+use Rattle.table_totals.specs.declared.SizeTotals.{SizeTotals}
+use Rattle.unit.specs.declared.Refusal.{Refusal}
 
-pub told_as : (s : Session) (r : Request) {a b : ℕ} {zeros words : List ℕ} {answer : Totalled} {before after : List ℕ} {end : ℕ} → a ≡ one r → b ≡ two r
+pub told_as : (s : Session) (r : Request) {a b : ℕ} {zeros words : List ℕ} {answer : (Result SizeTotals Refusal)} {before after : List ℕ} {end : ℕ} → a ≡ one r → b ≡ two r
     → length zeros ≡ 16000 → TotalsPromise a b zeros words answer → Line (totalled_line answer) before after end
     → TotalsTold s r before after record { session = s; end = end }
 told_as s r {a} {b} {zeros} {answer = answer} e f n p l = record { answer = answer; answers = asked; line = l; next = refl }

@@ -1,5 +1,5 @@
 -- What a designer who asks for small tables is told, and what the session is then.
-use Rattle.std.specs.Prelude.{ℕ, ◌≤◌, ◌<◌, ◌≡◌, List, ◌++◌}
+use Rattle.std.specs.Prelude.{ℕ, ◌≤◌, ◌<◌, ◌≡◌, List, ◌++◌, Result, Ok, Err}
 use Prim.Native.String.{String}
 use Rattle.text.specs.Text.{ascii, decimal}
 use Rattle.unit.specs.declared.Outcome.{Outcome}
@@ -10,9 +10,8 @@ use Rattle.session.specs.declared.Reply.{Reply}
 use Rattle.session.specs.Sessions.{one, two, Line, Made}
 use Rattle.table_numbers.specs.Tables.{small_table_of}
 use Rattle.table_totals.specs.declared.SizeTotals.{SizeTotals}
-use Rattle.table_totals.specs.declared.Totalled.{Totalled}
-use Rattle.table_totals.specs.declared.Totalled.TheVariants as Totalled
 use Rattle.table_totals.specs.Totals.{AnswersTotals}
+use Rattle.unit.specs.declared.Refusal.{Refusal}
 
 -- Lines
 
@@ -27,15 +26,15 @@ totals_line t =
     ++ labelled " first " t.first ++ newline
 
 -- or `refused` and the number
-abbrev pub totalled_line : Totalled → List ℕ
-totalled_line (Totalled.Value t) = totals_line t
-totalled_line (Totalled.Refused why) = refused_line why
+abbrev pub totalled_line : Result SizeTotals Refusal → List ℕ
+totalled_line (Ok t) = totals_line t
+totalled_line (Err why) = refused_line why
 
 -- The command
 
 -- two numbers are a size, whose totals are told; the session stays as it is
 pub record TotalsTold (s : Session) (r : Request) (before after : List ℕ) (t : Reply) : Type 0 where
-  pub answer : Totalled
+  pub answer : Result SizeTotals Refusal
   pub answers : AnswersTotals (one r) (two r) 16000 answer
   pub line : Line (totalled_line answer) before after t.end
   pub next : t.session ≡ s

@@ -10,8 +10,8 @@ ghost use Rattle.small_text.specs.Told.{totals_line, totalled_line, TotalsTold, 
 
 use command::Request;
 use session::{Reply, Session};
-use table_totals::{SizeTotals, Totalled};
-use unit::Answer;
+use table_totals::SizeTotals;
+use unit::Refusal;
 use words::byte;
 
 // A word and the number after it.
@@ -45,12 +45,12 @@ fn put_line(out: &mut [u8], totals: SizeTotals) -> usize
 }
 
 // The totals, or `refused` and the number.
-pub fn put_totals(out: &mut [u8], totalled: Totalled) -> usize
+pub fn put_totals(out: &mut [u8], totalled: Result<SizeTotals, Refusal>) -> usize
     ensures { Line (totalled_line totalled) out.old out.new result }
 {
     match totalled {
-        Totalled::Value(totals) => put_line(out, totals),
-        Totalled::Refused(why) => session::put_answer(out, Answer::Refused(why)),
+        Ok(totals) => put_line(out, totals),
+        Err(why) => session::put_answer(out, Err(why)),
     }
 }
 

@@ -1,8 +1,7 @@
 -- What is claimed of small tables: the list of a size has every table of it, each once, by rising number, and the call makes each of them.
-use Rattle.std.specs.Prelude.{ℕ, ◌+◌, ◌-◌, ◌*◌, ◌<◌, ◌≡◌, true, length}
+use Rattle.std.specs.Prelude.{ℕ, ◌+◌, ◌-◌, ◌*◌, ◌<◌, ◌≡◌, true, length, Ok}
 use Rattle.words.specs.Bits.{is_set}
 use Rattle.unit.specs.declared.Outcome.{Outcome}
-use Rattle.unit.specs.declared.Answer.TheVariants.{Done}
 use Rattle.unit.specs.Table.{Table}
 use Rattle.unit.specs.Unit.{inside, sound_of, marked}
 use Rattle.unit.specs.Calls.{no_plan}
@@ -42,7 +41,7 @@ EachOnce = (s c : ℕ) → small_size s c ≡ true → AllTables s c
 
 -- what the call makes: a sound unit of one function and that size, without plan, whose marks are the table's
 pub record Makes (s c : ℕ) (T : Table) (made : Outcome) : Type 0 where
-  pub answer : made.answer ≡ Done
+  pub answer : made.answer ≡ Ok tt
   pub sound : sound_of made.unit ≡ true
   pub functions : made.unit.functions ≡ 1
   pub segments : made.unit.segments ≡ s

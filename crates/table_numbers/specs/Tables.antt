@@ -1,11 +1,10 @@
 -- Sized tables, of one function, 1 or 2 segments and 1 to 6 columns, each with a number; and the calls that count them and make the table of a number.
-use Rattle.std.specs.Prelude.{ℕ, ◌+◌, ◌-◌, ◌*◌, ◌/◌, ◌%◌, ◌^◌, Bool, cond, ◌&&◌, List, map, ltb, eqb, get_or}
+use Rattle.std.specs.Prelude.{ℕ, ◌+◌, ◌-◌, ◌*◌, ◌/◌, ◌%◌, ◌^◌, Bool, cond, ◌&&◌, List, map, ltb, eqb, get_or, Ok}
 use Rattle.words.specs.Bits.{is_set}
 use Rattle.words.specs.Below.{word_below, list_below}
 use Rattle.unit.specs.declared.Outcome.{Outcome}
 use Rattle.unit.specs.declared.Refusal.TheVariants.{NoSmallTable}
-use Rattle.unit.specs.declared.Answer.{Answer}
-use Rattle.unit.specs.declared.Answer.TheVariants.{Done}
+use Rattle.unit.specs.Answers.{Answer}
 use Rattle.unit.specs.Table.{Table, empty}
 use Rattle.unit.specs.Unit.{inside}
 use Rattle.unit.specs.Calls.{check, outcome, blank, unit_of}
@@ -47,7 +46,7 @@ count_answer s c = cond (small_size s c) (table_count s c) 0
 
 -- 22: a size outside these, or a number that no table has
 unfoldable pub small_table_answer : ℕ → ℕ → ℕ → Answer
-small_table_answer s c n = check (small_size s c && ltb n (table_count s c)) NoSmallTable Done
+small_table_answer s c n = check (small_size s c && ltb n (table_count s c)) NoSmallTable (Ok tt)
 
 -- the unit of one function with the marks of the table, and without plan; where the call is refused the unit of no counts, which every call refuses
 unfoldable pub small_table_of : ℕ → ℕ → ℕ → Outcome

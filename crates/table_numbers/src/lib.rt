@@ -8,16 +8,13 @@ ghost use Rattle.unit.specs.Calls.{unit_of};
 ghost use Rattle.table_numbers.specs.Tables.{small_size, count_answer, small_table, small_table_answer, small_table_of};
 ghost use Rattle.table_numbers.specs.Inner.{Sized, column_word};
 
-use unit::{Answer, FunctionUnit, Outcome, Refusal, Tag};
+use unit::{FunctionUnit, Outcome, Refusal, Tag};
 
 // Whether there are small tables of so many segments and columns.
 fn is_size(segments: u8, columns: u8) -> bool
     ensures { result ≡ small_size segments columns }
 {
-    if !words::is_inside(segments, 2) {
-        return false;
-    }
-    words::is_inside(columns, 6)
+    words::is_inside(segments, 2) && words::is_inside(columns, 6)
 }
 
 // How many tables of a size there are: their numbers are those below it. Of a size outside there are none.
@@ -31,13 +28,13 @@ pub fn count(segments: u8, columns: u8) -> u32
 }
 
 // Whether a number has a table of the size.
-fn check_number(segments: u8, columns: u8, number: u32) -> Answer
+fn check_number(segments: u8, columns: u8, number: u32) -> Result<(), Refusal>
     ensures { result ≡ small_table_answer segments columns number }
 {
     if number < count(segments, columns) {
-        return Answer::Done;
+        return Ok(());
     }
-    Answer::Refused(Refusal::NoSmallTable)
+    Err(Refusal::NoSmallTable)
 }
 
 // The marks of a column, bit r - 1 for segment r.
@@ -46,13 +43,11 @@ fn column_word(segments: u8, columns: u8, number: u32, column: u8) -> u16
     ensures { result ≡ column_word segments columns number column }
 {
     let mut marks: u32 = 0;
-    let mut i: u8 = 0;
-    while i < segments {
+    for i in 0..segments {
         let place = i as u32 * columns as u32 + (column as u32 - 1);
         if words::test(number, place) {
             marks = words::set(marks, i as u32);
         }
-        i += 1;
     }
     marks as u16
 }
@@ -64,13 +59,11 @@ fn fill(segments: u8, columns: u8, number: u32) -> FunctionUnit
 {
     let made = unit::fresh(1, segments, columns);
     let mut unit = made.unit;
-    let mut column: u8 = 1;
-    while column <= columns {
+    for column in 1..=columns {
         let word = column_word(segments, columns, number, column);
         let given = columns::with_column(unit, Tag(1), column, word);
         let filled = given.unit;
         unit = filled;
-        column += 1;
     }
     unit
 }
@@ -82,18 +75,18 @@ pub fn table(segments: u8, columns: u8, number: u32) -> Outcome
 {
     let answer = check_number(segments, columns, number);
     match answer {
-        Answer::Refused(why) => {
+        Err(why) => {
             let made = unit::fresh(0, 0, 0);
             let none = made.unit;
             Outcome {
-                answer: Answer::Refused(why),
+                answer: Err(why),
                 unit: none,
             }
         }
-        Answer::Done => {
+        Ok(()) => {
             let filled = fill(segments, columns, number);
             Outcome {
-                answer: Answer::Done,
+                answer: Ok(()),
                 unit: filled,
             }
         }

@@ -1,4 +1,5 @@
 -- What the call answers. Assumes nothing.
+use Rattle.std.proofs.Common.{Ok, Err}
 use Prim.Native.Nat.{ℕ, ◌*◌, ◌≤◌, ◌<◌}
 use mathlib.Core.Path.{◌≡◌, refl, sym, ◌∙◌}
 use mathlib.Core.Bool.{Bool, true, false, cond}
@@ -9,12 +10,9 @@ use lib.Pow.{pow_pos}
 use borrow.Author.Tests.{le-leb, lt-leb}
 use Rattle.unit.specs.declared.Refusal.{Refusal}
 use Rattle.unit.specs.declared.Refusal.TheVariants.{NoSmallTable, ShortWork}
-use Rattle.unit.specs.declared.Answer.TheVariants.{Done, Refused}
 use Rattle.unit.proofs.Laws.{never_done}
 use Rattle.table_numbers.specs.Tables.{small_size, table_count, count_answer}
 use Rattle.table_totals.specs.declared.SizeTotals.{SizeTotals}
-use Rattle.table_totals.specs.declared.Totalled.{Totalled}
-use Rattle.table_totals.specs.declared.Totalled.TheVariants as Totalled
 use Rattle.table_totals.specs.Totals.{totals_answer, TotalsPromise}
 use Rattle.table_totals.specs.Inner.{Prepared, TotalsFound}
 
@@ -36,18 +34,18 @@ no_size s c {n} e z = go (small_size s c) refl e
 
 -- The ways that the call ends
 
-refused_as : {s c : ℕ} {words : List ℕ} {why : Refusal} → totals_answer s c (length words) ≡ Refused why → TotalsPromise s c words words (Totalled.Refused why)
+refused_as : {s c : ℕ} {words : List ℕ} {why : Refusal} → totals_answer s c (length words) ≡ Err why → TotalsPromise s c words words (Err why)
 refused_as h = record {
   answers = record { refused = λ other e. cc; found = λ e. never_done (sym h ∙ e) };
   work = record { size = refl; beyond = λ i l. refl; kept = λ other e l. refl };
 }
 
-pub promise_size : {s c n : ℕ} {words : List ℕ} → n ≡ count_answer s c → n ≡ 0 → TotalsPromise s c words words (Totalled.Refused NoSmallTable)
+pub promise_size : {s c n : ℕ} {words : List ℕ} → n ≡ count_answer s c → n ≡ 0 → TotalsPromise s c words words (Err NoSmallTable)
 unfolding totals_answer
 promise_size {s} {c} e z = refused_as (simp (no_size s c e z))
 
 pub promise_short : {s c n : ℕ} {words : List ℕ} → n ≡ count_answer s c → (n ≡ 0 → ⊥) → length words < 16000
-    → TotalsPromise s c words words (Totalled.Refused ShortWork)
+    → TotalsPromise s c words words (Err ShortWork)
 unfolding totals_answer
 promise_short {s} {c} {words = words} e ne l = refused_as (simp ((counted s c e ne).0, lt-leb 16000 (length words) l))
 
@@ -55,10 +53,10 @@ pub ready : {s c n : ℕ} {room : ℕ} → n ≡ count_answer s c → (n ≡ 0 �
 ready {s} {c} e ne l = let d = counted s c e ne in record { size = d.0; count = d.1; words = l }
 
 pub promise_done : {s c n : ℕ} {before words : List ℕ} {t : SizeTotals} → n ≡ count_answer s c → (n ≡ 0 → ⊥) → 16000 ≤ length before
-    → TotalsFound s c before words t → TotalsPromise s c before words (Totalled.Value t)
+    → TotalsFound s c before words t → TotalsPromise s c before words (Ok t)
 unfolding totals_answer
 promise_done {s} {c} {before = before} {t = t} e ne l f =
-    let h : totals_answer s c (length before) ≡ Done = simp ((counted s c e ne).0, le-leb 16000 (length before) l) in
+    let h : totals_answer s c (length before) ≡ Ok tt = simp ((counted s c e ne).0, le-leb 16000 (length before) l) in
     record {
       answers = record { refused = λ why x. never_done (sym x ∙ h); found = λ x. record { totals = t; of_size = f.totals; told = refl } };
       work = record { size = f.used.size; beyond = f.used.beyond; kept = λ why x y. never_done (sym x ∙ h) };

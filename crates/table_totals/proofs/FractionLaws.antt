@@ -60,9 +60,6 @@ pub record Passed (S K q : ℕ) : Type 0 where
   pub most : q ≤ K
   pub none : (b : ℕ) → 1 ≤ b → b < q → S * b % K ≡ 0 → ⊥
 
-pub passed_start : {S K : ℕ} → Fitting S K → Passed S K 1
-passed_start f = record { least = omega arith; most = f.some; none = λ b h l e. omega arith }
-
 -- q itself does not; K does, so q is not yet K
 pub passed_more : {S K q : ℕ} → Fitting S K → Passed S K q → (S * q % K ≡ 0 → ⊥) → Passed S K (q + 1)
 passed_more {S} {K} {q} f p ne = record { least = omega arith; most = most (eq-or-lt_of_le p.most); none = λ b h l. none b h (eq-or-lt_of_le {n = b} {m = q} (omega arith)) }
@@ -90,6 +87,3 @@ reduced S K q pos posq e none =
             not_below b q (λ l. none b posb l z);
       };
     }
-
-pub parts_fit : {S K q : ℕ} → Fitting S K → Passed S K q → S * q ≤ 16777216
-parts_fit f p = mul-le-mul {n₂ = 65536} {m₂ = 256} (omega (arith, f.low)) (omega (arith, p.most, f.few))

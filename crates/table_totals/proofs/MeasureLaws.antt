@@ -1,4 +1,5 @@
 -- The search of a small table is never refused, and finds its best cycle. Assumes nothing.
+use Rattle.std.proofs.Common.{Ok, Err}
 use Prim.Native.Nat.{ℕ, ◌+◌, ◌-◌, ◌*◌, ◌^◌, ◌≤◌, ◌<◌}
 use mathlib.Core.Path.{◌≡◌, sym, ap, ◌∙◌, subst}
 use mathlib.Core.Bool.{true, cond}
@@ -12,12 +13,10 @@ use borrow.Author.Tests.{le-leb}
 use Rattle.unit.specs.declared.FunctionUnit.{FunctionUnit}
 use Rattle.unit.specs.declared.Outcome.{Outcome}
 use Rattle.unit.specs.declared.Refusal.{Refusal}
-use Rattle.unit.specs.declared.Answer.TheVariants.{Done}
 use Rattle.unit.specs.Table.{Table}
 use Rattle.unit.specs.Unit.{marked}
 use Rattle.unit.specs.Calls.{tag_answer, unit_of}
 use Rattle.unit.proofs.Laws.{within}
-use Rattle.collision.specs.declared.Number.TheVariants as Number
 use Rattle.collision.specs.Answers.{answering, bound_answer}
 use Rattle.collision.specs.Pipeline.{total, Forbidden}
 use Rattle.collision.specs.Meaning.{Bounded}
@@ -41,16 +40,16 @@ use Rattle.table_totals.specs.Inner.{Measured}
 
 -- The bound of a unit with function 1
 
-asked : (u : FunctionUnit) → tag_answer u 1 ≡ Done → bound_answer u 1 ≡ Number.Value (bound_of (marked u) 1)
+asked : (u : FunctionUnit) → tag_answer u 1 ≡ Ok tt → bound_answer u 1 ≡ Ok (bound_of (marked u) 1)
 unfolding bound_answer
 asked u e = ap (λ a. answering a (bound_of (marked u) 1)) e
 
-pub bound_given : (u : FunctionUnit) {w : ℕ} → tag_answer u 1 ≡ Done → bound_answer u 1 ≡ Number.Value w → w ≡ bound_of (marked u) 1
-bound_given u {w} e g = let same : Number.Value w ≡ Number.Value (bound_of (marked u) 1) = sym g ∙ asked u e in cc
+pub bound_given : (u : FunctionUnit) {w : ℕ} → tag_answer u 1 ≡ Ok tt → bound_answer u 1 ≡ Ok w → w ≡ bound_of (marked u) 1
+bound_given u {w} e g = let same : Ok w ≡ Ok (bound_of (marked u) 1) = sym g ∙ asked u e in cc
 
-pub bound_never : (u : FunctionUnit) {why : Refusal} → tag_answer u 1 ≡ Done → bound_answer u 1 ≡ Number.Refused why → ⊥
+pub bound_never : (u : FunctionUnit) {why : Refusal} → tag_answer u 1 ≡ Ok tt → bound_answer u 1 ≡ Err why → ⊥
 bound_never u {why} e g =
-    let never : Number.Refused why ≡ Number.Value (bound_of (marked u) 1) = sym g ∙ asked u e in
+    let never : Err why ≡ Ok (bound_of (marked u) 1) = sym g ∙ asked u e in
     let z : ◌≡◌ {A = ℕ} 0 1 = cc in
     omega arith
 
@@ -97,12 +96,12 @@ module _ {s c : ℕ} (m : Sized s c) (n : ℕ) where
       let f : leb (length (states_of 1 (small_table s c n) 1)) 256 ≡ true = le-leb (length (states_of 1 (small_table s c n) 1)) 256 few_states_lem in
       simp (small, table_tag m n, table_marked m n, f)
 
-  search_done : small_size s c ≡ true → (room : ℕ) → 16000 ≤ room → search_answer (unit_of 1 s c (small_table s c n)) 1 room ≡ Done
+  search_done : small_size s c ≡ true → (room : ℕ) → 16000 ≤ room → search_answer (unit_of 1 s c (small_table s c n)) 1 room ≡ Ok tt
   unfolding totals_answer
   search_done small room l = search_answer_lem small room ∙ simp (small, le-leb 16000 room l)
 
   -- the unit has function 1
-  pub function_one : {made : Outcome} → small_size s c ≡ true → n < table_count s c → made ≡ small_table_of s c n → tag_answer made.unit 1 ≡ Done
+  pub function_one : {made : Outcome} → small_size s c ≡ true → n < table_count s c → made ≡ small_table_of s c n → tag_answer made.unit 1 ≡ Ok tt
   function_one small below e = ap (λ (o : Outcome). tag_answer o.unit 1) (e ∙ table_made s c n small below) ∙ table_tag m n
 
   -- what it finds
@@ -115,7 +114,7 @@ module _ {s c : ℕ} (m : Sized s c) (n : ℕ) where
   measured {before} {words} {made} {searched} {bound} {r} small below room e promise b h low =
       let u : made.unit ≡ unit_of 1 s c (small_table s c n) = ap (λ (o : Outcome). o.unit) (e ∙ table_made s c n small below) in
       let T : marked made.unit ≡ nth_table (all_tables s c) n = ap marked u ∙ table_marked m n ∙ sym (tables_at s c n below) in
-      let done : searched.answer ≡ Done = promise.says ∙ ap (λ (v : FunctionUnit). search_answer v 1 (length before)) u ∙ search_done small (length before) room in
+      let done : searched.answer ≡ Ok tt = promise.says ∙ ap (λ (v : FunctionUnit). search_answer v 1 (length before)) u ∙ search_done small (length before) room in
       let f = promise.found done in
       let sum : searched.unit.plan.sum ≡ total f.cycle = ap (λ (v : FunctionUnit). v.plan.sum) f.unit in
       let count : searched.unit.plan.count ≡ length f.cycle = ap (λ (v : FunctionUnit). v.plan.count) f.unit in

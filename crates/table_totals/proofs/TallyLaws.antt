@@ -146,10 +146,6 @@ some_tables {s} {c} r =
     let q : 2 ^ 1 ≤ 2 ^ (s * c) = pow_mono places in
     (omega (arith, r.count), omega (arith, r.count))
 
--- as many working words as before
-pub ready_after : {s c tables : ℕ} (before words : List ℕ) → Prepared s c tables (length before) → Used before words → Prepared s c tables (length words)
-ready_after before words r u = record { size = r.size; count = r.count; words = omega (arith, r.words, u.size) }
-
 pub few_reach : {L : List Table} {n : ℕ} {t : Tally} → Tallied L n t → t.reaching ≤ n
 few_reach {L} {n} x = omega (arith, x.by.reaching, count_most n (λ m. at_bound (nth_table L m) (x.best m)))
 

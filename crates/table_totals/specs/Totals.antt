@@ -1,10 +1,9 @@
 -- Totals over every small table of a size, with the best cycle of each: how many are at the bound, the largest average, and the first number that has it.
-use Rattle.std.specs.Prelude.{ℕ, ◌*◌, ◌≤◌, ◌<◌, ◌≡◌, Bool, List, leb, eqb, length}
+use Rattle.std.specs.Prelude.{ℕ, ◌*◌, ◌≤◌, ◌<◌, ◌≡◌, Bool, List, leb, eqb, length, Result, Ok, Err}
 use Rattle.words.specs.Below.{count_below}
 use Rattle.unit.specs.declared.Refusal.{Refusal}
 use Rattle.unit.specs.declared.Refusal.TheVariants.{NoSmallTable, ShortWork}
-use Rattle.unit.specs.declared.Answer.{Answer}
-use Rattle.unit.specs.declared.Answer.TheVariants.{Done, Refused}
+use Rattle.unit.specs.Answers.{Answer}
 use Rattle.unit.specs.Table.{Table}
 use Rattle.unit.specs.Calls.{check}
 use Rattle.collision.specs.Pipeline.{total}
@@ -13,8 +12,6 @@ use Rattle.cycles.specs.Greedy.{WorkAfter}
 use Rattle.planner.specs.Plans.{Best}
 use Rattle.table_numbers.specs.Tables.{small_size, all_tables, nth_table}
 use Rattle.table_totals.specs.declared.SizeTotals.{SizeTotals}
-use Rattle.table_totals.specs.declared.Totalled.{Totalled}
-use Rattle.table_totals.specs.declared.Totalled.TheVariants as Totalled
 
 -- Fractions
 
@@ -59,20 +56,20 @@ TotalsOf s c t = TotalsOver (all_tables s c) t
 
 -- 22: a size outside the small ones; then 5 as a search has it
 unfoldable pub totals_answer : ℕ → ℕ → ℕ → Answer
-totals_answer s c room = check (small_size s c) NoSmallTable (check (leb 16000 room) ShortWork Done)
+totals_answer s c room = check (small_size s c) NoSmallTable (check (leb 16000 room) ShortWork (Ok tt))
 
 -- the totals of the size
-pub record ToldTotals (s c : ℕ) (answer : Totalled) : Type 0 where
+pub record ToldTotals (s c : ℕ) (answer : (Result SizeTotals Refusal)) : Type 0 where
   pub totals : SizeTotals
   pub of_size : TotalsOf s c totals
-  pub told : answer ≡ Totalled.Value totals
+  pub told : answer ≡ Ok totals
 
 -- what is answered with so many working words (it is one thing: `OneAnswer`, crate total_claims)
-pub record AnswersTotals (s c room : ℕ) (answer : Totalled) : Type 0 where
-  pub refused : (why : Refusal) → totals_answer s c room ≡ Refused why → answer ≡ Totalled.Refused why
-  pub found : totals_answer s c room ≡ Done → ToldTotals s c answer
+pub record AnswersTotals (s c room : ℕ) (answer : (Result SizeTotals Refusal)) : Type 0 where
+  pub refused : (why : Refusal) → totals_answer s c room ≡ Err why → answer ≡ Err why
+  pub found : totals_answer s c room ≡ Ok tt → ToldTotals s c answer
 
 -- Free are the first 2,048 working words, unless the call is refused (`WorkAfter`).
-pub record TotalsPromise (s c : ℕ) (before words : List ℕ) (answer : Totalled) : Type 0 where
+pub record TotalsPromise (s c : ℕ) (before words : List ℕ) (answer : (Result SizeTotals Refusal)) : Type 0 where
   pub answers : AnswersTotals s c (length before) answer
   pub work : WorkAfter (totals_answer s c (length before)) before words

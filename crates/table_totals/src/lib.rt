@@ -11,8 +11,7 @@ ghost use Rattle.table_numbers.specs.Tables.{all_tables};
 ghost use Rattle.table_totals.specs.Totals.{TotalsPromise};
 ghost use Rattle.table_totals.specs.Inner.{Prepared, Used, Fitting, Measured, Tallied, Addable, Added, Reduced, TotalsFound};
 
-use collision::Number;
-use unit::{Answer, FunctionUnit, Refusal, Tag};
+use unit::{FunctionUnit, Refusal, Tag};
 
 // The number of tables of a size, how many of them have a best cycle with S = bound × K, the largest S / K as a fraction in lowest terms, and the
 // first number that has it.
@@ -23,13 +22,6 @@ pub struct SizeTotals {
     pub numerator: u32,
     pub denominator: u32,
     pub first: u32,
-}
-
-// The totals of a size, or why there are none.
-#[derive(Clone, Copy)]
-pub enum Totalled {
-    Value(SizeTotals),
-    Refused(Refusal),
 }
 
 // S and K of a table's best cycle, and 1 where S = bound × K.
@@ -57,13 +49,13 @@ struct Fraction {
 
 // The bound of a unit's function 1.
 fn bound_of(u: FunctionUnit) -> u32
-    requires { tag_answer u 1 ≡ Answer.Done }
+    requires { tag_answer u 1 ≡ Ok tt }
     ensures { result ≡ bound_of (marked u) 1 }
 {
     let found = measures::bound(u, Tag(1));
     match found {
-        Number::Refused(_) => 0,
-        Number::Value(bound) => bound,
+        Err(_) => 0,
+        Ok(bound) => bound,
     }
 }
 
@@ -130,10 +122,7 @@ fn tally_all(segments: u8, columns: u8, tables: u32, work: &mut [u32]) -> Tally
         count: zero.count,
         first: 0,
     };
-    let last = tables - 1;
-    let mut number: u32 = 0;
-    while number < last {
-        number += 1;
+    for number in 1..tables {
         let next = measure(segments, columns, number, tables, work);
         let added = add_table(tally, next, number);
         tally = added;
@@ -147,6 +136,7 @@ fn reduce(sum: u32, count: u32) -> Fraction
     ensures { Reduced sum count result.numerator result.denominator }
 {
     let mut denominator: u32 = 1;
+    // A while: it ends at the denominator that is looked for, and no bound is counted up to.
     while (sum * denominator) % count != 0 {
         denominator += 1;
     }
@@ -173,15 +163,15 @@ fn totals_of(segments: u8, columns: u8, tables: u32, work: &mut [u32]) -> SizeTo
 }
 
 // Finds the totals of a size in lent working words, as a search does.
-pub fn totals(segments: u8, columns: u8, work: &mut [u32]) -> Totalled
+pub fn totals(segments: u8, columns: u8, work: &mut [u32]) -> Result<SizeTotals, Refusal>
     ensures { TotalsPromise segments columns work.old work.new result }
 {
     let tables = table_numbers::count(segments, columns);
     if tables == 0 {
-        return Totalled::Refused(Refusal::NoSmallTable);
+        return Err(Refusal::NoSmallTable);
     }
     if work.len() < 16000 {
-        return Totalled::Refused(Refusal::ShortWork);
+        return Err(Refusal::ShortWork);
     }
-    Totalled::Value(totals_of(segments, columns, tables, work))
+    Ok(totals_of(segments, columns, tables, work))
 }

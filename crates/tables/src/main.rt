@@ -4,18 +4,14 @@
 
 ghost use Rattle.std.specs.Prelude.{◌≡◌, length};
 
-use callers::{Counts, Served, Shared};
-use collision::Number;
+use callers::{Counts, Shared};
 use controller::{Bank, Event};
-use cycles::GreedyAnswer;
-use judge::Verdict;
-use queue::{Joined, Passed, Queue, Waiting};
+use queue::{Joined, Queue, Waiting};
 use simulator::UnitPlayed;
 use std::io;
 use std::io::Print;
-use table_totals::Totalled;
-use unit::{Answer, FunctionUnit, Outcome, Plan, Refusal, Segment, Tag};
-use unit_file::Written;
+use table_totals::SizeTotals;
+use unit::{FunctionUnit, Outcome, Plan, Refusal, Segment, Tag};
 
 // Printing.
 
@@ -30,28 +26,28 @@ fn print_number(rt: &impl Print, number: u32) -> io::Result<()> {
 
 fn print_refusal(rt: &impl Print, why: Refusal) -> io::Result<()> {
     rt.write_all(b" refused")?;
-    print_number(rt, unit::number_in(Answer::Refused(why)) as u32)
+    print_number(rt, u32::from(why))
 }
 
-fn print_answer(rt: &impl Print, answer: Answer) -> io::Result<()> {
+fn print_answer(rt: &impl Print, answer: Result<(), Refusal>) -> io::Result<()> {
     match answer {
-        Answer::Done => { rt.write_all(b" done") }
-        Answer::Refused(why) => print_refusal(rt, why),
+        Ok(()) => { rt.write_all(b" done") }
+        Err(why) => print_refusal(rt, why),
     }
 }
 
-fn print_asked(rt: &impl Print, asked: Number) -> io::Result<()> {
+fn print_asked(rt: &impl Print, asked: Result<u32, Refusal>) -> io::Result<()> {
     match asked {
-        Number::Value(number) => print_number(rt, number),
-        Number::Refused(why) => print_refusal(rt, why),
+        Ok(number) => print_number(rt, number),
+        Err(why) => print_refusal(rt, why),
     }
 }
 
-fn print_verdict(rt: &impl Print, verdict: Verdict) -> io::Result<()> {
+fn print_verdict(rt: &impl Print, verdict: Result<bool, Refusal>) -> io::Result<()> {
     match verdict {
-        Verdict::Yes => { rt.write_all(b" yes") }
-        Verdict::No => { rt.write_all(b" no") }
-        Verdict::Refused(why) => print_refusal(rt, why),
+        Ok(true) => { rt.write_all(b" yes") }
+        Ok(false) => { rt.write_all(b" no") }
+        Err(why) => print_refusal(rt, why),
     }
 }
 
@@ -72,23 +68,23 @@ fn print_columns(rt: &impl Print, word: u32, columns: u32) -> io::Result<()> {
     Ok(())
 }
 
-fn print_vector(rt: &impl Print, asked: Number) -> io::Result<()> {
+fn print_vector(rt: &impl Print, asked: Result<u32, Refusal>) -> io::Result<()> {
     match asked {
-        Number::Value(word) => {
+        Ok(word) => {
             if word == 0 {
                 rt.write_all(b" -")
             } else {
                 print_columns(rt, word, diagram::width_of(word))
             }
         }
-        Number::Refused(why) => print_refusal(rt, why),
+        Err(why) => print_refusal(rt, why),
     }
 }
 
-fn print_row(rt: &impl Print, asked: Number) -> io::Result<()> {
+fn print_row(rt: &impl Print, asked: Result<u32, Refusal>) -> io::Result<()> {
     match asked {
-        Number::Value(word) => print_columns(rt, word, 4),
-        Number::Refused(why) => print_refusal(rt, why),
+        Ok(word) => print_columns(rt, word, 4),
+        Err(why) => print_refusal(rt, why),
     }
 }
 
@@ -234,10 +230,8 @@ fn show_greedy(rt: &impl Print, name: &[u8], u: FunctionUnit) -> io::Result<()> 
     let asked = cycles::greedy(u, Tag(1), &mut work, &mut cycle);
     begin(rt, name, b" greedy")?;
     match asked {
-        GreedyAnswer::Cycle(counted) => {
-            print_counted(rt, &cycle, counted.count as usize, counted.sum)?
-        }
-        GreedyAnswer::Refused(why) => print_refusal(rt, why)?,
+        Ok(counted) => { print_counted(rt, &cycle, counted.count as usize, counted.sum)? }
+        Err(why) => print_refusal(rt, why)?,
     }
     end_line(rt)
 }
@@ -248,12 +242,9 @@ fn searched(u: FunctionUnit) -> Outcome {
 }
 
 fn print_read(rt: &impl Print, u: FunctionUnit) -> io::Result<()> {
-    let handed = planner::read(u);
-    let answer = handed.answer;
-    let plan = handed.plan;
-    match answer {
-        Answer::Done => print_plan(rt, plan),
-        Answer::Refused(why) => print_refusal(rt, why),
+    match planner::read(u) {
+        Ok(plan) => print_plan(rt, plan),
+        Err(why) => print_refusal(rt, why),
     }
 }
 
@@ -261,8 +252,8 @@ fn print_found(rt: &impl Print, found: Outcome) -> io::Result<()> {
     let answer = found.answer;
     let planned = found.unit;
     match answer {
-        Answer::Done => print_read(rt, planned),
-        Answer::Refused(why) => print_refusal(rt, why),
+        Ok(()) => print_read(rt, planned),
+        Err(why) => print_refusal(rt, why),
     }
 }
 
@@ -312,8 +303,7 @@ fn print_average(rt: &impl Print, u: FunctionUnit, plan: Plan) -> io::Result<()>
 fn show_average(rt: &impl Print, name: &[u8], u: FunctionUnit) -> io::Result<()> {
     let found = searched(u);
     let planned = found.unit;
-    let handed = planner::read(planned);
-    let plan = handed.plan;
+    let plan = planner::read(planned).unwrap_or(unit::no_plan());
     begin(rt, name, b" best average")?;
     print_average(rt, u, plan)?;
     end_line(rt)
@@ -367,7 +357,12 @@ fn try_judge(rt: &impl Print) -> io::Result<()> {
     show_judge(rt, b"fig 1", u, b"")
 }
 
-fn show_row(rt: &impl Print, matrix: &[u8], row: &[u8], asked: Number) -> io::Result<()> {
+fn show_row(
+    rt: &impl Print,
+    matrix: &[u8],
+    row: &[u8],
+    asked: Result<u32, Refusal>,
+) -> io::Result<()> {
     begin(rt, b"fig 2 ", matrix)?;
     begin(rt, b" row ", row)?;
     print_row(rt, asked)?;
@@ -382,10 +377,10 @@ fn try_figure_2(rt: &impl Print) -> io::Result<()> {
     show_row(rt, b"M_B", b"B", collision::matrix_row(u, Tag(2), Tag(2)))
 }
 
-fn print_granted(rt: &impl Print, answer: Answer) -> io::Result<()> {
+fn print_granted(rt: &impl Print, answer: Result<(), Refusal>) -> io::Result<()> {
     match answer {
-        Answer::Done => { rt.write_all(b" granted") }
-        Answer::Refused(why) => print_refusal(rt, why),
+        Ok(()) => { rt.write_all(b" granted") }
+        Err(why) => print_refusal(rt, why),
     }
 }
 
@@ -408,7 +403,7 @@ fn show_tick(rt: &impl Print, u: FunctionUnit, bank: Bank) -> io::Result<Bank> {
     let stepped = controller::step(u, bank, Event::Tick);
     let answer = stepped.answer;
     begin(rt, b"fig 2", b" tick")?;
-    if let Answer::Refused(why) = answer {
+    if let Err(why) = answer {
         print_refusal(rt, why)?;
     }
     end_line(rt)?;
@@ -444,8 +439,8 @@ fn try_controller(rt: &impl Print) -> io::Result<()> {
 fn print_step(rt: &impl Print, played: UnitPlayed) -> io::Result<()> {
     let answer = played.answer;
     match answer {
-        Answer::Refused(why) => print_refusal(rt, why),
-        Answer::Done => {
+        Err(why) => print_refusal(rt, why),
+        Ok(()) => {
             if played.started {
                 rt.write_all(b" start then")?;
             } else {
@@ -543,8 +538,8 @@ fn print_delays(rt: &impl Print, made: Outcome, latency: u8) -> io::Result<()> {
     let answer = made.answer;
     let delayed = made.unit;
     match answer {
-        Answer::Refused(why) => print_refusal(rt, why),
-        Answer::Done => {
+        Err(why) => print_refusal(rt, why),
+        Ok(()) => {
             rt.write_all(b" columns")?;
             print_number(rt, delayed.columns as u32)?;
             rt.write_all(b" vector")?;
@@ -594,8 +589,8 @@ fn print_joined(rt: &impl Print, joined: Joined) -> io::Result<()> {
     let answer = joined.answer;
     let queue = joined.queue;
     match answer {
-        Answer::Refused(why) => print_refusal(rt, why),
-        Answer::Done => {
+        Err(why) => print_refusal(rt, why),
+        Ok(()) => {
             rt.write_all(b" wait ")?;
             rt.print(queue.count)
         }
@@ -617,11 +612,11 @@ fn show_arrival(
     end_line(rt)
 }
 
-fn print_passed(rt: &impl Print, passed: Passed) -> io::Result<()> {
+fn print_passed(rt: &impl Print, passed: Result<Option<Waiting>, Refusal>) -> io::Result<()> {
     match passed {
-        Passed::Refused(why) => print_refusal(rt, why),
-        Passed::Idle => { rt.write_all(b" none") }
-        Passed::Started(started) => {
+        Err(why) => print_refusal(rt, why),
+        Ok(None) => { rt.write_all(b" none") }
+        Ok(Some(started)) => {
             rt.write_all(b" started")?;
             print_number(rt, started.tag as u32)?;
             print_number(rt, started.ticket)
@@ -699,8 +694,8 @@ fn show_call(
     let counts = after.counts;
     let each = counts.each;
     match answer {
-        Answer::Refused(why) => print_refusal(rt, why)?,
-        Answer::Done => {
+        Err(why) => print_refusal(rt, why)?,
+        Ok(()) => {
             rt.write_all(b" wait ")?;
             rt.print(each[1])?
         }
@@ -708,11 +703,11 @@ fn show_call(
     end_line(rt)
 }
 
-fn print_served(rt: &impl Print, served: Served) -> io::Result<()> {
+fn print_served(rt: &impl Print, served: Result<Option<(u8, Waiting)>, Refusal>) -> io::Result<()> {
     match served {
-        Served::Refused(why) => print_refusal(rt, why),
-        Served::Idle => { rt.write_all(b" none") }
-        Served::Started(caller, started) => {
+        Err(why) => print_refusal(rt, why),
+        Ok(None) => { rt.write_all(b" none") }
+        Ok(Some((caller, started))) => {
             rt.write_all(b" started")?;
             print_number(rt, caller as u32)?;
             print_number(rt, started.tag as u32)?;
@@ -796,16 +791,16 @@ fn show_small(rt: &impl Print, segments: u8, columns: u8, number: u32) -> io::Re
     let answer = made.answer;
     let table = made.unit;
     match answer {
-        Answer::Refused(why) => print_refusal(rt, why)?,
-        Answer::Done => print_three(rt, columns::columns_of(table, Tag(1)))?,
+        Err(why) => print_refusal(rt, why)?,
+        Ok(()) => print_three(rt, columns::columns_of(table, Tag(1)))?,
     }
     end_line(rt)
 }
 
-fn print_totalled(rt: &impl Print, totalled: Totalled) -> io::Result<()> {
+fn print_totalled(rt: &impl Print, totalled: Result<SizeTotals, Refusal>) -> io::Result<()> {
     match totalled {
-        Totalled::Refused(why) => print_refusal(rt, why)?,
-        Totalled::Value(totals) => {
+        Err(why) => print_refusal(rt, why)?,
+        Ok(totals) => {
             print_number(rt, totals.tables)?;
             print_number(rt, totals.reaching)?;
             print_number(rt, totals.numerator)?;
@@ -918,11 +913,11 @@ fn show_better<'a>(rt: &impl Print, first: &'a [u8], second: &'a [u8]) -> io::Re
 
 // The file of a unit.
 
-fn show_written(rt: &impl Print, name: &[u8], written: Written) -> io::Result<()> {
+fn show_written(rt: &impl Print, name: &[u8], written: Result<u32, Refusal>) -> io::Result<()> {
     rt.write_all(name)?;
     match written {
-        Written::Length(length) => print_number(rt, length)?,
-        Written::Refused(why) => print_refusal(rt, why)?,
+        Ok(length) => print_number(rt, length)?,
+        Err(why) => print_refusal(rt, why)?,
     }
     end_line(rt)
 }

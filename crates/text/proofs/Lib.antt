@@ -1,5 +1,4 @@
 pub mod BoundedLaws
-mod CopyLaws
 pub mod DecimalLaws
 mod Examples
 mod HigherLaws

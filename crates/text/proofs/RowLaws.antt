@@ -11,6 +11,8 @@ use native.Mathlib.Omega.{arith}
 use borrow.Author.Tests.{eqb-true, eq-eqb, ne_eqb, le-leb, lt-leb}
 use lib.Dec.{leb}
 use lib.ListN.{length, get_or, set, length-append, length-set}
+use Rattle.std.proofs.Common.{map}
+use Rattle.std.proofs.lemmas.List.{get_or-map}
 use Rattle.words.specs.Bits.{bit, is_set}
 use Rattle.words.specs.Below.{list_below, join_below}
 use Rattle.words.proofs.BitLaws.{unset_zero}
@@ -95,6 +97,11 @@ columns_end n w i e p = rw e at p
 -- number i with its space
 abbrev pub spaced_at : List ℕ → ℕ → List ℕ
 spaced_at numbers i = ascii " " ++ decimal (get_or numbers i 0)
+
+-- an element of a list of what has numbers, and its number
+pub number_at : {A : Type 0} (f : A → ℕ) (xs : List A) (i : ℕ) (x : A) (number : ℕ) → i < length xs → x ≡ get_or xs i x → number ≡ f x
+    → number ≡ get_or (map f xs) i 0
+number_at f xs i x number h at e = e ∙ ap f at ∙ sym (get_or-map f xs i x 0 h)
 
 -- the first n numbers
 pub first_spaced : List ℕ → ℕ → List ℕ

@@ -1,21 +1,9 @@
 // Text in lent bytes: words and numbers, one after the other. Every function here is proved and ends, and no public one has a `requires`.
 #![tactic(auto)]
 
-ghost use Rattle.std.specs.Prelude.{◌≡◌, ◌++◌, ◌+◌, ◌≤◌, ◌<◌, leb, length};
+ghost use Rattle.std.specs.Prelude.{◌≡◌, ◌++◌, ℕ, ◌+◌, ◌≤◌, ◌<◌, leb, length, map};
 ghost use Rattle.text.specs.Text.{ascii, decimal, spaced, placed, put_in, put_end};
 ghost use Rattle.text.specs.Wrote.{Wrote};
-
-// Copies words over the bytes from an index on.
-fn copy_words(out: &mut [u8], at: usize, words: &[u8])
-    requires { at + length words.now ≤ length out.old }
-    ensures { out.new ≡ placed out.old at words.now }
-{
-    let mut i = 0;
-    while i < words.len() {
-        out[at + i] = words[i];
-        i += 1;
-    }
-}
 
 // Puts the words from an index on, and answers the index after them. Words that do not fit are left out, and the index stays.
 pub fn put(out: &mut [u8], at: usize, words: &[u8]) -> usize
@@ -28,7 +16,7 @@ pub fn put(out: &mut [u8], at: usize, words: &[u8]) -> usize
     if out.len() - words.len() < at {
         return at;
     }
-    copy_words(out, at, words);
+    out[at..at + words.len()].copy_from_slice(words);
     at + words.len()
 }
 
@@ -80,35 +68,69 @@ fn write_spaced(out: &mut [u8], at: usize, number: u32) -> usize
     put_digits(out, at + 1, number)
 }
 
+// A number that text has in decimal.
+trait Number: Copy {
+    ghost number: { Self → ℕ };
+
+    fn number(self) -> u32
+        ensures { result ≡ number self };
+}
+
+impl Number for u8 {
+    ghost number = { λ n. n };
+
+    fn number(self) -> u32 {
+        u32::from(self)
+    }
+}
+
+impl Number for u32 {
+    ghost number = { λ n. n };
+
+    fn number(self) -> u32 {
+        self
+    }
+}
+
 // Whether the numbers, each after a space, fit into so many bytes.
-fn bytes_fit(numbers: &[u8], room: usize) -> bool
-    ensures { result ≡ leb (length (spaced numbers.now)) room }
+fn numbers_fit<T: Number>(numbers: &[T], room: usize) -> bool
+    ensures { result ≡ leb (length (spaced (map T.number numbers.now))) room }
 {
     let mut left = room;
-    let mut i = 0;
-    while i < numbers.len() {
-        let count = digits_of(numbers[i] as u32);
+    for number in numbers {
+        let count = digits_of(number.number());
         if left <= count {
             return false;
         }
         left = left - count - 1;
-        i += 1;
     }
     true
 }
 
 // The numbers, each after a space.
-fn write_bytes(out: &mut [u8], at: usize, numbers: &[u8]) -> usize
-    requires { at + length (spaced numbers.now) ≤ length out.old }
-    ensures { Wrote out.old at (spaced numbers.now) out.new result }
+fn write_numbers<T: Number>(out: &mut [u8], at: usize, numbers: &[T]) -> usize
+    requires { at + length (spaced (map T.number numbers.now)) ≤ length out.old }
+    ensures { Wrote out.old at (spaced (map T.number numbers.now)) out.new result }
 {
     let mut end = at;
-    let mut i = 0;
-    while i < numbers.len() {
-        end = write_spaced(out, end, numbers[i] as u32);
-        i += 1;
+    for number in numbers {
+        end = write_spaced(out, end, number.number());
     }
     end
+}
+
+// Puts numbers in decimal, each after a space.
+fn put_numbers<T: Number>(out: &mut [u8], at: usize, numbers: &[T]) -> usize
+    ensures value { result ≡ put_end out.old at (spaced (map T.number numbers.now)) }
+    ensures out_after { out.new ≡ put_in out.old at (spaced (map T.number numbers.now)) }
+{
+    if out.len() < at {
+        return at;
+    }
+    if numbers_fit(numbers, out.len() - at) {
+        return write_numbers(out, at, numbers);
+    }
+    at
 }
 
 // Puts numbers in decimal, each after a space.
@@ -116,44 +138,7 @@ pub fn put_bytes(out: &mut [u8], at: usize, numbers: &[u8]) -> usize
     ensures value { result ≡ put_end out.old at (spaced numbers.now) }
     ensures out_after { out.new ≡ put_in out.old at (spaced numbers.now) }
 {
-    if out.len() < at {
-        return at;
-    }
-    if bytes_fit(numbers, out.len() - at) {
-        return write_bytes(out, at, numbers);
-    }
-    at
-}
-
-// Whether numbers of 32 bits, each after a space, fit into so many bytes.
-fn words_fit(numbers: &[u32], room: usize) -> bool
-    ensures { result ≡ leb (length (spaced numbers.now)) room }
-{
-    let mut left = room;
-    let mut i = 0;
-    while i < numbers.len() {
-        let count = digits_of(numbers[i]);
-        if left <= count {
-            return false;
-        }
-        left = left - count - 1;
-        i += 1;
-    }
-    true
-}
-
-// Numbers of 32 bits, each after a space.
-fn write_words(out: &mut [u8], at: usize, numbers: &[u32]) -> usize
-    requires { at + length (spaced numbers.now) ≤ length out.old }
-    ensures { Wrote out.old at (spaced numbers.now) out.new result }
-{
-    let mut end = at;
-    let mut i = 0;
-    while i < numbers.len() {
-        end = write_spaced(out, end, numbers[i]);
-        i += 1;
-    }
-    end
+    put_numbers(out, at, numbers)
 }
 
 // Puts numbers of 32 bits in decimal, each after a space.
@@ -161,11 +146,5 @@ pub fn put_words(out: &mut [u8], at: usize, numbers: &[u32]) -> usize
     ensures value { result ≡ put_end out.old at (spaced numbers.now) }
     ensures out_after { out.new ≡ put_in out.old at (spaced numbers.now) }
 {
-    if out.len() < at {
-        return at;
-    }
-    if words_fit(numbers, out.len() - at) {
-        return write_words(out, at, numbers);
-    }
-    at
+    put_numbers(out, at, numbers)
 }

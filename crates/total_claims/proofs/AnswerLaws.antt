@@ -1,16 +1,14 @@
 -- The call answers one thing, and is refused as a search of each of its tables is. Assumes nothing.
+use Rattle.std.proofs.Common.{Ok, Err}
 use Prim.Native.Nat.{ℕ, zero, suc, ◌*◌, ◌≤◌}
 use mathlib.Core.Path.{◌≡◌, refl, sym, ap, ◌∙◌}
 use native.Mathlib.Nat.{mul-zero, zero-mul, suc-mul, mul_assoc, mul_left_comm}
 use native.Mathlib.Omega.{arith}
 use Rattle.unit.specs.declared.Outcome.{Outcome}
-use Rattle.unit.specs.declared.Answer.{Answer}
-use Rattle.unit.specs.declared.Answer.TheVariants.{Done, Refused}
+use Rattle.unit.specs.Answers.{Answer}
 use Rattle.planner.specs.Plans.{search_answer}
 use Rattle.table_numbers.proofs.FillLaws.{sized}
 use Rattle.table_numbers.proofs.TableLaws.{table_made}
-use Rattle.table_totals.specs.declared.Totalled.{Totalled}
-use Rattle.table_totals.specs.declared.Totalled.TheVariants as Totalled
 use Rattle.table_totals.specs.Totals.{totals_answer}
 use Rattle.table_totals.proofs.MeasureLaws.{search_answer_lem}
 use Rattle.total_claims.specs.Claims.{OneAnswer, AsSearch, Coprime}
@@ -21,11 +19,11 @@ pub one_answer : OneAnswer
 one_answer s c room room' x y same p q = go (totals_answer s c room) refl
   where
     go : (r : Answer) → totals_answer s c room ≡ r → x ≡ y
-    go Done e =
+    go (Ok _) e =
         let d = p.found e in
         let f = q.found (sym same ∙ e) in
-        d.told ∙ ap (λ t. Totalled.Value t) (one_totals _ d.totals f.totals d.of_size f.of_size) ∙ sym f.told
-    go (Refused why) e = p.refused why e ∙ sym (q.refused why (sym same ∙ e))
+        d.told ∙ ap (λ t. Ok t) (one_totals _ d.totals f.totals d.of_size f.of_size) ∙ sym f.told
+    go (Err why) e = p.refused why e ∙ sym (q.refused why (sym same ∙ e))
 
 pub as_search : AsSearch
 as_search s c n room e l = ap (λ (o : Outcome). search_answer o.unit 1 room) (table_made s c n e l) ∙ search_answer_lem (sized s c e) n e room

@@ -1,4 +1,5 @@
 -- What is not so: wrong totals, wrong answers, tables that are none of a size, and the claims beyond their conditions. Assumes nothing.
+use Rattle.std.proofs.Common.{Result, Ok, Err}
 use Prim.Native.Nat.{ℕ, zero, suc, ◌*◌, ◌%◌, ◌≤◌}
 use mathlib.Core.Path.{◌≡◌, refl, sym, ap, ◌∙◌}
 use mathlib.Core.Bool.{◌&&◌}
@@ -7,7 +8,6 @@ use native.Mathlib.Nat.{mul-mod_left}
 use native.Mathlib.Omega.{arith}
 use lib.Dec.{eqb}
 use Rattle.unit.specs.declared.Refusal.TheVariants.{NoSmallTable, ShortWork}
-use Rattle.unit.specs.declared.Answer.TheVariants.{Refused}
 use Rattle.unit.specs.Table.{Table}
 use Rattle.unit.specs.Numbers.{number_in}
 use Rattle.unit.specs.Unit.{sound_of}
@@ -19,11 +19,10 @@ use Rattle.table_numbers.specs.Tables.{small_table, all_tables, small_table_answ
 use Rattle.table_numbers.specs.Claims.{StandsAt, Makes}
 use Rattle.table_numbers.proofs.Claims.{number_place, each_once}
 use Rattle.table_totals.specs.declared.SizeTotals.{SizeTotals}
-use Rattle.table_totals.specs.declared.Totalled.{Totalled}
-use Rattle.table_totals.specs.declared.Totalled.TheVariants as Totalled
 use Rattle.table_totals.specs.Totals.{Lowest, TotalsBy, TotalsOf, totals_answer, AnswersTotals, TotalsPromise}
 use Rattle.total_claims.specs.Examples.{totalling}
 use Rattle.total_claims.proofs.SizeLaws.{sized11, vector11, best_one, one_column, two_columns}
+use Rattle.unit.specs.declared.Refusal.{Refusal}
 
 -- Totals of one column that are none
 
@@ -104,30 +103,30 @@ not_made T m = omega (arith, ap number_in m.answer)
 -- Answers
 
 -- what one column is answered, with words enough and with none
-pub answers_one_column : AnswersTotals 1 1 16000 (Totalled.Value (totalling 2 2 1 1 0))
+pub answers_one_column : AnswersTotals 1 1 16000 (Ok (totalling 2 2 1 1 0))
 unfolding totals_answer
 answers_one_column = record { refused = λ why e. never_done (sym e); found = λ e. record { totals = totalling 2 2 1 1 0; of_size = one_column.are; told = refl } }
 
-pub answers_short : AnswersTotals 1 1 0 (Totalled.Refused ShortWork)
+pub answers_short : AnswersTotals 1 1 0 (Err ShortWork)
 unfolding totals_answer
 answers_short = record { refused = λ why e. cc; found = λ e. never_done e }
 
 -- these are two answers
-pub not_one_answer : ((a b : Totalled) → AnswersTotals 1 1 0 a → AnswersTotals 1 1 16000 b → a ≡ b) → ⊥
+pub not_one_answer : ((a b : (Result SizeTotals Refusal)) → AnswersTotals 1 1 0 a → AnswersTotals 1 1 16000 b → a ≡ b) → ⊥
 not_one_answer same =
-    let e : Totalled.Refused ShortWork ≡ Totalled.Value (totalling 2 2 1 1 0) = same _ _ answers_short answers_one_column in
+    let e : Err ShortWork ≡ Ok (totalling 2 2 1 1 0) = same _ _ answers_short answers_one_column in
     let z : ◌≡◌ {A = ℕ} 0 1 = cc in
     omega arith
 
 -- three segments are 22, and not 5, whatever the words
-pub not_5 : TotalsPromise 3 1 [] [] (Totalled.Refused ShortWork) → ⊥
+pub not_5 : TotalsPromise 3 1 [] [] (Err ShortWork) → ⊥
 unfolding totals_answer
-not_5 p = let e : Totalled.Refused ShortWork ≡ Totalled.Refused NoSmallTable = p.answers.refused NoSmallTable refl in let s : ShortWork ≡ NoSmallTable = cc in omega (arith, ap (λ w. number_in (Refused w)) s)
+not_5 p = let e : Err ShortWork ≡ Err NoSmallTable = p.answers.refused NoSmallTable refl in let s : ShortWork ≡ NoSmallTable = cc in omega (arith, ap (λ w. number_in (Err w)) s)
 
 -- and leave the words as they were
-pub not_changed : TotalsPromise 3 1 (0 ∷ []) (1 ∷ []) (Totalled.Refused NoSmallTable) → ⊥
+pub not_changed : TotalsPromise 3 1 (0 ∷ []) (1 ∷ []) (Err NoSmallTable) → ⊥
 unfolding totals_answer
-not_changed p = let e : ◌≡◌ {A = List ℕ} (1 ∷ []) (0 ∷ []) = p.work.kept NoSmallTable refl (λ s. omega (arith, ap (λ w. number_in (Refused w)) s)) in let z : ◌≡◌ {A = ℕ} 1 0 = cc in omega arith
+not_changed p = let e : ◌≡◌ {A = List ℕ} (1 ∷ []) (0 ∷ []) = p.work.kept NoSmallTable refl (λ s. omega (arith, ap (λ w. number_in (Err w)) s)) in let z : ◌≡◌ {A = ℕ} 1 0 = cc in omega arith
 
 -- a search of what a refused call hands out is refused by 1
 pub not_as_search : search_answer (small_table_of 1 1 2).unit 1 16000 ≡ totals_answer 1 1 16000 → ⊥

@@ -1,11 +1,11 @@
 -- What is claimed of totals: they do not depend on which best cycles are found, the call answers one thing, and it is refused as a search is.
-use Rattle.std.specs.Prelude.{ℕ, ◌*◌, ◌<◌, ◌≡◌, true, List}
+use Rattle.std.specs.Prelude.{ℕ, ◌*◌, ◌<◌, ◌≡◌, true, List, Result}
 use Rattle.unit.specs.Table.{Table}
 use Rattle.planner.specs.Plans.{search_answer}
 use Rattle.table_numbers.specs.Tables.{small_size, table_count, small_table_of}
 use Rattle.table_totals.specs.declared.SizeTotals.{SizeTotals}
-use Rattle.table_totals.specs.declared.Totalled.{Totalled}
 use Rattle.table_totals.specs.Totals.{Lowest, BestCycles, TotalsBy, TotalsOver, totals_answer, AnswersTotals}
+use Rattle.unit.specs.declared.Refusal.{Refusal}
 
 -- a list of tables has one set of totals
 abbrev pub OneTotals : Type 0
@@ -17,7 +17,7 @@ ByAny = (list : List Table) (t : SizeTotals) → TotalsOver list t → (best : �
 
 -- two calls for a size that are not refused differently answer the same
 abbrev pub OneAnswer : Type 0
-OneAnswer = (s c room room' : ℕ) (a b : Totalled) → totals_answer s c room ≡ totals_answer s c room' → AnswersTotals s c room a → AnswersTotals s c room' b → a ≡ b
+OneAnswer = (s c room room' : ℕ) (a b : (Result SizeTotals Refusal)) → totals_answer s c room ≡ totals_answer s c room' → AnswersTotals s c room a → AnswersTotals s c room' b → a ≡ b
 
 -- after 22 the call is refused where a search of each of its tables is: by 5, and never by 7
 abbrev pub AsSearch : Type 0

@@ -1,27 +1,27 @@
 -- An accepted edit changes the table at exactly its place, drops the plan and leaves a sound unit; a refused one leaves the unit; a table has one
 -- list of words. Assumes nothing.
-use Prim.Native.Nat.{ℕ, zero, suc, ◌+◌, ◌-◌, ◌*◌, ◌/◌, ◌%◌, ◌^◌, ◌<◌, ◌≤◌}
+use Rattle.std.proofs.Common.{Ok, Err}
+use Prim.Native.Nat.{ℕ, zero, suc, ◌+◌, ◌-◌, ◌/◌, ◌%◌, ◌^◌, ◌<◌, ◌≤◌}
 use mathlib.Core.Path.{◌≡◌, refl, ap, ◌∙◌, sym, subst}
 use mathlib.Core.Bool.{Bool, true, false, cond, ◌&&◌}
 use mathlib.Core.List.{List}
 use native.Mathlib.Omega.{arith}
 use native.Mathlib.Decide.{ℕ_discrete}
 use lib.Dec.{eqb}
-use lib.ListN.{length, get_or, set, take, drop, replicate, length-set, get_or-replicate, length-replicate}
-use lib.Seq.{get_or-set_same, get_or-set_other, ext_get_or, get_or-take, get_or-drop}
+use lib.ListN.{length, get_or, set, replicate, length-set, length-replicate}
+use lib.Seq.{get_or-set_same, get_or-set_other, ext_get_or}
 use borrow.Author.Tests.{eq-eqb, eqb-true}
 use Rattle.words.specs.Bits.{is_set, set_bit, clear_bit}
-use Rattle.words.proofs.Tests.{nowhere, and_left, and_right, and_true, and_cong, by_test}
-use Rattle.words.proofs.BitLaws.{Changed, set_changed, clear_changed, set_lt, clear_lt, same_bits, bit_of_zero, zero_unset}
+use Rattle.words.proofs.Tests.{nowhere, and_left, and_right, and_cong, by_test}
+use Rattle.words.proofs.BitLaws.{Changed, set_changed, clear_changed, set_lt, clear_lt, same_bits, bit_of_zero}
 use Rattle.unit.specs.declared.FunctionUnit.{FunctionUnit}
 use Rattle.unit.specs.declared.Refusal.{Refusal}
-use Rattle.unit.specs.declared.Answer.{Answer}
-use Rattle.unit.specs.declared.Answer.TheVariants.{Done, Refused}
-use Rattle.unit.specs.Table.{Table, empty, changed}
-use Rattle.unit.specs.Unit.{inside, somewhere, place, word_at, marked, columns_of, sound_plan, sound_of, good_counts}
-use Rattle.unit.specs.Calls.{check, spot_answer, no_plan, blank, with_word, outcome, fresh_of, mark_of, unmark_of}
-use Rattle.unit.proofs.Laws.{somewhere_of, Place, placed, Within, within, inside_of, Sound, sound_has, sound_of_lem, Ranges, accepted, edit_ranges, check_ok}
-use Rattle.unit.proofs.SoundLaws.{Words, Inside, inside_means, inside_test, word_mark, marked_place}
+use Rattle.unit.specs.Answers.{Answer}
+use Rattle.unit.specs.Table.{empty, changed}
+use Rattle.unit.specs.Unit.{inside, somewhere, place, word_at, marked, sound_of, good_counts}
+use Rattle.unit.specs.Calls.{spot_answer, no_plan, blank, with_word, outcome, mark_of, unmark_of}
+use Rattle.unit.proofs.Laws.{somewhere_of, placed, sound_has, sound_of_lem, Ranges, accepted, edit_ranges}
+use Rattle.unit.proofs.SoundLaws.{Words, Inside, inside_means, inside_test, word_mark}
 
 -- The table
 
@@ -111,7 +111,7 @@ pub record Edited (u after : FunctionUnit) (q s c : ℕ) (b : Bool) : Type 0 whe
   pub sound : sound_of after ≡ true
   pub words : Words after
 
-edited : (u : FunctionUnit) (q s c w : ℕ) (b : Bool) → Words u → spot_answer u q s c ≡ Done
+edited : (u : FunctionUnit) (q s c w : ℕ) (b : Bool) → Words u → spot_answer u q s c ≡ Ok tt
     → Changed (word_at u q c) w (s - 1) b → w < 2 ^ 16 → Edited u (with_word u q c w) q s c b
 edited u q s c w b n e d l =
     let r = edit_ranges u q s c e in
@@ -125,7 +125,7 @@ edited u q s c w b n e d l =
       words = edit_words u q s c w b r n.count d n l;
     }
 
-pub mark_accepted : (u : FunctionUnit) (q s c : ℕ) → Words u → spot_answer u q s c ≡ Done → Edited u (mark_of u q s c).unit q s c true
+pub mark_accepted : (u : FunctionUnit) (q s c : ℕ) → Words u → spot_answer u q s c ≡ Ok tt → Edited u (mark_of u q s c).unit q s c true
 unfolding mark_of
 mark_accepted u q s c n e =
     let r = edit_ranges u q s c e in
@@ -134,7 +134,7 @@ mark_accepted u q s c n e =
     (edited u q s c w true n e (set_changed (word_at u q c) (s - 1) (omega arith))
     (set_lt 16 (word_at u q c) (s - 1) (omega arith) (n.small (place q c))))
 
-pub unmark_accepted : (u : FunctionUnit) (q s c : ℕ) → Words u → spot_answer u q s c ≡ Done → Edited u (unmark_of u q s c).unit q s c false
+pub unmark_accepted : (u : FunctionUnit) (q s c : ℕ) → Words u → spot_answer u q s c ≡ Ok tt → Edited u (unmark_of u q s c).unit q s c false
 unfolding unmark_of
 unmark_accepted u q s c n e =
     let r = edit_ranges u q s c e in
@@ -145,19 +145,19 @@ unmark_accepted u q s c n e =
 
 -- Refused edits leave the unit
 
-pub mark_refused : (u : FunctionUnit) (q s c : ℕ) (why : Refusal) → spot_answer u q s c ≡ Refused why → (mark_of u q s c).unit ≡ u
+pub mark_refused : (u : FunctionUnit) (q s c : ℕ) (why : Refusal) → spot_answer u q s c ≡ Err why → (mark_of u q s c).unit ≡ u
 unfolding mark_of
 mark_refused u q s c why e = ap (λ a. (outcome a u (with_word u q c (set_bit (word_at u q c) (s - 1)))).unit) e
 
-pub unmark_refused : (u : FunctionUnit) (q s c : ℕ) (why : Refusal) → spot_answer u q s c ≡ Refused why → (unmark_of u q s c).unit ≡ u
+pub unmark_refused : (u : FunctionUnit) (q s c : ℕ) (why : Refusal) → spot_answer u q s c ≡ Err why → (unmark_of u q s c).unit ≡ u
 unfolding unmark_of
 unmark_refused u q s c why e = ap (λ a. (outcome a u (with_word u q c (clear_bit (word_at u q c) (s - 1)))).unit) e
 
 -- The answers of the edits
 
 pub outcome_answer : (a : Answer) (old new : FunctionUnit) → (outcome a old new).answer ≡ a
-outcome_answer Done old new = refl
-outcome_answer (Refused why) old new = refl
+outcome_answer (Ok _) old new = refl
+outcome_answer (Err why) old new = refl
 
 pub mark_answer : (u : FunctionUnit) (q s c : ℕ) → (mark_of u q s c).answer ≡ spot_answer u q s c
 unfolding mark_of

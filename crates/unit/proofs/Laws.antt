@@ -1,30 +1,30 @@
 -- What the tests of `specs/` say as facts: ranges, soundness, an accepted edit. Assumes nothing.
-use Prim.Native.Nat.{ℕ, ◌+◌, ◌-◌, ◌^◌, ◌<◌, ◌≤◌}
-use mathlib.Core.Path.{◌≡◌, refl, ap, ◌∙◌, sym}
-use mathlib.Core.Bool.{Bool, true, false, cond, ◌&&◌}
+use Rattle.std.proofs.Common.{Ok, Err}
+use Prim.Native.Nat.{ℕ, ◌^◌, ◌<◌, ◌≤◌}
+use mathlib.Core.Path.{◌≡◌, refl, sym}
+use mathlib.Core.Bool.{Bool, true, false}
 use native.Mathlib.Omega.{arith}
 use borrow.Author.Tests.{leb-true, le-leb, ltb-true}
 use lib.Dec.{leb, ltb}
-use Rattle.words.proofs.Tests.{nowhere, and_left, and_right}
+use Rattle.words.proofs.Tests.{and_left, and_right}
 use Rattle.unit.specs.declared.FunctionUnit.{FunctionUnit}
 use Rattle.unit.specs.declared.Refusal.{Refusal}
 use Rattle.unit.specs.declared.Refusal.TheVariants.{NotSound, NoSuchTag, NoSuchSegment, NoSuchColumn}
-use Rattle.unit.specs.declared.Answer.{Answer}
-use Rattle.unit.specs.declared.Answer.TheVariants.{Done, Refused}
+use Rattle.unit.specs.Answers.{Answer}
 use Rattle.unit.specs.Unit.{inside, somewhere, good_counts, sound_plan, marks_inside, sound_of}
 use Rattle.unit.specs.Calls.{check, and_then, tag_answer, spot_answer, column_answer}
 use Rattle.unit.specs.Inner.{Somewhere}
 
 -- Answers
 
-pub never_done : {A : Type 0} {why : Refusal} → Refused why ≡ Done → A
+pub never_done : {A : Type 0} {why : Refusal} → ◌≡◌ {A = Answer} (Err why) (Ok tt) → A
 never_done e = let z : ◌≡◌ {A = ℕ} 0 1 = cc in absurd (omega arith)
 
-pub check_ok : (ok : Bool) (why : Refusal) (next : Answer) → check ok why next ≡ Done → ok ≡ true
+pub check_ok : (ok : Bool) (why : Refusal) (next : Answer) → check ok why next ≡ Ok tt → ok ≡ true
 check_ok true why next e = refl
 check_ok false why next e = never_done e
 
-pub check_next : (ok : Bool) (why : Refusal) (next : Answer) → check ok why next ≡ Done → next ≡ Done
+pub check_next : (ok : Bool) (why : Refusal) (next : Answer) → check ok why next ≡ Ok tt → next ≡ Ok tt
 check_next true why next e = e
 check_next false why next e = never_done e
 
@@ -97,7 +97,7 @@ pub record TagAccepted (u : FunctionUnit) (q : ℕ) : Type 0 where
   pub sound : sound_of u ≡ true
   pub tag : inside q u.functions ≡ true
 
-pub tag_accepted : (u : FunctionUnit) (q : ℕ) → tag_answer u q ≡ Done → TagAccepted u q
+pub tag_accepted : (u : FunctionUnit) (q : ℕ) → tag_answer u q ≡ Ok tt → TagAccepted u q
 unfolding tag_answer
 tag_accepted u q e = record {
   sound = check_ok (sound_of u) NotSound _ e;
@@ -105,7 +105,7 @@ tag_accepted u q e = record {
 }
 
 -- a tag of a unit is one of 1 to 4
-pub tag_range : (u : FunctionUnit) (q : ℕ) → tag_answer u q ≡ Done → Within q 4
+pub tag_range : (u : FunctionUnit) (q : ℕ) → tag_answer u q ≡ Ok tt → Within q 4
 tag_range u q e =
     let a = tag_accepted u q e in
     let f = within u.functions 4 (sound_has u a.sound).functions in
@@ -118,7 +118,7 @@ pub record Accepted (u : FunctionUnit) (q s c : ℕ) : Type 0 where
   pub segment : inside s u.segments ≡ true
   pub column : inside c u.columns ≡ true
 
-pub accepted : (u : FunctionUnit) (q s c : ℕ) → spot_answer u q s c ≡ Done → Accepted u q s c
+pub accepted : (u : FunctionUnit) (q s c : ℕ) → spot_answer u q s c ≡ Ok tt → Accepted u q s c
 unfolding spot_answer
 accepted u q s c e =
     let e1 = check_next (sound_of u) NotSound _ e in
@@ -154,22 +154,22 @@ ranges u q s c a =
     let k = within c u.columns a.column in
     omega arith
 
-pub edit_ranges : (u : FunctionUnit) (q s c : ℕ) → spot_answer u q s c ≡ Done → Ranges u q s c
+pub edit_ranges : (u : FunctionUnit) (q s c : ℕ) → spot_answer u q s c ≡ Ok tt → Ranges u q s c
 edit_ranges u q s c e = ranges u q s c (accepted u q s c e)
 
 -- an edit tries the unit and the tag first, as every question does
-pub spot_tag : (u : FunctionUnit) (q s c : ℕ) (why : Refusal) → tag_answer u q ≡ Refused why → spot_answer u q s c ≡ Refused why
+pub spot_tag : (u : FunctionUnit) (q s c : ℕ) (why : Refusal) → tag_answer u q ≡ Err why → spot_answer u q s c ≡ Err why
 unfolding tag_answer spot_answer
 spot_tag u q s c why e = go (sound_of u) (inside q u.functions) e
   where
-    go : (a b : Bool) → check a NotSound (check b NoSuchTag Done) ≡ Refused why
-        → check a NotSound (check b NoSuchTag (check (inside s u.segments) NoSuchSegment (check (inside c u.columns) NoSuchColumn Done))) ≡ Refused why
+    go : (a b : Bool) → check a NotSound (check b NoSuchTag (Ok tt)) ≡ Err why
+        → check a NotSound (check b NoSuchTag (check (inside s u.segments) NoSuchSegment (check (inside c u.columns) NoSuchColumn (Ok tt)))) ≡ Err why
     go true true e = never_done (sym e)
     go true false e = e
     go false b e = e
 
-pub spot_rest : (u : FunctionUnit) (q s c : ℕ) → tag_answer u q ≡ Done
-    → spot_answer u q s c ≡ check (inside s u.segments) NoSuchSegment (check (inside c u.columns) NoSuchColumn Done)
+pub spot_rest : (u : FunctionUnit) (q s c : ℕ) → tag_answer u q ≡ Ok tt
+    → spot_answer u q s c ≡ check (inside s u.segments) NoSuchSegment (check (inside c u.columns) NoSuchColumn (Ok tt))
 unfolding spot_answer
 spot_rest u q s c e = let a = tag_accepted u q e in simp (a.sound, a.tag)
 
@@ -182,13 +182,13 @@ pub record ColumnAccepted (u : FunctionUnit) (q c w : ℕ) : Type 0 where
   pub word : w < 2 ^ u.segments
   pub column : inside c u.columns ≡ true
 
-pub column_accepted : (u : FunctionUnit) (q c w : ℕ) → column_answer u q c w ≡ Done → ColumnAccepted u q c w
+pub column_accepted : (u : FunctionUnit) (q c w : ℕ) → column_answer u q c w ≡ Ok tt → ColumnAccepted u q c w
 unfolding column_answer
 column_accepted u q c w e = go (tag_answer u q) refl e
   where
     go : (a : Answer) → tag_answer u q ≡ a
-        → and_then a (check (ltb w (2 ^ u.segments)) NoSuchSegment (check (inside c u.columns) NoSuchColumn Done)) ≡ Done → ColumnAccepted u q c w
-    go Done t h =
+        → and_then a (check (ltb w (2 ^ u.segments)) NoSuchSegment (check (inside c u.columns) NoSuchColumn (Ok tt))) ≡ Ok tt → ColumnAccepted u q c w
+    go (Ok _) t h =
         let a = tag_accepted u q t in
         record {
           sound = a.sound;
@@ -196,10 +196,10 @@ column_accepted u q c w e = go (tag_answer u q) refl e
           word = ltb-true w (2 ^ u.segments) (check_ok (ltb w (2 ^ u.segments)) NoSuchSegment _ h);
           column = check_ok (inside c u.columns) NoSuchColumn _ (check_next (ltb w (2 ^ u.segments)) NoSuchSegment _ h);
         }
-    go (Refused why) t h = never_done h
+    go (Err why) t h = never_done h
 
 -- the tag and the column are such as some unit has
-pub column_range : (u : FunctionUnit) (q c w : ℕ) → column_answer u q c w ≡ Done → Somewhere q c
+pub column_range : (u : FunctionUnit) (q c w : ℕ) → column_answer u q c w ≡ Ok tt → Somewhere q c
 column_range u q c w e =
     let a = column_accepted u q c w e in
     let d = sound_has u a.sound in
@@ -210,5 +210,5 @@ column_range u q c w e =
     omega arith
 
 -- a unit that passed has at most 16 segments
-pub tag_segments : (u : FunctionUnit) (q : ℕ) → tag_answer u q ≡ Done → Within u.segments 16
+pub tag_segments : (u : FunctionUnit) (q : ℕ) → tag_answer u q ≡ Ok tt → Within u.segments 16
 tag_segments u q e = within u.segments 16 (sound_has u (tag_accepted u q e).sound).segments

@@ -1,9 +1,9 @@
 pub mod NumberLaws
 pub mod Laws
-pub mod TestLaws
 pub mod EndLaws
 pub mod SoundLaws
 pub mod JoinLaws
 pub mod EditLaws
 pub mod ColumnLaws
 pub mod TableLaws
+pub mod Exits

@@ -1,5 +1,6 @@
 -- Units and tables: the unit of a table has that table and no other unit of its counts has; what an accepted column's word changes; a unit filled column by
 -- column; mark and unmark as the giving of a column's word. Assumes nothing.
+use Rattle.std.proofs.Common.{Ok, Err}
 use Prim.Native.Nat.{ℕ, ◌+◌, ◌-◌, ◌/◌, ◌%◌, ◌^◌, ◌<◌, ◌≤◌}
 use mathlib.Core.Path.{◌≡◌, refl, ap, ap₂, ◌∙◌, sym, subst}
 use mathlib.Core.Bool.{Bool, true, false, cond, ◌&&◌}
@@ -21,8 +22,7 @@ use Rattle.words.proofs.ListLaws.{list_length, list_at}
 use Rattle.unit.specs.declared.FunctionUnit.{FunctionUnit}
 use Rattle.unit.specs.declared.Plan.{Plan}
 use Rattle.unit.specs.declared.Outcome.{Outcome}
-use Rattle.unit.specs.declared.Answer.{Answer}
-use Rattle.unit.specs.declared.Answer.TheVariants.{Done, Refused}
+use Rattle.unit.specs.Answers.{Answer}
 use Rattle.unit.specs.Table.{Table, empty}
 use Rattle.unit.specs.Unit.{inside, somewhere, place, word_at, marked, columns_of, good_counts, sound_of}
 use Rattle.unit.specs.Inner.{Somewhere}
@@ -111,12 +111,12 @@ unfolding column_of
 column_answer_lem u q c w = go (column_answer u q c w)
   where
     go : (a : Answer) → (outcome a u (with_word u q c w)).answer ≡ a
-    go Done = refl
-    go (Refused why) = refl
+    go (Ok _) = refl
+    go (Err why) = refl
 
 -- a sound unit takes a word of its segments for each of its tags and columns
 pub column_done : (u : FunctionUnit) (q c w : ℕ) → sound_of u ≡ true → inside q u.functions ≡ true → inside c u.columns ≡ true
-    → w < 2 ^ u.segments → column_answer u q c w ≡ Done
+    → w < 2 ^ u.segments → column_answer u q c w ≡ Ok tt
 unfolding column_answer tag_answer
 column_done u q c w s t k l = simp (s, t, k, lt-ltb w (2 ^ u.segments) l)
 
@@ -177,7 +177,7 @@ module _ (u : FunctionUnit) (q c w : ℕ) (n : Words u) (r : Somewhere q c) wher
       small k (yes e) = rw (e, get_or-set_same u.marks (place q c) w 0 below) l
       small k (no ne) = rw (get_or-set_other u.marks (place q c) k w 0 ne) (n.small k)
 
-pub column_given : (u : FunctionUnit) (q c w : ℕ) → Words u → column_answer u q c w ≡ Done → ColumnGiven u (column_of u q c w).unit q c w
+pub column_given : (u : FunctionUnit) (q c w : ℕ) → Words u → column_answer u q c w ≡ Ok tt → ColumnGiven u (column_of u q c w).unit q c w
 unfolding column_of no_plan
 column_given u q c w n e = subst (λ (a : Answer). ColumnGiven u (outcome a u (with_word u q c w)).unit q c w) (sym e) after
   where
@@ -229,14 +229,14 @@ unit_of_column f s c T U q k w counts marks tag column small e =
 
 -- An edit by the word of its column
 
-module _ (u : FunctionUnit) (q s c : ℕ) (n : Words u) (e : spot_answer u q s c ≡ Done) where
+module _ (u : FunctionUnit) (q s c : ℕ) (n : Words u) (e : spot_answer u q s c ≡ Ok tt) where
   old_word : get_or (columns_of u q) (c - 1) 0 ≡ word_at u q c
   old_word = let r = edit_ranges u q s c e in columns_word_lem u q c r.tag1 r.tag4 r.column1 r.column32
 
   old_fits : word_at u q c < 2 ^ u.segments
   old_fits = let r = edit_ranges u q s c e in sound_word u (place q c) n (accepted u q s c e).sound (omega arith)
 
-  word_done : (w : ℕ) → w < 2 ^ u.segments → column_answer u q c w ≡ Done
+  word_done : (w : ℕ) → w < 2 ^ u.segments → column_answer u q c w ≡ Ok tt
   word_done w l = let a = accepted u q s c e in column_done u q c w a.sound a.tag a.column l
 
   -- an accepted mark gives the column its old word with one mark more, an accepted unmark the old word with one less

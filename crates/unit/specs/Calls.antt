@@ -1,5 +1,5 @@
 -- What each call answers, and the unit that it leaves.
-use Rattle.std.specs.Prelude.{ℕ, ◌+◌, ◌-◌, ◌/◌, ◌%◌, ◌^◌, Bool, cond, ltb, set, replicate}
+use Rattle.std.specs.Prelude.{ℕ, ◌+◌, ◌-◌, ◌/◌, ◌%◌, ◌^◌, Bool, cond, ltb, set, replicate, Ok, Err}
 use Rattle.words.specs.Bits.{set_bit, clear_bit}
 use Rattle.words.specs.Below.{word_below, list_below}
 use Rattle.unit.specs.declared.Plan.{Plan}
@@ -7,44 +7,43 @@ use Rattle.unit.specs.declared.FunctionUnit.{FunctionUnit}
 use Rattle.unit.specs.declared.Outcome.{Outcome}
 use Rattle.unit.specs.declared.Refusal.{Refusal}
 use Rattle.unit.specs.declared.Refusal.TheVariants.{NotSound, NoSuchTag, NoSuchSegment, NoSuchColumn}
-use Rattle.unit.specs.declared.Answer.{Answer}
-use Rattle.unit.specs.declared.Answer.TheVariants.{Done, Refused}
+use Rattle.unit.specs.Answers.{Answer}
 use Rattle.unit.specs.Table.{Table}
 use Rattle.unit.specs.Unit.{inside, place, word_at, good_counts, sound_of}
 
 -- Refusals: each test in turn, so that the lowest number that applies is given
 
 abbrev pub check : Bool → Refusal → Answer → Answer
-check ok why next = cond ok next (Refused why)
+check ok why next = cond ok next (Err why)
 
 -- further tests, where those before passed
 abbrev pub and_then : Answer → Answer → Answer
-and_then Done next = next
-and_then (Refused why) next = Refused why
+and_then (Ok _) next = next
+and_then (Err why) next = Err why
 
 -- one more test
 abbrev pub tested_by : Answer → Bool → Refusal → Answer
-tested_by answer holds why = and_then answer (check holds why Done)
+tested_by answer holds why = and_then answer (check holds why (Ok tt))
 
 -- what every question about one function tries first
 unfoldable pub tag_answer : FunctionUnit → ℕ → Answer
 tag_answer u q =
     check (sound_of u) NotSound
-    (check (inside q u.functions) NoSuchTag Done)
+    (check (inside q u.functions) NoSuchTag (Ok tt))
 
 unfoldable pub spot_answer : FunctionUnit → ℕ → ℕ → ℕ → Answer
 spot_answer u q s c =
     check (sound_of u) NotSound
     (check (inside q u.functions) NoSuchTag
     (check (inside s u.segments) NoSuchSegment
-    (check (inside c u.columns) NoSuchColumn Done)))
+    (check (inside c u.columns) NoSuchColumn (Ok tt))))
 
 -- a column's word for a function: each of its bits is one of the unit's segments
 unfoldable pub column_answer : FunctionUnit → ℕ → ℕ → ℕ → Answer
 column_answer u q c w =
     and_then (tag_answer u q)
     (check (ltb w (2 ^ u.segments)) NoSuchSegment
-    (check (inside c u.columns) NoSuchColumn Done))
+    (check (inside c u.columns) NoSuchColumn (Ok tt)))
 
 -- Units
 
@@ -78,18 +77,18 @@ with_word u q c w = record {
 
 -- an accepted call leaves the new unit, a refused one the old
 abbrev pub outcome : Answer → FunctionUnit → FunctionUnit → Outcome
-outcome Done old new = record { answer = Done; unit = new }
-outcome (Refused why) old new = record { answer = Refused why; unit = old }
+outcome (Ok _) old new = record { answer = (Ok tt); unit = new }
+outcome (Err why) old new = record { answer = Err why; unit = old }
 
 -- an accepted call hands out the new value, a refused one leaves what was there
 abbrev pub handed : {A : Type 0} → Answer → A → A → A
-handed Done new old = new
-handed (Refused why) new old = old
+handed (Ok _) new old = new
+handed (Err why) new old = old
 
 -- The calls
 
 unfoldable pub fresh_of : ℕ → ℕ → ℕ → Outcome
-fresh_of f s c = record { answer = check (good_counts f s c) NotSound Done; unit = blank f s c }
+fresh_of f s c = record { answer = check (good_counts f s c) NotSound (Ok tt); unit = blank f s c }
 
 unfoldable pub mark_of : FunctionUnit → ℕ → ℕ → ℕ → Outcome
 mark_of u q s c = outcome (spot_answer u q s c) u (with_word u q c (set_bit (word_at u q c) (s - 1)))

@@ -3,3 +3,4 @@ pub mod Table
 pub mod Unit
 pub mod Calls
 pub mod Inner
+pub mod Answers

@@ -1,9 +1,8 @@
 -- The number of each refusal, and of an answer.
-use Rattle.std.specs.Prelude.{List, [], ◌∷◌, ℕ}
+use Rattle.std.specs.Prelude.{List, [], ◌∷◌, ℕ, Ok, Err}
 use Rattle.unit.specs.declared.Refusal.{Refusal}
 use Rattle.unit.specs.declared.Refusal.TheVariants.{NotSound, NoSuchTag, NoSuchSegment, NoSuchColumn, ShortWork, ShortOutput, TooManyStates, NoPlan, BadCycle, NotGranted, BadLength, BadHeader, MarkBeyondColumns, TooManyWait, BadRecord, BadLoop, NoSuchCaller, TwoMarks, BadInterval, PlaceBeyond, NoSmallTable}
-use Rattle.unit.specs.declared.Answer.{Answer}
-use Rattle.unit.specs.declared.Answer.TheVariants.{Done, Refused}
+use Rattle.unit.specs.Answers.{Answer}
 
 abbrev pub number_of : Refusal → ℕ
 -- a count outside its range, a mark outside the counts, or a plan whose K is 0 or above 256
@@ -55,5 +54,5 @@ refusals =
 
 -- the number that an answer tells: 0 where the call was accepted
 abbrev pub number_in : Answer → ℕ
-number_in Done = 0
-number_in (Refused why) = number_of why
+number_in (Ok _) = 0
+number_in (Err why) = number_of why

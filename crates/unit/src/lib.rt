@@ -37,97 +37,72 @@ pub struct FunctionUnit {
     pub plan: Plan,
 }
 
-// Why a call is refused: a case for each number, in the numbers' order.
-#[derive(Clone, Copy)]
+// Why a call is refused: a case for each number that whoever is refused is told.
+#[derive(Clone, Copy, PartialEq, Eq)]
 pub enum Refusal {
-    NotSound,
-    NoSuchTag,
-    NoSuchSegment,
-    NoSuchColumn,
-    ShortWork,
-    ShortOutput,
-    TooManyStates,
-    NoPlan,
-    BadCycle,
-    NotGranted,
-    BadLength,
-    BadHeader,
-    MarkBeyondColumns,
-    TooManyWait,
-    BadRecord,
-    BadLoop,
-    NoSuchCaller,
-    TwoMarks,
-    BadInterval,
-    PlaceBeyond,
-    NoSmallTable,
-}
-
-#[derive(Clone, Copy)]
-pub enum Answer {
-    Done,
-    Refused(Refusal),
+    NotSound = 1,
+    NoSuchTag = 2,
+    NoSuchSegment = 3,
+    NoSuchColumn = 4,
+    ShortWork = 5,
+    ShortOutput = 6,
+    TooManyStates = 7,
+    NoPlan = 8,
+    BadCycle = 9,
+    NotGranted = 10,
+    BadLength = 11,
+    BadHeader = 12,
+    MarkBeyondColumns = 13,
+    TooManyWait = 14,
+    BadRecord = 15,
+    BadLoop = 17,
+    NoSuchCaller = 18,
+    TwoMarks = 19,
+    BadInterval = 20,
+    PlaceBeyond = 21,
+    NoSmallTable = 22,
 }
 
 // The answer to a call that makes a unit, and the unit that it leaves.
 #[derive(Clone, Copy)]
 pub struct Outcome {
-    pub answer: Answer,
+    pub answer: Result<(), Refusal>,
     pub unit: FunctionUnit,
 }
 
 // The number that whoever is refused is told.
-fn number(why: Refusal) -> u8
-    ensures { result ≡ number_of why }
-{
-    match why {
-        Refusal::NotSound => 1,
-        Refusal::NoSuchTag => 2,
-        Refusal::NoSuchSegment => 3,
-        Refusal::NoSuchColumn => 4,
-        Refusal::ShortWork => 5,
-        Refusal::ShortOutput => 6,
-        Refusal::TooManyStates => 7,
-        Refusal::NoPlan => 8,
-        Refusal::BadCycle => 9,
-        Refusal::NotGranted => 10,
-        Refusal::BadLength => 11,
-        Refusal::BadHeader => 12,
-        Refusal::MarkBeyondColumns => 13,
-        Refusal::TooManyWait => 14,
-        Refusal::BadRecord => 15,
-        Refusal::BadLoop => 17,
-        Refusal::NoSuchCaller => 18,
-        Refusal::TwoMarks => 19,
-        Refusal::BadInterval => 20,
-        Refusal::PlaceBeyond => 21,
-        Refusal::NoSmallTable => 22,
+impl From<Refusal> for u8 {
+    ghost from_gives = { λ why number. number ≡ number_of why };
+
+    fn from(why: Refusal) -> u8 {
+        why as u8
+    }
+}
+
+impl From<Refusal> for u32 {
+    ghost from_gives = { λ why number. number ≡ number_of why };
+
+    fn from(why: Refusal) -> u32 {
+        why as u32
     }
 }
 
 // The number that an answer tells: 0 where the call was accepted.
-pub fn number_in(answer: Answer) -> u8
+pub fn number_in(answer: Result<(), Refusal>) -> u8
     ensures { result ≡ number_in answer }
 {
     match answer {
-        Answer::Done => 0,
-        Answer::Refused(why) => number(why),
+        Ok(()) => 0,
+        Err(why) => u8::from(why),
     }
 }
 
 // The answer so far, and, where that is done, one more test.
-pub fn tested(answer: Answer, holds: bool, why: Refusal) -> Answer
+pub fn tested(answer: Result<(), Refusal>, holds: bool, why: Refusal) -> Result<(), Refusal>
     ensures { result ≡ tested_by answer holds why }
 {
-    match answer {
-        Answer::Refused(first) => Answer::Refused(first),
-        Answer::Done => {
-            if holds {
-                return Answer::Done;
-            }
-            Answer::Refused(why)
-        }
-    }
+    answer?;
+    if holds { Ok(()) } else { Err(why) }
 }
 
 // No plan: tag, count, sum and all 256 bytes are 0.
@@ -145,16 +120,7 @@ pub fn no_plan() -> Plan
 fn plan_is_sound(tag: u8, count: u16) -> bool
     ensures { result ≡ sound_plan tag count }
 {
-    if tag == 0 {
-        return true;
-    }
-    if count < 1 {
-        return false;
-    }
-    if 256 < count {
-        return false;
-    }
-    true
+    tag == 0 || (1..=256).contains(&count)
 }
 
 // All the marks of the words from a place on, in one word. Neither this loop nor the next has a branch, so that the machine takes
@@ -164,10 +130,8 @@ fn joined_from(words: &[u16; 128], from: usize) -> u16
     ensures { Joins (Between from 128) words.now result }
 {
     let mut all: u16 = 0;
-    let mut i: usize = from;
-    while i < 128 {
-        all = all | words[i];
-        i += 1;
+    for i in from..128 {
+        all |= words[i];
     }
     all
 }
@@ -178,10 +142,8 @@ fn joined_beyond(words: &[u16; 128], columns: usize) -> u16
     ensures { Joins (Beyond columns 32) words.now result }
 {
     let mut all: u16 = 0;
-    let mut column: usize = columns;
-    while column < 32 {
-        all = all | (words[column] | words[column + 32] | words[column + 64] | words[column + 96]);
-        column += 1;
+    for column in columns..32 {
+        all |= words[column] | words[column + 32] | words[column + 64] | words[column + 96];
     }
     all
 }
@@ -207,13 +169,9 @@ fn clean_marks(functions: u8, segments: u8, columns: u8, marks: [u16; 128]) -> b
 fn counts(functions: u8, segments: u8, columns: u8) -> bool
     ensures { result ≡ good_counts functions segments columns }
 {
-    if !words::is_inside(functions, 4) {
-        return false;
-    }
-    if !words::is_inside(segments, 16) {
-        return false;
-    }
-    words::is_inside(columns, 32)
+    words::is_inside(functions, 4)
+        && words::is_inside(segments, 16)
+        && words::is_inside(columns, 32)
 }
 
 // Whether the counts are in their ranges, every mark lies within them, and the plan, if there is one, has 1 to 256 latencies.
@@ -226,21 +184,20 @@ pub fn sound(u: FunctionUnit) -> bool
     if !plan_is_sound(u.plan.tag, u.plan.count) {
         return false;
     }
-    let marks = u.marks;
-    clean_marks(u.functions, u.segments, u.columns, marks)
+    clean_marks(u.functions, u.segments, u.columns, u.marks)
 }
 
 // What every question about one function tries first: the unit, then the tag.
-pub fn check_tag(u: FunctionUnit, tag: Tag) -> Answer
+pub fn check_tag(u: FunctionUnit, tag: Tag) -> Result<(), Refusal>
     ensures { result ≡ tag_answer u tag.0 }
 {
     if !sound(u) {
-        return Answer::Refused(Refusal::NotSound);
+        return Err(Refusal::NotSound);
     }
     if !words::is_inside(tag.0, u.functions) {
-        return Answer::Refused(Refusal::NoSuchTag);
+        return Err(Refusal::NoSuchTag);
     }
-    Answer::Done
+    Ok(())
 }
 
 // The unit of the three counts, without marks or plan. Where a count is outside its range the unit that is handed out has
@@ -257,15 +214,10 @@ pub fn fresh(functions: u8, segments: u8, columns: u8) -> Outcome
         marks,
         plan,
     };
-    if counts(functions, segments, columns) {
-        Outcome {
-            answer: Answer::Done,
-            unit,
-        }
+    let answer = if counts(functions, segments, columns) {
+        Ok(())
     } else {
-        Outcome {
-            answer: Answer::Refused(Refusal::NotSound),
-            unit,
-        }
-    }
+        Err(Refusal::NotSound)
+    };
+    Outcome { answer, unit }
 }

@@ -1,12 +1,12 @@
 -- What an accepted file is read as: a sound unit of its counts with its table. Assumes nothing.
-use mathlib.Core.Path.{◌≡◌, ap, ◌∙◌}
+use Rattle.std.proofs.Common.{Ok}
+use mathlib.Core.Path.{◌≡◌}
 use mathlib.Core.Bool.{true}
 use mathlib.Core.List.{List}
 use Prim.Native.Nat.{ℕ, ◌≤◌}
 use native.Mathlib.Omega.{arith}
 use lib.ListN.{length}
 use Rattle.words.proofs.Tests.{and_true}
-use Rattle.unit.specs.declared.Answer.TheVariants.{Done}
 use Rattle.unit.specs.Unit.{somewhere, good_counts, marked, sound_of}
 use Rattle.unit.specs.Calls.{blank, unit_of}
 use Rattle.unit.proofs.Laws.{inside_of, somewhere_of}
@@ -16,10 +16,10 @@ use Rattle.unit.proofs.TableLaws.{unit_of_words, unit_of_table, unit_of_sound}
 use Rattle.unit_file.specs.File.{file_length}
 use Rattle.unit_file.specs.Read.{functions_in, segments_in, columns_in, file_table, read_answer, read_of}
 use Rattle.unit_file.specs.InnerRead.{Clean}
-use Rattle.unit_file.proofs.ReadLaws.{FileMark, file_mark, clean_columns, accepted_clean}
+use Rattle.unit_file.proofs.ReadLaws.{file_mark, clean_columns, accepted_clean}
 
 pub record Accepted (file : List ℕ) : Type 0 where
-  pub unit : read_of file ≡ record { answer = Done; unit = unit_of (functions_in file) (segments_in file) (columns_in file) (file_table file) }
+  pub unit : read_of file ≡ record { answer = (Ok tt); unit = unit_of (functions_in file) (segments_in file) (columns_in file) (file_table file) }
   pub table : marked (unit_of (functions_in file) (segments_in file) (columns_in file) (file_table file)) ≡ file_table file
   pub sound : sound_of (unit_of (functions_in file) (segments_in file) (columns_in file) (file_table file)) ≡ true
   pub words : Words (unit_of (functions_in file) (segments_in file) (columns_in file) (file_table file))
@@ -42,7 +42,7 @@ counts_good file d =
     and_true (inside_of (functions_in file) 4 n.functions1 n.functions4)
     (and_true (inside_of (segments_in file) 16 n.segments1 n.segments16) (inside_of (columns_in file) 32 n.columns1 n.columns32))
 
-pub accepted : (file : List ℕ) → read_answer file ≡ Done → Accepted file
+pub accepted : (file : List ℕ) → read_answer file ≡ Ok tt → Accepted file
 unfolding read_of
 accepted file e =
     let d = accepted_clean file e in

@@ -1,18 +1,17 @@
 -- A file longer than every unit file is refused by what its first bytes say, however long it is. Assumes nothing.
-use mathlib.Core.Path.{◌≡◌, refl, sym, ap, ◌∙◌}
-use mathlib.Core.Bool.{Bool, true, false}
+use Rattle.std.proofs.Common.{Err}
+use mathlib.Core.Path.{◌≡◌, refl, sym, ◌∙◌}
+use mathlib.Core.Bool.{true}
 use mathlib.Core.List.{List}
-use Prim.Native.Nat.{ℕ, ◌+◌, ◌*◌, ◌≤◌, ◌<◌}
+use Prim.Native.Nat.{ℕ, ◌*◌, ◌≤◌, ◌<◌}
 use native.Mathlib.Nat.{mul-le-mul}
 use native.Mathlib.Omega.{arith}
 use borrow.Author.Tests.{le-leb, ne_eqb}
-use lib.Dec.{leb, eqb}
-use lib.ListN.{length, get_or, take}
+use lib.ListN.{length, take}
 use lib.Seq.{get_or-take, length-take-le}
 use Rattle.words.proofs.Tests.{and_left, and_right, by_test}
 use Rattle.unit.specs.declared.Refusal.TheVariants.{NotSound, BadLength}
-use Rattle.unit.specs.declared.Answer.{Answer}
-use Rattle.unit.specs.declared.Answer.TheVariants.{Refused}
+use Rattle.unit.specs.Answers.{Answer}
 use Rattle.unit.specs.Unit.{inside, good_counts}
 use Rattle.unit.specs.Calls.{check}
 use Rattle.unit.proofs.Laws.{within}
@@ -29,7 +28,7 @@ length_most f s c g =
 
 -- the answer to more than 268 bytes: the counts, and then the length
 abbrev pub long_answer : ℕ → ℕ → ℕ → Answer
-long_answer f s c = check (good_counts f s c) NotSound (Refused BadLength)
+long_answer f s c = check (good_counts f s c) NotSound (Err BadLength)
 
 pub read_long : (file : List ℕ) → 268 < length file → read_answer file ≡ long_answer (functions_in file) (segments_in file) (columns_in file)
 unfolding read_answer

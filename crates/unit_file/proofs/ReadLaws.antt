@@ -1,4 +1,5 @@
 -- What the tests of a file say as facts: its marks, those beyond the columns, its offsets, an accepted file. Assumes nothing.
+use Rattle.std.proofs.Common.{Ok, Err}
 use Prim.Native.Nat.{ℕ, ◌+◌, ◌-◌, ◌*◌, ◌/◌, ◌%◌, ◌^◌, ◌≤◌, ◌<◌}
 use mathlib.Core.Path.{◌≡◌, sym, ap, ◌∙◌, subst}
 use mathlib.Core.Bool.{Bool, true, false, not, ◌&&◌}
@@ -13,8 +14,7 @@ use Rattle.words.specs.Below.{some_below}
 use Rattle.words.proofs.Tests.{nowhere, and_left, and_right, and_true, not_passed, by_test}
 use Rattle.words.proofs.BitLaws.{set_below, high_bit}
 use Rattle.words.proofs.BelowLaws.{some_intro, some_none}
-use Rattle.unit.specs.declared.Answer.{Answer}
-use Rattle.unit.specs.declared.Answer.TheVariants.{Done, Refused}
+use Rattle.unit.specs.Answers.{Answer}
 use Rattle.unit.specs.declared.Refusal.{Refusal}
 use Rattle.unit.specs.declared.Refusal.TheVariants.{NotSound, BadLength, BadHeader, MarkBeyondColumns}
 use Rattle.unit.specs.Unit.{inside, good_counts}
@@ -146,7 +146,7 @@ counted file l g =
     let c = within (columns_in file) 32 (and_right (inside (segments_in file) 16) _ g2) in
     omega arith
 
-pub accepted_clean : (file : List ℕ) → read_answer file ≡ Done → Clean file
+pub accepted_clean : (file : List ℕ) → read_answer file ≡ Ok tt → Clean file
 unfolding read_answer
 accepted_clean file e =
     let g = good_counts (functions_in file) (segments_in file) (columns_in file) in
@@ -171,10 +171,10 @@ read_body file l g = simp (le-leb 4 (length file) l, g)
 
 -- where the counts are refused the file is
 pub read_counts : (file : List ℕ) (why : Refusal) → 4 ≤ length file
-    → check (good_counts (functions_in file) (segments_in file) (columns_in file)) NotSound Done ≡ Refused why → read_answer file ≡ Refused why
+    → check (good_counts (functions_in file) (segments_in file) (columns_in file)) NotSound (Ok tt) ≡ Err why → read_answer file ≡ Err why
 unfolding read_answer
 read_counts file why l e = rw (le-leb 4 (length file) l) (go (good_counts (functions_in file) (segments_in file) (columns_in file)) _ e)
   where
-    go : (b : Bool) (next : Answer) → check b NotSound Done ≡ Refused why → check b NotSound next ≡ Refused why
+    go : (b : Bool) (next : Answer) → check b NotSound (Ok tt) ≡ Err why → check b NotSound next ≡ Err why
     go true next h = never_done (sym h)
     go false next h = h

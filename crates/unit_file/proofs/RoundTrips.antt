@@ -1,4 +1,5 @@
 -- What is written is read back, and what is read is written as it was. Assumes nothing.
+use Rattle.std.proofs.Common.{Ok}
 use mathlib.Core.Path.{◌≡◌, refl, sym, ap, ◌∙◌}
 use mathlib.Core.Bool.{Bool, true, false, not, ◌&&◌}
 use mathlib.Core.List.{List}
@@ -14,7 +15,6 @@ use Rattle.words.proofs.BitLaws.{same_bits}
 use Rattle.words.proofs.BelowLaws.{some_intro, some_none, word_lt, word_set}
 use Rattle.unit.specs.declared.FunctionUnit.{FunctionUnit}
 use Rattle.unit.specs.declared.Refusal.TheVariants.{NotSound, BadLength, BadHeader}
-use Rattle.unit.specs.declared.Answer.TheVariants.{Done}
 use Rattle.unit.specs.Table.{Table}
 use Rattle.unit.specs.Unit.{inside, good_counts, marked, sound_of}
 use Rattle.unit.specs.Calls.{unit_of}
@@ -25,7 +25,7 @@ use Rattle.unit_file.specs.File.{offset_of, file_length, segment_word, file_of}
 use Rattle.unit_file.specs.Read.{byte_in, word16, word32, functions_in, segments_in, columns_in, file_table, good_header, marks_beyond, read_answer, read_of}
 use Rattle.unit_file.specs.Write.{unit_file}
 use Rattle.unit_file.specs.RoundTrips.{WrittenRead, ReadWritten}
-use Rattle.unit_file.proofs.AcceptedLaws.{Accepted, accepted}
+use Rattle.unit_file.proofs.AcceptedLaws.{accepted}
 use Rattle.unit_file.proofs.ByteLaws.{Bytes}
 use Rattle.unit_file.proofs.FileLaws.{file_length_lem, file_head, file_offset, file_word, file_of_lem}
 
@@ -111,7 +111,7 @@ module _ (f s c : ℕ) (T : Table) (good : good_counts f s c ≡ true) (counted 
           let e : leb x (columns_in (file_of f s c T)) ≡ true = ap (leb x) (file_head f s c T).columns ∙ le-leb x c w.most in
           nowhere (sym (not-true (leb x (columns_in (file_of f s c T))) out) ∙ e)
 
-  pub file_answer : read_answer (file_of f s c T) ≡ Done
+  pub file_answer : read_answer (file_of f s c T) ≡ Ok tt
   unfolding read_answer
   file_answer =
       let h = file_head f s c T in
@@ -120,7 +120,7 @@ module _ (f s c : ℕ) (T : Table) (good : good_counts f s c ≡ true) (counted 
       let exact : eqb (length (file_of f s c T)) (file_length f s) ≡ true = eq-eqb (length (file_of f s c T)) (file_length f s) n in
       rw (h.functions, h.segments, h.columns) (simp (long, good, exact, header, none_beyond))
 
-  pub file_read : read_of (file_of f s c T) ≡ record { answer = Done; unit = unit_of f s c T }
+  pub file_read : read_of (file_of f s c T) ≡ record { answer = (Ok tt); unit = unit_of f s c T }
   unfolding read_of
   file_read =
       let h = file_head f s c T in
@@ -128,7 +128,7 @@ module _ (f s c : ℕ) (T : Table) (good : good_counts f s c ≡ true) (counted 
 
 -- the file of a sound unit is read as the unit of its counts and marks
 pub unit_read : (u : FunctionUnit) → sound_of u ≡ true
-    → read_of (unit_file u) ≡ record { answer = Done; unit = unit_of u.functions u.segments u.columns (marked u) }
+    → read_of (unit_file u) ≡ record { answer = (Ok tt); unit = unit_of u.functions u.segments u.columns (marked u) }
 unit_read u sound =
     let d = sound_has u sound in
     file_read u.functions u.segments u.columns (marked u)
@@ -166,7 +166,7 @@ record Parts (b : List ℕ) : Type 0 where
   pub size : length b ≡ file_length (functions_in b) (segments_in b)
   pub header : good_header b ≡ true
 
-accepted_parts : (b : List ℕ) → read_answer b ≡ Done → Parts b
+accepted_parts : (b : List ℕ) → read_answer b ≡ Ok tt → Parts b
 unfolding read_answer
 accepted_parts b e =
     let e1 = check_next (leb 4 (length b)) BadLength _ e in
@@ -225,7 +225,7 @@ word_said b small k r h l =
         )
 
 -- bytes that are read as a unit are the file of what they say
-said_written : (b : List ℕ) → Bytes b → read_answer b ≡ Done → file_of (functions_in b) (segments_in b) (columns_in b) (file_table b) ≡ b
+said_written : (b : List ℕ) → Bytes b → read_answer b ≡ Ok tt → file_of (functions_in b) (segments_in b) (columns_in b) (file_table b) ≡ b
 said_written b small e =
     let a = accepted_parts b e in
     sym (file_of_lem b (functions_in b) (segments_in b) (columns_in b) (file_table b) a.size small

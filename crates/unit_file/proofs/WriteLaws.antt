@@ -1,4 +1,5 @@
 -- The words that the writer computes are those of the file. Assumes nothing.
+use Rattle.std.proofs.Common.{Ok, Err}
 use mathlib.Core.Path.{◌≡◌, refl, sym, ap, ap₂, ◌∙◌}
 use mathlib.Core.Bool.{true, false}
 use mathlib.Core.List.{List, ◌++◌}
@@ -17,7 +18,6 @@ use Rattle.unit.specs.Table.{Table}
 use Rattle.unit.specs.Unit.{marked, columns_of, sound_of}
 use Rattle.unit.proofs.Laws.{within, sound_has}
 use Rattle.unit.proofs.ColumnLaws.{columns_marked}
-use Rattle.unit_file.specs.declared.Written.TheVariants as Written
 use Rattle.unit_file.specs.File.{bytes16, bytes32, offset_of, file_length, segment_word, table_bytes, offset_bytes, file_of}
 use Rattle.unit_file.specs.InnerWrite.{in_front, in_from, head_bytes, Counts, after_tables, column_mark, columns_word, columns_bytes, tables_bytes}
 use Rattle.unit_file.specs.Write.{unit_file, write_refusal, write_answer, write_out}
@@ -88,18 +88,18 @@ sound_counts u e =
     record { functions = (within u.functions 4 d.functions).most; segments = (within u.segments 16 d.segments).most }
 
 module _ (u : FunctionUnit) (b : List ℕ) where
-  pub ends_unsound : sound_of u ≡ false → (Written.Refused NotSound ≡ write_answer u (length b)) × (b ≡ write_out u b)
+  pub ends_unsound : sound_of u ≡ false → (Err NotSound ≡ write_answer u (length b)) × (b ≡ write_out u b)
   unfolding write_answer write_out write_refusal
   ends_unsound e = (simp e, simp e)
 
   pub ends_short : sound_of u ≡ true → length b < file_length u.functions u.segments
-      → (Written.Refused ShortOutput ≡ write_answer u (length b)) × (b ≡ write_out u b)
+      → (Err ShortOutput ≡ write_answer u (length b)) × (b ≡ write_out u b)
   unfolding write_answer write_out write_refusal
   ends_short e h = let l = lt-leb (file_length u.functions u.segments) (length b) h in (simp (e, l), simp (e, l))
 
   pub ends_written : (size : ℕ) (out : List ℕ) → sound_of u ≡ true → size ≡ file_length u.functions u.segments → size ≤ length b
-      → out ≡ in_front (unit_file u) b → (Written.Length size ≡ write_answer u (length b)) × (out ≡ write_out u b)
+      → out ≡ in_front (unit_file u) b → (Ok size ≡ write_answer u (length b)) × (out ≡ write_out u b)
   unfolding write_answer write_out write_refusal
   ends_written size out e n h w =
       let l = le-leb (file_length u.functions u.segments) (length b) (omega arith) in
-      (rw (e, l) (ap Written.Length n), rw (e, l) w)
+      (rw (e, l) (ap Ok n), rw (e, l) w)

@@ -1,11 +1,10 @@
 -- What the reader's private functions ask and find. No public contract cites this file.
-use Rattle.std.specs.Prelude.{ℕ, ◌+◌, ◌-◌, ◌*◌, ◌≤◌, ◌≡◌, false, not, ◌&&◌, ◌||◌, List, ltb, eqb, length}
+use Rattle.std.specs.Prelude.{ℕ, ◌+◌, ◌-◌, ◌*◌, ◌≤◌, ◌≡◌, false, not, ◌&&◌, ◌||◌, List, ltb, eqb, length, Ok}
 use Rattle.words.specs.Bits.{is_set}
 use Rattle.words.specs.Below.{word_below}
 use Rattle.unit.specs.declared.FunctionUnit.{FunctionUnit}
 use Rattle.unit.specs.declared.Refusal.TheVariants.{BadLength, BadHeader, MarkBeyondColumns}
-use Rattle.unit.specs.declared.Answer.{Answer}
-use Rattle.unit.specs.declared.Answer.TheVariants.{Done}
+use Rattle.unit.specs.Answers.{Answer}
 use Rattle.unit.specs.Table.{Table}
 use Rattle.unit.specs.Calls.{check, unit_of}
 use Rattle.unit_file.specs.File.{offset_of, file_length}
@@ -36,7 +35,7 @@ unfoldable pub body_answer : List ℕ → Answer
 body_answer file =
     check (eqb (length file) (file_length (functions_in file) (segments_in file))) BadLength
     (check (good_header file) BadHeader
-    (check (not (marks_beyond file)) MarkBeyondColumns Done))
+    (check (not (marks_beyond file)) MarkBeyondColumns (Ok tt)))
 
 -- a tag of the file
 pub record TagIn (file : List ℕ) (k : ℕ) : Type 0 where

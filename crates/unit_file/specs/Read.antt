@@ -1,12 +1,11 @@
 -- What a file says, and what reading it answers.
-use Rattle.std.specs.Prelude.{ℕ, ◌+◌, ◌-◌, ◌*◌, Bool, not, ◌&&◌, List, leb, eqb, length, get_or}
+use Rattle.std.specs.Prelude.{ℕ, ◌+◌, ◌-◌, ◌*◌, Bool, not, ◌&&◌, List, leb, eqb, length, get_or, Ok}
 use Rattle.words.specs.Bits.{is_set}
 use Rattle.words.specs.Below.{some_below}
 use Rattle.unit.specs.declared.FunctionUnit.{FunctionUnit}
 use Rattle.unit.specs.declared.Outcome.{Outcome}
 use Rattle.unit.specs.declared.Refusal.TheVariants.{NotSound, BadLength, BadHeader, MarkBeyondColumns}
-use Rattle.unit.specs.declared.Answer.{Answer}
-use Rattle.unit.specs.declared.Answer.TheVariants.{Done}
+use Rattle.unit.specs.Answers.{Answer}
 use Rattle.unit.specs.Table.{Table}
 use Rattle.unit.specs.Unit.{inside, marked, good_counts}
 use Rattle.unit.specs.Calls.{check, and_then, outcome, blank, unit_of}
@@ -63,7 +62,7 @@ read_answer file =
     (check (good_counts (functions_in file) (segments_in file) (columns_in file)) NotSound
     (check (eqb (length file) (file_length (functions_in file) (segments_in file))) BadLength
     (check (good_header file) BadHeader
-    (check (not (marks_beyond file)) MarkBeyondColumns Done))))
+    (check (not (marks_beyond file)) MarkBeyondColumns (Ok tt)))))
 
 -- the unit, without plan; where the file is refused the unit of counts 0 0 0, which every call refuses
 unfoldable pub read_of : List ℕ → Outcome

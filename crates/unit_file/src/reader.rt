@@ -5,7 +5,7 @@ ghost use Rattle.unit_file.specs.File.{offset_of, file_length};
 ghost use Rattle.unit_file.specs.Read.{functions_in, segments_in, columns_in, word16, word32, file_table, good_header, marks_beyond, read_answer, read_of};
 ghost use Rattle.unit_file.specs.InnerRead.{Counted, Whole, Clean, TagIn, ColumnIn, body_answer, column_word, unit_before};
 
-use unit::{Answer, FunctionUnit, Outcome, Refusal, Tag};
+use unit::{FunctionUnit, Outcome, Refusal, Tag};
 
 // The word of 16 bits at a place.
 fn half_at(file: &[u8], at: usize) -> u32
@@ -54,13 +54,11 @@ fn header_is_good(file: &[u8]) -> bool
         return false;
     }
     let functions = file[0];
-    let mut i: u8 = 0;
-    while i < functions {
+    for i in 0..functions {
         let said = half_at(file, 4 + 2 * (i as usize));
         if said as usize != table_at(file, i + 1) {
             return false;
         }
-        i += 1;
     }
     true
 }
@@ -74,48 +72,42 @@ fn has_marks_beyond(file: &[u8]) -> bool
     let segments = file[1] as usize;
     let top: u64 = 1 << file[2];
     let count = functions * segments;
-    let mut i: usize = 0;
-    while i < count {
+    for i in 0..count {
         let word = word_at(file, 4 + 2 * functions + 4 * i);
         if top <= (word as u64) {
             return true;
         }
-        i += 1;
     }
     false
 }
 
 // What is tried of a file whose counts are good: its length, its header, its marks.
-fn check_body(file: &[u8]) -> Answer
+fn check_body(file: &[u8]) -> Result<(), Refusal>
     requires { Counted file.now }
     ensures { result ≡ body_answer file.now }
 {
     if file.len() != whole_length(file) {
-        return Answer::Refused(Refusal::BadLength);
+        return Err(Refusal::BadLength);
     }
     if !header_is_good(file) {
-        return Answer::Refused(Refusal::BadHeader);
+        return Err(Refusal::BadHeader);
     }
     if has_marks_beyond(file) {
-        return Answer::Refused(Refusal::MarkBeyondColumns);
+        return Err(Refusal::MarkBeyondColumns);
     }
-    Answer::Done
+    Ok(())
 }
 
 // Whether the file says a unit.
-fn check_file(file: &[u8]) -> Answer
+fn check_file(file: &[u8]) -> Result<(), Refusal>
     ensures { result ≡ read_answer file.now }
 {
-    if 4 <= file.len() {
-        let made = unit::fresh(file[0], file[1], file[2]);
-        let counts = made.answer;
-        match counts {
-            Answer::Refused(why) => Answer::Refused(why),
-            Answer::Done => check_body(file),
-        }
-    } else {
-        Answer::Refused(Refusal::BadLength)
+    if file.len() < 4 {
+        return Err(Refusal::BadLength);
     }
+    let made = unit::fresh(file[0], file[1], file[2]);
+    made.answer?;
+    check_body(file)
 }
 
 // The marks of a function in one column, bit r - 1 for segment r: a bit of each word of its table.
@@ -126,13 +118,11 @@ fn column_word(file: &[u8], tag: u8, column: u8) -> u16
     let segments = file[1];
     let first = table_at(file, tag);
     let mut marks: u32 = 0;
-    let mut i: u8 = 0;
-    while i < segments {
+    for i in 0..segments {
         let word = word_at(file, first + 4 * (i as usize));
         if words::test(word, column as u32 - 1) {
             marks = words::set(marks, i as u32);
         }
-        i += 1;
     }
     marks as u16
 }
@@ -144,13 +134,11 @@ fn fill_function(u: FunctionUnit, file: &[u8], tag: u8) -> FunctionUnit
 {
     let columns = file[2];
     let mut unit = u;
-    let mut column: u8 = 1;
-    while column <= columns {
+    for column in 1..=columns {
         let word = column_word(file, tag, column);
         let given = columns::with_column(unit, Tag(tag), column, word);
         let filled = given.unit;
         unit = filled;
-        column += 1;
     }
     unit
 }
@@ -163,11 +151,9 @@ fn fill(file: &[u8]) -> FunctionUnit
     let functions = file[0];
     let made = unit::fresh(functions, file[1], file[2]);
     let mut unit = made.unit;
-    let mut tag: u8 = 1;
-    while tag <= functions {
+    for tag in 1..=functions {
         let filled = fill_function(unit, file, tag);
         unit = filled;
-        tag += 1;
     }
     unit
 }
@@ -178,18 +164,18 @@ pub fn read(file: &[u8]) -> Outcome
 {
     let answer = check_file(file);
     match answer {
-        Answer::Refused(why) => {
+        Err(why) => {
             let made = unit::fresh(0, 0, 0);
             let none = made.unit;
             Outcome {
-                answer: Answer::Refused(why),
+                answer: Err(why),
                 unit: none,
             }
         }
-        Answer::Done => {
+        Ok(()) => {
             let filled = fill(file);
             Outcome {
-                answer: Answer::Done,
+                answer: Ok(()),
                 unit: filled,
             }
         }

@@ -10,7 +10,6 @@ ghost use Rattle.unit_file.specs.InnerWrite.{in_front, in_from, head_bytes, Coun
 ghost use Rattle.unit_file.specs.Write.{write_answer, write_out};
 
 use unit::{FunctionUnit, Refusal, Tag};
-use unit_file::Written;
 
 // Whether a column's word has the mark of a segment, counted from 0.
 fn has_mark(word: u16, segment: u8) -> bool
@@ -24,12 +23,10 @@ fn segment_word(columns: [u16; 32], segment: u8) -> u32
     ensures { result ≡ columns_word columns segment }
 {
     let mut word: u32 = 0;
-    let mut column: usize = 0;
-    while column < 32 {
-        if has_mark(columns[column], segment) {
+    for (column, marks) in columns.iter().enumerate() {
+        if has_mark(*marks, segment) {
             word = words::set(word, column as u32);
         }
-        column += 1;
     }
     word
 }
@@ -80,12 +77,10 @@ fn write_offsets(out: &mut [u8], functions: u8, segments: u8)
     requires functions_in_bounds { 2 * functions ≤ length out.old }
     ensures { out.new ≡ in_front (offset_bytes functions segments) out.old }
 {
-    let mut before: u8 = 0;
-    while before < functions {
+    for before in 0..functions {
         let offset = table_start(functions, segments, before) as u16;
         let at = 2 * (before as usize);
         put_half(&mut out[at..], offset);
-        before += 1;
     }
 }
 
@@ -94,12 +89,10 @@ fn write_table(out: &mut [u8], columns: [u16; 32], segments: u8)
     requires { 4 * segments ≤ length out.old }
     ensures { out.new ≡ in_front (columns_bytes columns segments) out.old }
 {
-    let mut segment: u8 = 0;
-    while segment < segments {
+    for segment in 0..segments {
         let word = segment_word(columns, segment);
         let at = 4 * (segment as usize);
         put_word(&mut out[at..], word);
-        segment += 1;
     }
 }
 
@@ -111,29 +104,27 @@ fn write_tables(out: &mut [u8], u: FunctionUnit)
 {
     let functions = u.functions;
     let segments = u.segments;
-    let mut before: u8 = 0;
-    while before < functions {
+    for before in 0..functions {
         let columns = columns::columns_of(u, Tag(before + 1));
         let offset = table_start(functions, segments, before);
         write_table(&mut out[offset..], columns, segments);
-        before += 1;
     }
 }
 
 // Writes the file of the unit to the front of the lent bytes; the others stay as before.
-pub fn write(u: FunctionUnit, out: &mut [u8]) -> Written
+pub fn write(u: FunctionUnit, out: &mut [u8]) -> Result<u32, Refusal>
     ensures value { result ≡ write_answer u (length out.old) }
     ensures out_after { out.new ≡ write_out u out.old }
 {
     if !unit::sound(u) {
-        return Written::Refused(Refusal::NotSound);
+        return Err(Refusal::NotSound);
     }
     let size = table_start(u.functions, u.segments, u.functions);
     if out.len() < size {
-        return Written::Refused(Refusal::ShortOutput);
+        return Err(Refusal::ShortOutput);
     }
     write_header(out, u.functions, u.segments, u.columns);
     write_offsets(&mut out[4..], u.functions, u.segments);
     write_tables(out, u);
-    Written::Length(size as u32)
+    Ok(size as u32)
 }

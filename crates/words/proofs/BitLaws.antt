@@ -3,16 +3,16 @@ use mathlib.Core.Path.{◌≡◌, refl, sym, ap, ◌∙◌, subst}
 use mathlib.Core.Bool.{Bool, true, false, cond, ◌&&◌, ◌||◌}
 use mathlib.Core.Logic.{◌↔◌}
 use Prim.Native.Nat.{ℕ, zero, suc, ◌+◌, ◌-◌, ◌*◌, ◌/◌, ◌%◌, ◌^◌, ◌≤◌, ◌<◌, min, max}
-use native.Mathlib.Nat.{div-eq_of_lt, div-eq_of_lt-le, lt_of_lt_of_le, zero-div, div-one, add-zero, one-mul, le_trans}
+use native.Mathlib.Nat.{div-eq_of_lt, div-eq_of_lt-le, lt_of_lt_of_le, zero-div, div-one, add-zero, one-mul}
 use native.Mathlib.Decide.{dec_lt, ℕ_discrete}
 use native.Mathlib.Omega.{arith}
 use lib.Dec.{eqb, ltb, lit<}
-use lib.Bits.{bit_and, bit_or, bit_xor, or_shr, or_step, or_lt, and_shr, and_step, and_lt, and_le_l, xor_shr, xor_mod, xor_lt, xor_zero_r}
-use lib.Pow.{shr-shr, shr_le, pow_mono, pow-lt, pow_pos, pow-add, shl-shr, shl_exact}
+use lib.Bits.{bit_and, bit_or, bit_xor, or_shr, or_step, or_lt, and_shr, and_step, and_le_l, xor_shr, xor_mod, xor_lt, xor_zero_r}
+use lib.Pow.{shr-shr, pow_mono, pow-lt, pow-add, shl-shr, shl_exact}
 use lib.Arith.{digits_mod}
-use borrow.Author.Tests.{eqb-true, eqb-false, eq-eqb, ne_eqb, lt-ltb, le-ltb}
+use borrow.Author.Tests.{eqb-false, eq-eqb, lt-ltb}
 use Rattle.words.specs.Bits.{bit, is_set, set_bit, clear_bit}
-use Rattle.words.proofs.Tests.{nowhere, same_test, and_left, and_right, and_true, or_cases, or_true_left, or_true_right}
+use Rattle.words.proofs.Tests.{nowhere, and_left, and_right, and_true, or_true_right}
 
 pub bit_small : (w k : ℕ) → bit w k < 2
 bit_small w k = omega arith

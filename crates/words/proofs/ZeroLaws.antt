@@ -10,7 +10,7 @@ use native.Mathlib.Omega.{arith}
 use borrow.Author.Tests.{eq-eqb, ne_eqb}
 use lib.Count.{count_trailing_zeros, under}
 use lib.Pow.{shr-shr}
-use Rattle.words.specs.Bits.{bit, is_set, zero_from}
+use Rattle.words.specs.Bits.{is_set, zero_from}
 use Rattle.words.specs.Below.{least_from}
 use Rattle.words.proofs.BitLaws.{bit_above, zero_unset}
 use Rattle.words.proofs.BelowLaws.{least_first, least_skips, least_le}

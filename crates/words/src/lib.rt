@@ -50,7 +50,7 @@ pub fn shift(word: u32, places: u32) -> u32
 pub fn ones(word: u32) -> u32
     ensures { result ≡ count_below 32 (is_set word) }
 {
-    u32::count_ones(word)
+    word.count_ones()
 }
 
 // The least index from a given one on at which the word has a 0, in one step: the ones from there on are the zeros that a carry leaves.
@@ -61,27 +61,19 @@ pub fn zero_from(word: u32, from: u32) -> u32
         return from;
     }
     let rest = (word as u64) >> from;
-    from + u64::trailing_zeros(rest + 1)
+    from + (rest + 1).trailing_zeros()
 }
 
 // A number too large for a byte becomes 0, which is no count, no tag, no segment, no column and no latency.
 pub fn byte(number: u32) -> u8
     ensures { result ≡ narrow number }
 {
-    if number < 256 {
-        return number as u8;
-    }
-    0
+    u8::try_from(number).unwrap_or(0)
 }
 
 // Whether a number is one of 1 to another.
 pub fn is_inside(number: u8, most: u8) -> bool
     ensures { result ≡ inside number most }
 {
-    if 1 <= number {
-        if number <= most {
-            return true;
-        }
-    }
-    false
+    (1..=most).contains(&number)
 }

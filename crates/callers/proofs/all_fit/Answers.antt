@@ -1,59 +1,53 @@
--- `callers::all_fit` meets its contract: the queues before the place have tags of the unit. Assumes nothing.
-use Prim.Native.Nat.{ℕ, ◌+◌, ◌-◌, ◌*◌, ◌≤◌}
+-- `callers::all_fit` meets its contract. Assumes nothing.
+use Prim.Native.Nat.{ℕ, ◌+◌, ◌-◌, ◌*◌, ◌<◌}
 use mathlib.Core.Path.{◌≡◌, sym, ap, subst, ◌∙◌}
 use mathlib.Core.Bool.{Bool}
 use mathlib.Core.List.{List}
 use native.Mathlib.Omega.{arith}
-use borrow.Author.Tests.{leb-true, not-true, not-false}
+use borrow.Author.Tests.{leb-true}
 use borrow.Author.Rules.{rules}
 use lib.Dec.{leb}
-use lib.ListN.{get_or, take, drop}
+use lib.ListN.{length, get_or, take, drop, length-take}
+use lib.Seq.{get_or-take}
 use Rattle.unit.proofs.Laws.{inside_of}
 use Rattle.queue.specs.declared.Waiting.{Waiting}
 use Rattle.queue.specs.Line.{tags_inside}
 use Rattle.callers.specs.Queues.{room, place_of, count_of}
-use Rattle.callers.proofs.EachLaws.{Upto, upto_none, upto_more, each_upto, each_false, each_at}
+use Rattle.callers.proofs.EachLaws.{Upto, each_upto, each_false, each_at}
 use Rattle.callers.proofs.all_fit.Goals as goal
 
 abbrev fits_at : ℕ → List Waiting → List ℕ → ℕ → Bool
 fits_at f list counts i = tags_inside f (take (count_of counts i) (drop (place_of i) list))
 
--- the caller at a place
-same_place : (f : ℕ) (list : List Waiting) (counts : List ℕ) (p : ℕ) {b : Bool} → tags_inside f (take (get_or counts p 0) (drop (8 * p) list)) ≡ b → fits_at f list counts (p + 1) ≡ b
-same_place f list counts p e =
+-- the count at a place is that of its caller
+count_at : (counts : List ℕ) (C p : ℕ) → p < C → get_or (take C counts) p 0 ≡ count_of counts (p + 1)
+count_at counts C p h = get_or-take C counts p 0 h ∙ ap (λ (k : ℕ). get_or counts k 0) (omega arith)
+
+-- so are its records
+same_place : (f : ℕ) (list : List Waiting) (counts : List ℕ) (C p : ℕ) → p < C → {b : Bool} → b ≡ tags_inside f (take (get_or (take C counts) p 0) (drop (8 * p) list)) → fits_at f list counts (p + 1) ≡ b
+same_place f list counts C p h e =
     let s : p + 1 - 1 ≡ p = omega arith in
-    ap (λ (k : ℕ). tags_inside f (take (get_or counts k 0) (drop (8 * k) list))) s ∙ e
-
-pub loop-place-init : goal.loop-place-init
-loop-place-init c = (upto_none (fits_at c.args.functions c.args.list c.args.counts), search rules)
-
-pub bounds-counts-place : goal.bounds-counts-place
-bounds-counts-place c = omega (arith, c.loop-place-test.true, c.requires.few)
+    ap (λ (k : ℕ). tags_inside f (take (count_of counts (p + 1)) (drop (8 * k) list))) s
+    ∙ ap (λ (n : ℕ). tags_inside f (take n (drop (8 * p) list))) (sym (count_at counts C p h)) ∙ sym e
 
 pub fits_from-requires : goal.fits_from-requires
 fits_from-requires c =
-    let s : c.loop-place.place + 1 - 1 ≡ c.loop-place.place = omega arith in
-    let e = each_at c.args.callers (λ i. leb (count_of c.args.counts i) room) (c.loop-place.place + 1) c.requires.each
-    (inside_of (c.loop-place.place + 1) c.args.callers (omega arith) (omega (arith, c.loop-place-test.true))) in
-    let n : get_or c.args.counts c.loop-place.place 0 ≤ 8 = subst (λ (k : ℕ). get_or c.args.counts k 0 ≤ 8) s (leb-true _ _ e) in
-    omega (arith, n, c.loop-place-test.true, c.requires.few)
+    let a = c.args in
+    let p = c.loop-place.place in
+    let h : p < a.callers = omega (arith, length-take a.callers a.counts) in
+    let e = each_at a.callers (λ i. leb (count_of a.counts i) room) (p + 1) c.requires.each (inside_of (p + 1) a.callers (omega arith) (omega arith)) in
+    omega (arith, leb-true _ _ e, count_at a.counts a.callers p h, c.requires.few)
 
 pub returns-then-not-fits_from : goal.returns-then-not-fits_from
 returns-then-not-fits_from c =
     let a = c.args in
-    sym (each_false a.callers (fits_at a.functions a.list a.counts) c.loop-place.place c.loop-place-test.true
-    (same_place a.functions a.list a.counts c.loop-place.place (sym c.fits_from.ensures ∙ not-true _ c.if-not-fits_from.true-raw)))
-
-pub loop-place-preserved : goal.loop-place-preserved
-loop-place-preserved c =
-    let a = c.args in (
-      upto_more (fits_at a.functions a.list a.counts) c.loop-place.place c.loop-place.invariant.0
-          (same_place a.functions a.list a.counts c.loop-place.place (sym c.fits_from.ensures ∙ not-false _ c.if-not-fits_from.false-raw)),
-      search rules,
-    )
+    let h : c.loop-place.place < a.callers = omega (arith, length-take a.callers a.counts) in
+    sym (each_false a.callers (fits_at a.functions a.list a.counts) c.loop-place.place h
+    (same_place a.functions a.list a.counts a.callers c.loop-place.place h (sym c.if-not-fits_from.true ∙ c.fits_from.ensures)))
 
 pub returns : goal.returns
 returns c =
     let a = c.args in
-    let e : c.loop-place.place ≡ a.callers = omega (arith, c.loop-place-test.false, c.loop-place.invariant.1) in
-    sym (each_upto a.callers (fits_at a.functions a.list a.counts) (subst (Upto (fits_at a.functions a.list a.counts)) e c.loop-place.invariant.0))
+    let n : length a.counts ≡ 4 = search rules in
+    let e : c.loop-place.place ≡ a.callers = omega (arith, length-take a.callers a.counts, c.requires.few) in
+    sym (each_upto a.callers (fits_at a.functions a.list a.counts) (subst (Upto (fits_at a.functions a.list a.counts)) e c.loop-place.invariant))

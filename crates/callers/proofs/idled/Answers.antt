@@ -1,8 +1,8 @@
 -- `callers::idled` meets its contract: the controller's tick, and all else stays. Assumes nothing.
+use Rattle.std.proofs.Common.{Ok, None}
 use Prim.Native.Nat.{◌-◌}
 use mathlib.Core.Path.{sym}
 use lib.Seq.{set-get_or}
-use Rattle.callers.specs.declared.Served.TheVariants.{Idle}
 use Rattle.callers.proofs.PartLaws.{parts}
 use Rattle.callers.proofs.idled.Goals as goal
 
@@ -11,7 +11,7 @@ returns c =
     let a = c.args in
     λ i. record {
       turned = record {
-        answer = Idle;
+        answer = Ok None;
         bank = (c.step-after.ensures i).bank;
         turn = a.caller;
         counts = record { each = sym (set-get_or a.counts.each (a.caller - 1) 0) i };

@@ -1,8 +1,8 @@
 -- `callers::unit_on` meets its contract: by the tests' answer. Assumes nothing.
+use Rattle.std.proofs.Common.{Err}
 use Prim.Native.Nat.{◌-◌}
 use mathlib.Core.Path.{ap, ◌∙◌, sym}
 use lib.Seq.{set-get_or}
-use Rattle.callers.specs.declared.Served.TheVariants.{Refused}
 use Rattle.callers.specs.Calls.{caller_of}
 use Rattle.callers.specs.Parts.{unit_on_by}
 use Rattle.callers.proofs.PartLaws.{parts}
@@ -12,15 +12,15 @@ use Rattle.callers.proofs.unit_on.Goals as goal
 pub turned_to-requires : goal.turned_to-requires
 turned_to-requires c =
     let a = c.args in
-    unit_accepted a.u a.callers a.turn a.length a.records.list a.counts.each (sym c.check_unit-answer.ensures ∙ c.in-Done.is)
+    unit_accepted a.u a.callers a.turn a.length a.records.list a.counts.each (sym c.check_unit.ensures ∙ c.in_default.is)
 
-pub returns-in-Refused : goal.returns-in-Refused
-returns-in-Refused c =
+pub returns-in-Err : goal.returns-in-Err
+returns-in-Err c =
     let a = c.args in
     let i = caller_of a.callers a.turn a.counts.each in
     (λ k. record {
       turned = record {
-        answer = Refused c.in-Refused.why;
+        answer = Err c.in-Err.why;
         bank = a.bank;
         turn = a.turn;
         counts = record { each = sym (set-get_or a.counts.each (i - 1) 0) k };
@@ -28,11 +28,11 @@ returns-in-Refused c =
       records = record { list = sym (parts a.records.list i) k };
     })
     ∙ ap (unit_on_by a.u a.bank a.callers a.turn a.records.list a.counts.each)
-    (sym c.in-Refused.is ∙ c.check_unit-answer.ensures)
+    (sym c.in-Err.is ∙ c.check_unit.ensures)
 
-pub returns-in-Done : goal.returns-in-Done
-returns-in-Done c =
+pub returns : goal.returns
+returns c =
     let a = c.args in
     c.turned_to.ensures
     ∙ ap (unit_on_by a.u a.bank a.callers a.turn a.records.list a.counts.each)
-    (sym c.in-Done.is ∙ c.check_unit-answer.ensures)
+    (sym c.in_default.is ∙ c.check_unit.ensures)

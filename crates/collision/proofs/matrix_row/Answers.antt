@@ -1,13 +1,13 @@
 -- `collision::matrix_row` meets its contract. Assumes nothing.
-use mathlib.Core.Path.{sym, ◌∙◌}
+use Rattle.std.proofs.Common.{arith}
+use Rattle.std.proofs.lemmas.Grind.{common_steps}
 use Rattle.collision.specs.Answers.{row_answer}
-use Rattle.collision.proofs.AnswerLaws.{number_refused, number_given}
 use Rattle.collision.proofs.matrix_row.Goals as goal
 
-pub returns-in-Refused : goal.returns-in-Refused
+pub returns-in_err-check_tags : goal.returns-in_err-check_tags
 unfolding row_answer
-returns-in-Refused c = number_refused _ (sym c.check_tags-answer.ensures ∙ c.in-Refused.is)
+returns-in_err-check_tags c = grind (arith, common_steps)
 
-pub returns-in-Done : goal.returns-in-Done
+pub returns : goal.returns
 unfolding row_answer
-returns-in-Done c = number_given (sym c.check_tags-answer.ensures ∙ c.in-Done.is) c.row_of_tags.ensures
+returns c = grind (arith, common_steps)

@@ -1,32 +1,23 @@
--- `column_text::write_columns` meets its contract. The loop's invariant: the columns passed are written. Assumes nothing.
-use native.Mathlib.Omega.{arith}
-use Rattle.text.proofs.WroteLaws.{wrote_length}
+use Rattle.std.proofs.Common.{◌≡◌, ◌+◌, ◌-◌, arith}
 use Rattle.text.proofs.RowLaws.{columns_start, columns_next, columns_more, columns_end}
-use borrow.Author.Rules.{rules}
 use Rattle.column_text.proofs.write_columns.Goals as goal
 
-pub loop-written-init : goal.loop-written-init
-loop-written-init c = let a = c.args in (omega arith, columns_start a.out.now a.at a.columns a.word (omega arith))
+pub loop-index-init : goal.loop-index-init
+loop-index-init c =
+    let a = c.args in
+    let none : a.columns - a.columns ≡ 0 = omega arith in
+    rw none (columns_start a.out.now a.at a.columns a.word (omega arith))
 
 pub bounds-out-end : goal.bounds-out-end
-bounds-out-end c =
-    let a = c.args in
-    omega (arith, columns_next a.columns a.word c.loop-written.written c.loop-written.invariant.1, wrote_length c.loop-written.invariant.1)
+bounds-out-end c = omega (arith, columns_next c.args.columns c.args.word _ c.loop-index.invariant)
 
-pub overflow_add-end : goal.overflow_add-end
-overflow_add-end c =
+pub loop-index-preserved : goal.loop-index-preserved
+loop-index-preserved c =
     let a = c.args in
-    omega (arith, columns_next a.columns a.word c.loop-written.written c.loop-written.invariant.1)
-
-pub loop-written-preserved : goal.loop-written-preserved
-loop-written-preserved c =
-    let a = c.args in
-    (search rules, columns_more a.columns a.word c.loop-written.written _ c.column_byte.ensures c.requires (omega arith) c.loop-written.invariant.1)
-
-pub shape_of-out : goal.shape_of-out
-shape_of-out c = wrote_length c.loop-written.invariant.1
+    let i = a.columns - c.loop-index.index in
+    let one : a.columns - (c.loop-index.index - 1) ≡ i + 1 = omega arith in
+    let here : c.loop-index.index - 1 ≡ a.columns - 1 - i = omega arith in
+    rw one (columns_more a.columns a.word i _ (rw here at c.column_byte.ensures) c.requires (omega arith) c.loop-index.invariant)
 
 pub returns : goal.returns
-returns c =
-    let a = c.args in
-    columns_end a.columns a.word c.loop-written.written (omega arith) c.loop-written.invariant.1
+returns c = columns_end c.args.columns c.args.word _ (omega arith) c.loop-index.invariant

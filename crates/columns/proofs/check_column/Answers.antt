@@ -1,25 +1,26 @@
 -- `columns::check_column` meets its contract: the unit and the tag first, then the word's segments and the column. Assumes nothing.
+use Rattle.std.proofs.Common.{Ok}
 use mathlib.Core.Path.{◌≡◌, sym, ◌∙◌}
 use Prim.Native.Nat.{◌*◌, ◌%◌, ◌^◌, ◌<◌, ◌≤◌}
 use native.Mathlib.Omega.{arith}
 use borrow.Author.Tests.{lt-ltb, le-ltb}
 use Rattle.words.proofs.Tests.{on, off}
 use Rattle.words.proofs.BitLaws.{shifted_one}
-use Rattle.unit.specs.declared.Answer.TheVariants.{Done}
 use Rattle.unit.specs.Calls.{tag_answer, column_answer}
 use Rattle.unit.proofs.Laws.{Within, tag_segments}
+use Rattle.unit.proofs.Exits.{handed_on}
 use Rattle.columns.proofs.check_column.Goals as goal
 
 pub overflow_shl-top : goal.overflow_shl-top
 overflow_shl-top c =
-    let passed : tag_answer c.args.u c.args.tag.0 ≡ Done = sym c.check_tag-first.ensures ∙ c.in-Done.is in
+    let passed : tag_answer c.args.u c.args.tag.0 ≡ Ok tt = sym c.check_tag.ensures ∙ c.in_ok-check_tag.was in
     let few : Within c.args.u.segments 16 = let a = c.args in tag_segments a.u a.tag.0 passed in
     omega (arith, few.most)
 
 pub returns-then-top-word : goal.returns-then-top-word
 unfolding column_answer
 returns-then-top-word c =
-    let passed : tag_answer c.args.u c.args.tag.0 ≡ Done = sym c.check_tag-first.ensures ∙ c.in-Done.is in
+    let passed : tag_answer c.args.u c.args.tag.0 ≡ Ok tt = sym c.check_tag.ensures ∙ c.in_ok-check_tag.was in
     let few : Within c.args.u.segments 16 = let a = c.args in tag_segments a.u a.tag.0 passed in
     let a = c.args in
     let t = shifted_one a.u.segments 32 (omega (arith, few.most)) in
@@ -29,7 +30,7 @@ returns-then-top-word c =
 pub returns-then-not-is_inside : goal.returns-then-not-is_inside
 unfolding column_answer
 returns-then-not-is_inside c =
-    let passed : tag_answer c.args.u c.args.tag.0 ≡ Done = sym c.check_tag-first.ensures ∙ c.in-Done.is in
+    let passed : tag_answer c.args.u c.args.tag.0 ≡ Ok tt = sym c.check_tag.ensures ∙ c.in_ok-check_tag.was in
     let few : Within c.args.u.segments 16 = let a = c.args in tag_segments a.u a.tag.0 passed in
     let short : c.args.word < 2 ^ c.args.u.segments = let a = c.args in
     let t = shifted_one a.u.segments 32 (omega (arith, few.most)) in
@@ -39,14 +40,14 @@ returns-then-not-is_inside c =
     let a = c.args in
     simp (passed, lt-ltb a.word (2 ^ a.u.segments) short, off c.if-not-is_inside.true-raw c.is_inside.ensures)
 
-pub returns-in-Refused : goal.returns-in-Refused
+pub returns-in_err-check_tag : goal.returns-in_err-check_tag
 unfolding column_answer
-returns-in-Refused c = simp (sym c.check_tag-first.ensures ∙ c.in-Refused.is)
+returns-in_err-check_tag c = handed_on c.from_residual.ensures.1 (simp (sym c.check_tag.ensures ∙ c.in_err-check_tag.was))
 
-pub returns-else-not-is_inside : goal.returns-else-not-is_inside
+pub returns : goal.returns
 unfolding column_answer
-returns-else-not-is_inside c =
-    let passed : tag_answer c.args.u c.args.tag.0 ≡ Done = sym c.check_tag-first.ensures ∙ c.in-Done.is in
+returns c =
+    let passed : tag_answer c.args.u c.args.tag.0 ≡ Ok tt = sym c.check_tag.ensures ∙ c.in_ok-check_tag.was in
     let few : Within c.args.u.segments 16 = let a = c.args in tag_segments a.u a.tag.0 passed in
     let short : c.args.word < 2 ^ c.args.u.segments = let a = c.args in
     let t = shifted_one a.u.segments 32 (omega (arith, few.most)) in

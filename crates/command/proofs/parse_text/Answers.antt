@@ -23,4 +23,4 @@ parse_rest-requires c = word_inside _ _ _ c.word_end-end.ensures c.word_start-fr
 pub returns : goal.returns
 returns c =
     c.parse_rest.ensures
-    ∙ said_named _ _ c.word_start-from.ensures c.if-from-text.false _ _ c.if-text-from-eq35.false c.word_end-end.ensures (sym c.in-Known.is ∙ c.find-name.ensures)
+    ∙ said_named _ _ c.word_start-from.ensures c.if-from-text.false _ _ c.if-text-from-eq35.false c.word_end-end.ensures (sym c.in-Some.is ∙ c.find-name.ensures)

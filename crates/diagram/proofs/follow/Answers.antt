@@ -1,6 +1,5 @@
 -- `diagram::follow` meets its contract: the latencies that are left lead to the list that is asked. Assumes nothing.
 use mathlib.Core.Path.{refl, ◌∙◌}
-use mathlib.Core.Bool.{false}
 use native.Mathlib.Omega.{arith}
 use Rattle.words.proofs.ZeroLaws.{zero_most}
 use Rattle.diagram.proofs.FollowLaws.{follow_start, follow_more, follow_over, follow_end, follow_next, follow_past, follow_free}

@@ -1,10 +1,10 @@
 -- `edits::unmark` meets its contract: a refused edit leaves the unit, an accepted one gives the column its word without the mark. Assumes nothing.
+use Rattle.std.proofs.Common.{Ok}
 use mathlib.Core.Path.{◌≡◌, sym, ◌∙◌}
 use native.Mathlib.Omega.{arith}
 use lib.ListN.{get_or}
 use mir.Syntax.{w16}
 use mir.Val.{Fits}
-use Rattle.unit.specs.declared.Answer.TheVariants.{Done}
 use Rattle.unit.specs.Calls.{spot_answer, unmark_of}
 use Rattle.unit.proofs.Laws.{Ranges, edit_ranges}
 use Rattle.unit.proofs.SoundLaws.{Words}
@@ -18,24 +18,24 @@ returns-in_default c = simp (sym c.check_spot-answer.ensures ∙ c.in_default.is
 
 pub overflow_sub-word : goal.overflow_sub-word
 overflow_sub-word c =
-    let accepting : spot_answer c.args.u c.args.tag.0 c.args.segment.0 c.args.column ≡ Done = sym c.check_spot-answer.ensures ∙ c.in-Done.is in
+    let accepting : spot_answer c.args.u c.args.tag.0 c.args.segment.0 c.args.column ≡ Ok tt = sym c.check_spot-answer.ensures ∙ c.in-Ok.is in
     let allowed : Ranges c.args.u c.args.tag.0 c.args.segment.0 c.args.column = edit_ranges _ _ _ _ accepting in
     let r = allowed in omega arith
 
 pub bounds-marks-column : goal.bounds-marks-column
 bounds-marks-column c =
-    let accepting : spot_answer c.args.u c.args.tag.0 c.args.segment.0 c.args.column ≡ Done = sym c.check_spot-answer.ensures ∙ c.in-Done.is in
+    let accepting : spot_answer c.args.u c.args.tag.0 c.args.segment.0 c.args.column ≡ Ok tt = sym c.check_spot-answer.ensures ∙ c.in-Ok.is in
     let allowed : Ranges c.args.u c.args.tag.0 c.args.segment.0 c.args.column = edit_ranges _ _ _ _ accepting in
     let r = allowed in omega arith
 
 pub without_mark-cleared-requires : goal.without_mark-cleared-requires
 without_mark-cleared-requires c =
-    let accepting : spot_answer c.args.u c.args.tag.0 c.args.segment.0 c.args.column ≡ Done = sym c.check_spot-answer.ensures ∙ c.in-Done.is in
+    let accepting : spot_answer c.args.u c.args.tag.0 c.args.segment.0 c.args.column ≡ Ok tt = sym c.check_spot-answer.ensures ∙ c.in-Ok.is in
     let allowed : Ranges c.args.u c.args.tag.0 c.args.segment.0 c.args.column = edit_ranges _ _ _ _ accepting in
     let r = allowed in omega arith
 
 pub returns : goal.returns
 returns c =
-    let accepting : spot_answer c.args.u c.args.tag.0 c.args.segment.0 c.args.column ≡ Done = sym c.check_spot-answer.ensures ∙ c.in-Done.is in
+    let accepting : spot_answer c.args.u c.args.tag.0 c.args.segment.0 c.args.column ≡ Ok tt = sym c.check_spot-answer.ensures ∙ c.in-Ok.is in
     let words : Words c.args.u = record { count = search rules; small = λ k. let f : Fits w16 (get_or c.args.u.marks k 0) = search rules in f.fits } in
     unmark_by_column _ _ _ _ words accepting c.columns_of-marks.ensures c.without_mark-cleared.ensures c.with_column.ensures

@@ -13,15 +13,15 @@ returns-in_default c =
 
 pub slice_bounds-latencies-end : goal.slice_bounds-latencies-end
 slice_bounds-latencies-end c =
-    let inside : c.args.plan.count ≤ length c.args.plan.latencies = c.requires c.in-Done.is in
+    let inside : c.args.plan.count ≤ length c.args.plan.latencies = c.requires c.in-Ok.is in
     inside
 
 pub slice_bounds-put-end : goal.slice_bounds-put-end
 slice_bounds-put-end c =
-    let inside : c.args.plan.count ≤ length c.args.plan.latencies = c.requires c.in-Done.is in
+    let inside : c.args.plan.count ≤ length c.args.plan.latencies = c.requires c.in-Ok.is in
     sym (length-take-le _ _ inside)
 
 pub returns : goal.returns
 returns c =
-    let facts = plan_handed _ c.args.plan _ _ _ c.in-Done.is c.put.ensures.out_after in
+    let facts = plan_handed _ c.args.plan _ _ _ c.in-Ok.is c.put.ensures.out_after in
     record { value = facts.0; out_after = facts.1.0; count_after = facts.1.1.0; sum_after = facts.1.1.1 }

@@ -16,5 +16,5 @@ pub returns : goal.returns
 returns c =
     let a = c.args in
     search_ends a.file.now a.tag a.work.now a.out.now a.count.now a.sum.now c.read-held.result c.byte.result c.check_tag-tagged.result _
-    c.read-held.ensures c.byte.ensures c.check_tag-tagged.ensures c.check_search-answer.ensures _ c.search-held.result c.in-Done.is c.search-held.ensures
+    c.read-held.ensures c.byte.ensures c.check_tag-tagged.ensures c.check_search-answer.ensures _ c.search-held.result c.in-Ok.is c.search-held.ensures
     _ _ _ _ (c.hand_plan.ensures.value, (c.hand_plan.ensures.out_after, (c.hand_plan.ensures.count_after, c.hand_plan.ensures.sum_after)))

@@ -3,5 +3,5 @@ use mathlib.Core.Path.{sym}
 use Rattle.unit.proofs.EndLaws.{then_first}
 use Rattle.file_issue.proofs.first.Goals as goal
 
-pub returns-in-Refused : goal.returns-in-Refused
-returns-in-Refused c = sym (then_first _ _ c.in-Refused.is)
+pub returns-in-Err : goal.returns-in-Err
+returns-in-Err c = sym (then_first _ _ c.in-Err.is)

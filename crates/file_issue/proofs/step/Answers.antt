@@ -10,11 +10,11 @@ returns-in_default c =
 
 pub returns-then-words-lt4 : goal.returns-then-words-lt4
 returns-then-words-lt4 c =
-    let facts = step_short _ _ _ _ c.in-Done.is (omega (arith, c.if-words-lt4.true)) in
+    let facts = step_short _ _ _ _ c.in-Ok.is (omega (arith, c.if-words-lt4.true)) in
     record { value = facts.0; words_after = facts.1 }
 
 pub returns : goal.returns
 returns c =
-    let facts = step_made _ _ _ _ c.load.result c.step-stepped.result _ _ c.in-Done.is (omega (arith, c.if-words-lt4.false)) c.load.ensures
+    let facts = step_made _ _ _ _ c.load.result c.step-stepped.result _ _ c.in-Ok.is (omega (arith, c.if-words-lt4.false)) c.load.ensures
     c.step-stepped.ensures c.store.ensures c.number_in-2.ensures in
     record { value = facts.0; words_after = facts.1 }

@@ -3,5 +3,5 @@ use mathlib.Core.Path.{ap, sym}
 use Rattle.file_questions.specs.Inner.{verdict_number}
 use Rattle.file_questions.proofs.verdict_number.Goals as goal
 
-pub returns-in-Refused : goal.returns-in-Refused
-returns-in-Refused c = ap verdict_number (sym c.in-Refused.is)
+pub returns-in-Err : goal.returns-in-Err
+returns-in-Err c = ap verdict_number (sym c.in-Err.is)

@@ -1,31 +1,33 @@
--- `judge::sum_of` meets its contract. The loop's invariant: the sum is that of the bytes passed. Assumes nothing.
-use mathlib.Core.Path.{◌≡◌, ap, ◌∙◌}
-use native.Mathlib.Omega.{arith}
-use borrow.Author.Rules.{rules}
-use lib.ListN.{take}
+use Rattle.std.proofs.Common.{◌≡◌, sym, ap, ◌∙◌, take, arith}
+use lib.Seq.{get_or-take}
 use Rattle.collision.specs.Pipeline.{total}
 use Rattle.collision.proofs.StartLaws.{sum_more}
-use Rattle.judge.proofs.CycleLaws.{counted_facts}
+use Rattle.judge.proofs.CycleLaws.{counted_facts, counted_length}
 use Rattle.judge.proofs.sum_of.Goals as goal
 
-pub loop-i-init : goal.loop-i-init
-loop-i-init c =
-    let r = counted_facts _ _ c.requires in
-    (search rules, r.inside, r.most, search rules, search rules)
-
-pub overflow_cast-sum : goal.overflow_cast-sum
-overflow_cast-sum c = omega (arith, c.shared_slice_known-1.given c.loop-i.i)
+pub slice_bounds-latency-items-end : goal.slice_bounds-latency-items-end
+slice_bounds-latency-items-end c = sym (counted_length _ _ c.requires)
 
 pub overflow_add-sum : goal.overflow_add-sum
-overflow_add-sum c = omega (arith, c.shared_slice_known-1.given c.loop-i.i)
+overflow_add-sum c =
+    let i = c.loop-latency.latency-index in
+    let r = counted_facts _ _ c.requires in
+    let n = counted_length _ _ c.requires in
+    let e = get_or-take c.args.count c.args.list.now i 0 (omega arith) in
+    let b = c.type_inv.list i in
+    omega arith
 
-pub loop-i-preserved : goal.loop-i-preserved
-loop-i-preserved c =
-    let b = c.shared_slice_known-1.given c.loop-i.i in
-    (search rules, c.loop-i.invariant.1, c.loop-i.invariant.2, omega arith, sum_more _ c.loop-i.i c.loop-i.sum (omega arith) c.loop-i.invariant.4)
+pub loop-latency-preserved : goal.loop-latency-preserved
+loop-latency-preserved c =
+    let i = c.loop-latency.latency-index in
+    let r = counted_facts _ _ c.requires in
+    let n = counted_length _ _ c.requires in
+    let e = get_or-take c.args.count c.args.list.now i 0 (omega arith) in
+    let b = c.type_inv.list i in
+    (omega arith, rw e (sum_more _ i c.loop-latency.sum (omega arith) c.loop-latency.invariant.1))
 
 pub returns : goal.returns
 returns c =
-    let a = c.args in
-    let e : c.loop-i.i ≡ a.count = omega (arith, c.loop-i-test.false) in
-    (c.loop-i.invariant.4 ∙ ap (λ k. total (take k a.list.now)) e, omega arith, c.loop-i.invariant.2)
+    let n = counted_length _ _ c.requires in
+    let e : c.loop-latency.latency-index ≡ c.args.count = omega arith in
+    (c.loop-latency.invariant.1 ∙ ap (λ k. total (take k c.args.list.now)) e, omega arith, (counted_facts _ _ c.requires).most)

@@ -2,10 +2,10 @@
 use Rattle.listing.proofs.FileLaws.{file_refused, file_accepted}
 use Rattle.listing.proofs.list_file.Goals as goal
 
-pub returns-in-Refused : goal.returns-in-Refused
-returns-in-Refused c =
-    file_refused c.read-outcome.ensures c.in-Refused.is c.list_refusal.ensures
+pub returns-in-Err : goal.returns-in-Err
+returns-in-Err c =
+    file_refused c.read-outcome.ensures c.in-Err.is c.list_refusal.ensures
 
-pub returns-in-Done : goal.returns-in-Done
-returns-in-Done c =
-    file_accepted c.read-outcome.ensures c.in-Done.is c.list_unit.ensures
+pub returns-in-Ok : goal.returns-in-Ok
+returns-in-Ok c =
+    file_accepted c.read-outcome.ensures c.in-Ok.is c.list_unit.ensures

@@ -13,4 +13,4 @@ hand_out-requires c = omega (arith, c.put_line-end.ensures.few, put_front_length
 
 pub returns : goal.returns
 returns c =
-    printed_as (put_front (number_line_lem (ascii "refused ") c.number_in.ensures c.put_line-end.ensures)) c.hand_out.ensures
+    printed_as (put_front (number_line_lem (ascii "refused ") c.from.ensures c.put_line-end.ensures)) c.hand_out.ensures

@@ -1,10 +1,6 @@
 -- `listing::put_functions` meets its contract: each turn adds the lines of one function. Assumes nothing.
-use Prim.Native.Nat.{◌-◌, ◌≤◌}
 use Rattle.listing.specs.Inner.{ToldAll}
 use Rattle.listing.proofs.put_functions.Given as goal
 
 abbrev pub invariant-loop-tag : goal.invariant-loop-tag
-invariant-loop-tag l = (l.tag ≤ l.u.functions) × ToldAll l.u l.tag l.initial.out l.out l.at
-
-abbrev pub decreases-loop-tag : goal.decreases-loop-tag
-decreases-loop-tag l = l.u.functions - l.tag
+invariant-loop-tag l = ToldAll l.u l.tag l.initial.out l.out l.at

@@ -1,10 +1,9 @@
--- `loops::turned` meets its contract: the bytes before i stand turned. Assumes nothing.
-use Prim.Native.Nat.{◌-◌}
-use Rattle.loops.proofs.PlanLaws.{Turning}
+-- `loops::turned` meets its contract. The loop's invariant: the latencies passed stand in front of zeros. Assumes nothing.
+use mathlib.Core.Path.{◌≡◌}
+use Rattle.diagram.proofs.CopyLaws.{front}
+use Rattle.planner.proofs.PlanLaws.{zeros}
+use Rattle.loops.specs.Inner.{cycle_in}
 use Rattle.loops.proofs.turned.Given as goal
 
 abbrev pub invariant-loop-i : goal.invariant-loop-i
-invariant-loop-i l = Turning l.work l.count l.first l.bytes l.i
-
-abbrev pub decreases-loop-i : goal.decreases-loop-i
-decreases-loop-i l = l.count - l.i
+invariant-loop-i l = l.bytes ≡ front (cycle_in l.work l.count) zeros l.i

@@ -1,22 +1,14 @@
--- `plan_record::all_zero` meets its contract. The loop's invariant: the bytes passed are 0. Assumes nothing.
-use mathlib.Core.Path.{sym}
-use native.Mathlib.Omega.{arith}
-use borrow.Author.Count.{below_more}
-use Rattle.plan_record.proofs.ListLaws.{zeros_all, zeros_not}
+-- `plan_record::all_zero` meets its contract. Assumes nothing.
+use mathlib.Core.Path.{◌∙◌}
+use borrow.Author.Rules.{rules}
+use borrow.Author.Tests.{tests}
+use lib.Dec.{eqb}
+use Rattle.std.proofs.lemmas.Iterator.{YieldsList-from_slice}
+use Rattle.std.proofs.lemmas.Iterator.Search.{all_from_yields_List}
+use Rattle.plan_record.proofs.ListLaws.{zeros}
 use Rattle.plan_record.proofs.all_zero.Goals as goal
-
-pub loop-i-init : goal.loop-i-init
-loop-i-init c = (omega arith, λ k h. absurd (omega arith))
-
-pub returns-then-bytes-i-ne0 : goal.returns-then-bytes-i-ne0
-returns-then-bytes-i-ne0 c =
-    sym (zeros_not c.args.bytes.now c.loop-i.i c.loop-i-test.true c.if-bytes-i-ne0.true)
-
-pub loop-i-preserved : goal.loop-i-preserved
-loop-i-preserved c =
-    (omega arith, below_more _ c.loop-i.i c.loop-i.invariant.1 c.if-bytes-i-ne0.false)
 
 pub returns : goal.returns
 returns c =
-    let a = c.args in
-    sym (zeros_all a.bytes.now (λ k h. c.loop-i.invariant.1 k (omega (arith, c.loop-i-test.false))))
+    let b = c.args.bytes.now in
+    all_from_yields_List (λ x. eqb x 0) _ _ _ c.all.ensures.ran (YieldsList-from_slice b cc) (λ x r q k. search (rules, tests)) ∙ zeros b

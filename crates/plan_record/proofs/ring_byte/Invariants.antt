@@ -1,10 +1,6 @@
 -- `plan_record::ring_byte` meets its contract. The loop's invariant: the bits passed are made. Assumes nothing.
-use Prim.Native.Nat.{◌≤◌, ◌-◌}
 use Rattle.plan_record.proofs.TurnLaws.{Turn}
 use Rattle.plan_record.proofs.ring_byte.Given as goal
 
 abbrev pub invariant-loop-bit : goal.invariant-loop-bit
-invariant-loop-bit l = (l.j ≤ 1024) × Turn l.list l.j l.bit l.byte l.passed l.start
-
-abbrev pub decreases-loop-bit : goal.decreases-loop-bit
-decreases-loop-bit l = 8 - l.bit
+invariant-loop-bit l = Turn l.list l.j l.bit l.byte l.passed l.start

@@ -3,7 +3,6 @@ use Prim.Native.Nat.{ℕ, ◌-◌}
 use mathlib.Core.Path.{◌≡◌, refl, sym, ap, ap₂, ◌∙◌}
 use mathlib.Core.List.{List, ◌++◌}
 use native.Mathlib.Omega.{arith}
-use borrow.Author.Rules.{rules}
 use lib.ListN.{length, set, replicate}
 use Rattle.diagram.proofs.CopyLaws.{front, front_more}
 use Rattle.planner.specs.Inner.{found}
@@ -12,23 +11,14 @@ use Rattle.planner.proofs.bytes_of.Goals as goal
 
 pub loop-i-init : goal.loop-i-init
 unfolding zeros
-loop-i-init c = (search rules, refl)
-
-pub bounds-work-i : goal.bounds-work-i
-bounds-work-i c = omega (arith, c.requires.room, c.requires.few)
-
-pub overflow_cast-bytes : goal.overflow_cast-bytes
-overflow_cast-bytes c = record { fits = c.requires.small c.loop-i.i c.loop-i-test.true }
-
-pub bounds-bytes-i : goal.bounds-bytes-i
-bounds-bytes-i c = omega (arith, c.requires.few)
+loop-i-init c = refl
 
 pub loop-i-preserved : goal.loop-i-preserved
 loop-i-preserved c =
     let w = c.args.work.now in
     let n = c.args.count in
     let e = front_more (found w n) zeros c.loop-i.i (omega (arith, found_length w n c.requires)) (omega (arith, c.requires.few, zeros_length)) in
-    (search rules, ap₂ (λ (x : List ℕ) (y : ℕ). set x c.loop-i.i y) c.loop-i.invariant.1 (sym (found_at w n c.loop-i.i c.loop-i-test.true)) ∙ e)
+    ap₂ (λ (x : List ℕ) (y : ℕ). set x c.loop-i.i y) c.loop-i.invariant (sym (found_at w n c.loop-i.i c.loop-i-test.true)) ∙ e
 
 pub returns : goal.returns
 returns c =
@@ -36,4 +26,4 @@ returns c =
     let n = c.args.count in
     let m = found_length w n c.requires in
     let e : c.loop-i.i ≡ length (found w n) = omega (arith, c.loop-i-test.false, m) in
-    c.loop-i.invariant.1 ∙ ap (front (found w n) zeros) e ∙ front_zeros (found w n) ∙ ap (λ k. found w n ++ replicate (256 - k) 0) m
+    c.loop-i.invariant ∙ ap (front (found w n) zeros) e ∙ front_zeros (found w n) ∙ ap (λ k. found w n ++ replicate (256 - k) 0) m

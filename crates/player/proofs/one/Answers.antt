@@ -1,6 +1,6 @@
 -- The player of one call meets its contract: one law for each kind of call. Assumes nothing.
 use mathlib.Core.Path.{refl}
-use Rattle.player.proofs.TurnLaws.{mark_turn, unmark_turn, search_turn, read_turn}
+use Rattle.player.proofs.TurnLaws.{handed_bytes, refused_bytes, mark_turn, unmark_turn, search_turn, read_turn}
 use Rattle.player.proofs.one.Goals as goal
 
 pub returns-then-kind-eq0 : goal.returns-then-kind-eq0
@@ -21,8 +21,10 @@ returns-then-kind-eq2 c =
     search_turn a.u a.kind a.tag a.segment a.column a.work.now c.told-then-kind-eq2.result.number c.told-then-kind-eq2.result.plan c.told-then-kind-eq2.result.unit
     c.search.result c.search.new.work c.if-kind-eq0.false c.if-kind-eq1.false c.if-kind-eq2.true c.search.ensures c.told-then-kind-eq2.ensures
 
-pub returns : goal.returns
-returns c =
-    let a = c.args in
-    read_turn a.u a.kind a.tag a.segment a.column a.work.now c.number_in-number.result c.read-handed.result.plan a.u
-    c.read-handed.result c.if-kind-eq0.false c.if-kind-eq1.false c.if-kind-eq2.false c.read-handed.ensures c.number_in-number.ensures refl refl
+pub returns-in-Ok : goal.returns-in-Ok
+returns-in-Ok c =
+    read_turn _ _ _ _ _ _ _ _ _ _ c.if-kind-eq0.false c.if-kind-eq1.false c.if-kind-eq2.false c.in-Ok.ensures (handed_bytes _) refl
+
+pub returns-in-Err : goal.returns-in-Err
+returns-in-Err c =
+    read_turn _ _ _ _ _ _ _ _ _ _ c.if-kind-eq0.false c.if-kind-eq1.false c.if-kind-eq2.false c.in-Err.ensures (refused_bytes _ c.from.ensures c.no_plan.ensures) refl

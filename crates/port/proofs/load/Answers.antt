@@ -1,25 +1,13 @@
--- `port::load` meets its contract: before a record is copied out, those before it have been. Assumes nothing.
-use Prim.Native.Nat.{suc, ◌+◌, ◌<◌}
-use mathlib.Core.Path.{◌≡◌, ap, ◌∙◌}
-use mathlib.Core.List.{List}
-use native.Mathlib.Omega.{arith}
-use lib.ListN.{length, set, get_or}
+-- `port::load` meets its contract: what was copied out stands in front of records that stay empty. Assumes nothing.
+use mathlib.Core.Path.{refl, ap, ap₂, ◌∙◌}
+use mathlib.Core.List.{List, ◌++◌}
+use lib.ListN.{drop}
+use Rattle.std.proofs.lemmas.List.{drop-replicate}
 use Rattle.queue.specs.declared.Waiting.{Waiting}
 use Rattle.queue.specs.Line.{no_record}
-use Rattle.port.specs.Inner.{loaded_of}
-use Rattle.port.proofs.LoadLaws.{loaded_more}
 use Rattle.port.proofs.load.Goals as goal
 
-pub loop-at-preserved : goal.loop-at-preserved
-loop-at-preserved c =
-    let ys = c.args.list.now in
-    let j = c.loop-at.at in
-    let e : suc j ≡ j + 1 = omega arith in
-    let there : j < length ys = omega (arith, c.requires, c.loop-at-test.true) in
-    let few : j < 32 = omega (arith, c.requires, c.loop-at-test.true) in (
-      c.with_record-records.ensures
-          ∙ ap (λ (x : List Waiting). set x j (get_or ys j no_record)) c.loop-at.invariant.0
-          ∙ loaded_more ys j there few
-          ∙ ap (loaded_of ys) e,
-      omega arith,
-    )
+pub returns : goal.returns
+returns c =
+    let n = c.args.count in
+    (ap₂ (λ (x y : List Waiting). x ++ y) c.copy_from_slice.ensures.after (ap (drop n) c.no_records.ensures ∙ drop-replicate n 32 no_record), refl)

@@ -1,30 +1,41 @@
--- `queue::time_unit` meets its contract: what `look_over` shows decides the answer, and the first record leaves the list where one record less waits.
--- Assumes nothing.
+-- `queue::time_unit` meets its contract: its tests, and then the oldest record, if one waits. Assumes nothing.
+use mathlib.Core.Path.{sym, ap, ◌∙◌}
+use Prim.Native.Nat.{◌-◌}
 use native.Mathlib.Omega.{arith}
-use lib.ListN.{length}
-use Rattle.queue.proofs.ShownLaws.{shown_most}
-use Rattle.queue.proofs.LentLaws.{fits, passes, moved, stays}
+use lib.ListN.{get_or}
+use Rattle.std.proofs.Common.{Ok, Some}
+use Rattle.controller.specs.declared.Stepped.{Stepped}
+use Rattle.controller.specs.Bank.{step_of}
+use Rattle.queue.specs.Line.{no_record}
+use Rattle.queue.specs.Calls.{unit_answer}
+use Rattle.queue.proofs.LineLaws.{copied_forward}
+use Rattle.queue.proofs.CoreLaws.{passes, leaves, refused, none_waits, started, not_started}
 use Rattle.queue.proofs.time_unit.Goals as goal
 
-pub look_over-s-requires : goal.look_over-s-requires
-look_over-s-requires c = omega (arith, c.shown-n.ensures, shown_most 32 (length c.args.list.now) c.args.count)
+pub returns-in-Err : goal.returns-in-Err
+unfolding unit_answer
+returns-in-Err c =
+    let did = refused 32 c.args.u c.args.bank c.args.list.now c.args.count _ (sym c.check_unit.ensures ∙ c.in-Err.is) in
+    (passes 32 _ _ _ _ _ did, leaves 32 _ _ _ _ _ did)
 
-pub passing-after-requires : goal.passing-after-requires
-passing-after-requires c =
-    let a = c.args in
-    fits a.u a.list.now _ a.count _ _ c.shown-n.ensures c.look_over-s.ensures.0 c.look_over-s.ensures.1 a.bank
+pub returns-then-count-eq0 : goal.returns-then-count-eq0
+unfolding unit_answer
+returns-then-count-eq0 c =
+    let did = none_waits 32 c.args.u c.args.bank c.args.list.now c.args.count (sym c.check_unit.ensures ∙ c.in_default.is) c.if-count-eq0.true in
+    (c.idled.ensures ∙ passes 32 _ _ _ _ _ did, leaves 32 _ _ _ _ _ did)
 
-pub returns-then-after-count : goal.returns-then-after-count
-returns-then-after-count c =
-    let a = c.args in (
-      passes a.u a.list.now _ a.count _ _ c.shown-n.ensures c.look_over-s.ensures.0 c.look_over-s.ensures.1 a.bank _ c.passing-after.ensures,
-      moved a.u a.list.now _ a.count _ _ c.shown-n.ensures c.look_over-s.ensures.0 c.look_over-s.ensures.1 a.bank _ c.passing-after.ensures
-          c.if-after-count.true _ c.remove_first.ensures.1,
-    )
+pub returns-in-Err-answer : goal.returns-in-Err-answer
+unfolding unit_answer step_of
+returns-in-Err-answer c =
+    let did = not_started 32 c.args.u c.args.bank c.args.list.now c.args.count (sym c.check_unit.ensures ∙ c.in_default.is) (omega arith) _
+    (sym (ap (λ (x : Stepped). x.answer) c.step-after.ensures) ∙ c.in-Err-answer.is) in
+    (c.idled-in-Err-answer.ensures ∙ passes 32 _ _ _ _ _ did, leaves 32 _ _ _ _ _ did)
 
-pub returns-else-after-count : goal.returns-else-after-count
-returns-else-after-count c =
-    let a = c.args in (
-      passes a.u a.list.now _ a.count _ _ c.shown-n.ensures c.look_over-s.ensures.0 c.look_over-s.ensures.1 a.bank _ c.passing-after.ensures,
-      stays a.u a.list.now _ a.count _ _ c.shown-n.ensures c.look_over-s.ensures.0 c.look_over-s.ensures.1 a.bank _ c.passing-after.ensures c.if-after-count.false,
+pub returns-in-Ok : goal.returns-in-Ok
+unfolding unit_answer step_of
+returns-in-Ok c =
+    let did = started 32 c.args.u c.args.bank c.args.list.now c.args.count (sym c.check_unit.ensures ∙ c.in_default.is) (omega arith)
+    (sym (ap (λ (x : Stepped). x.answer) c.step-after.ensures) ∙ c.in-Ok.is) in (
+      ap (λ (x : Stepped). record { answer = Ok (Some (get_or c.args.list.now 0 no_record)); bank = x.bank; count = c.args.count - 1 }) c.step-after.ensures ∙ passes 32 _ _ _ _ _ did,
+      copied_forward _ _ _ c.copy_within.ensures.after ∙ leaves 32 _ _ _ _ _ did,
     )

@@ -1,12 +1,9 @@
 -- `queue_text::numbers_of` meets its contract: before record i, the numbers of those before it are in. Assumes nothing.
 use mathlib.Core.Path.{◌≡◌}
-use Prim.Native.Nat.{◌-◌, ◌*◌, ◌≤◌}
+use Prim.Native.Nat.{◌*◌}
 use lib.ListN.{length, take}
 use Rattle.queue_text.specs.Told.{flat}
 use Rattle.queue_text.proofs.numbers_of.Given as goal
 
 abbrev pub invariant-loop-i : goal.invariant-loop-i
-invariant-loop-i l = (take (2 * l.i) l.numbers ≡ flat (take l.i l.list)) × (length l.numbers ≡ 64) × (l.i ≤ l.count)
-
-abbrev pub decreases-loop-i : goal.decreases-loop-i
-decreases-loop-i l = l.count - l.i
+invariant-loop-i l = (take (2 * l.i) l.numbers ≡ flat (take l.i l.waiting-items)) × (length l.numbers ≡ 64)

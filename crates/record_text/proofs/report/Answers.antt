@@ -9,10 +9,10 @@ use Rattle.record_text.proofs.report.Goals as goal
 
 pub put_list-requires : goal.put_list-requires
 put_list-requires c =
-    omega (arith, ap length c.report_list-list.ensures, list_few _ _ (sym c.report-shown.ensures ∙ c.in-Number.is))
+    omega (arith, ap length c.report_list-list.ensures, list_few _ _ (sym c.report-shown.ensures ∙ c.in-Ok.is))
 
-pub returns-in-Refused : goal.returns-in-Refused
-returns-in-Refused c = report_refused _ _ _ _ _ (sym c.report-shown.ensures ∙ c.in-Refused.is) c.put_answer.ensures
+pub returns-in-Err : goal.returns-in-Err
+returns-in-Err c = report_refused _ _ _ _ _ (sym c.report-shown.ensures ∙ c.in-Err.is) c.put_answer.ensures
 
-pub returns-in-Number : goal.returns-in-Number
-returns-in-Number c = report_shown _ _ _ _ _ (sym c.report-shown.ensures ∙ c.in-Number.is) (line_as (ap (list_line _) c.report_list-list.ensures) c.put_list.ensures)
+pub returns-in-Ok : goal.returns-in-Ok
+returns-in-Ok c = report_shown _ _ _ _ _ (sym c.report-shown.ensures ∙ c.in-Ok.is) (line_as (ap (list_line _) c.report_list-list.ensures) c.put_list.ensures)

@@ -2,10 +2,10 @@
 use Rattle.session.proofs.SessionLaws.{taken_refused, taken_done}
 use Rattle.session.proofs.take_unit.Goals as goal
 
-pub returns-in-Refused : goal.returns-in-Refused
-returns-in-Refused c = let a = c.args in taken_refused a.session a.made.unit c.in-Refused.is c.put_answer-end.ensures
+pub returns-in-Err : goal.returns-in-Err
+returns-in-Err c = let a = c.args in taken_refused a.session a.made.unit c.in-Err.is c.put_answer-end.ensures
 
-pub returns-in-Done : goal.returns-in-Done
-returns-in-Done c =
+pub returns-in-Ok : goal.returns-in-Ok
+returns-in-Ok c =
     let a = c.args in
-    taken_done a.session a.made.unit c.in-Done.is c.empty_queue-queue.ensures c.empty_shared-shared.ensures c.put_answer-end.ensures
+    taken_done a.session a.made.unit c.in-Ok.is c.empty_queue-queue.ensures c.empty_shared-shared.ensures c.put_answer-end.ensures

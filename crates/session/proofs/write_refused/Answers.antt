@@ -6,5 +6,5 @@ use Rattle.session.proofs.write_refused.Goals as goal
 
 pub returns : goal.returns
 returns c =
-    refused_wrote c.args.why c.number_in.ensures c.requires (value_wrote (ascii "refused ") _ (omega arith) (c.put-after_word.ensures.value, c.put-after_word.ensures.out_after) (c.put_number-after_number.ensures.value, c.put_number-after_number.ensures.out_after))
+    refused_wrote c.args.why c.from.ensures c.requires (value_wrote (ascii "refused ") _ (omega arith) (c.put-after_word.ensures.value, c.put-after_word.ensures.out_after) (c.put_number-after_number.ensures.value, c.put_number-after_number.ensures.out_after))
     (c.put.ensures.value, c.put.ensures.out_after)

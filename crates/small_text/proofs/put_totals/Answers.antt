@@ -4,8 +4,8 @@ use Rattle.session.proofs.LineLaws.{line_as}
 use Rattle.small_text.specs.Told.{totalled_line}
 use Rattle.small_text.proofs.put_totals.Goals as goal
 
-pub returns-in-Value : goal.returns-in-Value
-returns-in-Value c = line_as (ap totalled_line (sym c.in-Value.is)) c.put_line.ensures
+pub returns-in-Ok : goal.returns-in-Ok
+returns-in-Ok c = line_as (ap totalled_line (sym c.in-Ok.is)) c.put_line.ensures
 
-pub returns-in-Refused : goal.returns-in-Refused
-returns-in-Refused c = line_as (ap totalled_line (sym c.in-Refused.is)) c.put_answer.ensures
+pub returns-in-Err : goal.returns-in-Err
+returns-in-Err c = line_as (ap totalled_line (sym c.in-Err.is)) c.put_answer.ensures

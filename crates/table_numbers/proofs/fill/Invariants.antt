@@ -1,11 +1,7 @@
--- `table_numbers::fill` meets its contract. The loop's invariant: the columns passed are filled. Assumes nothing.
-use Prim.Native.Nat.{◌+◌, ◌-◌, ◌≤◌}
-use mathlib.Core.Path.{◌≡◌}
+-- The columns passed are filled.
+use Rattle.std.proofs.Common.{◌≡◌}
 use Rattle.table_numbers.specs.Inner.{unit_before}
 use Rattle.table_numbers.proofs.fill.Given as goal
 
 abbrev pub invariant-loop-column : goal.invariant-loop-column
-invariant-loop-column l = (1 ≤ l.column) × (l.column ≤ l.columns + 1) × (l.unit ≡ unit_before l.segments l.columns l.number l.column)
-
-abbrev pub decreases-loop-column : goal.decreases-loop-column
-decreases-loop-column l = l.columns + 1 - l.column
+invariant-loop-column l = l.unit ≡ unit_before l.segments l.columns l.number l.column

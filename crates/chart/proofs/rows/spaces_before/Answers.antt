@@ -2,20 +2,13 @@
 use Prim.Native.Nat.{◌/◌}
 use mathlib.Core.Path.{sym, subst}
 use native.Mathlib.Omega.{arith}
-use borrow.Author.Rules.{rules}
 use Rattle.text.proofs.DecimalLaws.{decimal_length}
-use Rattle.chart.proofs.DigitLaws.{Counted, counted_start, counted_space, counted_digit, counted_few, counted_end}
+use Rattle.chart.proofs.DigitLaws.{Counted, counted_space, counted_digit, counted_few, counted_end}
 use Rattle.chart.proofs.rows.spaces_before.Goals as goal
 use Rattle.chart.proofs.rows.spaces_before.Goals.{then-rest-lt10, else-rest-lt10}
 
-pub loop-room-init : goal.loop-room-init
-loop-room-init c = (counted_start _ _ c.requires (search rules), search rules)
-
 pub overflow_add-spaces : goal.overflow_add-spaces
 overflow_add-spaces c = omega (arith, counted_few _ _ _ _ _ c.loop-room.invariant.0, decimal_length c.args.most 10 (omega arith) (omega (arith, c.loop-room.invariant.1)))
-
-pub loop-room-smaller : goal.loop-room-smaller
-loop-room-smaller c = omega arith
 
 pub loop-room-preserved : goal.loop-room-preserved
 loop-room-preserved c =

@@ -8,4 +8,4 @@ pub returns-in_default : goal.returns-in_default
 returns-in_default c = ap narrow (other_told _ (sym c.in_default.is ∙ c.number_of.ensures)).1
 
 pub returns : goal.returns
-returns c = c.byte.ensures ∙ ap narrow (number_told_lem _ _ (sym c.in-Number.is ∙ c.number_of.ensures)).1
+returns c = c.byte.ensures ∙ ap narrow (number_told_lem _ _ (sym c.in-Some.is ∙ c.number_of.ensures)).1

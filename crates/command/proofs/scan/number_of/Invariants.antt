@@ -1,11 +1,6 @@
--- `command::scan::number_of` meets its contract. Assumes nothing.
-use Prim.Native.Nat.{◌-◌}
-use lib.ListN.{length}
+-- The bytes passed are digits, and say the number.
 use Rattle.command.proofs.NumberLaws.{Read}
 use Rattle.command.proofs.scan.number_of.Given as goal
 
-abbrev pub invariant-loop-i : goal.invariant-loop-i
-invariant-loop-i l = Read l.word l.i l.number
-
-abbrev pub decreases-loop-i : goal.decreases-loop-i
-decreases-loop-i l = length l.word - l.i
+abbrev pub invariant-loop-byte : goal.invariant-loop-byte
+invariant-loop-byte l = Read l.word l.byte-index l.number

@@ -1,12 +1,12 @@
--- `graph::dots::settled` meets its contract. The loop's invariant: the state before the next start. Assumes nothing.
+-- `graph::dots::settled` meets its contract. The loops' invariants: the state before the next start. Assumes nothing.
 use mathlib.Core.Path.{◌≡◌}
-use Prim.Native.Nat.{◌-◌, ◌*◌, ◌≤◌}
+use Prim.Native.Nat.{◌+◌, ◌*◌}
 use lib.ListN.{length}
 use Rattle.graph.specs.Dot.{state_before}
 use Rattle.graph.proofs.dots.settled.Given as goal
 
-abbrev pub invariant-loop-passed : goal.invariant-loop-passed
-invariant-loop-passed l = (l.passed ≤ 32 * length l.cycle) × (l.state ≡ state_before l.vector l.cycle l.passed)
+abbrev pub invariant-loop-latency : goal.invariant-loop-latency
+invariant-loop-latency l = l.state ≡ state_before l.vector l.cycle (l.counter * length l.cycle + l.latency-index)
 
-abbrev pub decreases-loop-passed : goal.decreases-loop-passed
-decreases-loop-passed l = 32 * length l.cycle - l.passed
+abbrev pub invariant-loop : goal.invariant-loop
+invariant-loop l = l.state ≡ state_before l.vector l.cycle (l.counter * length l.cycle)

@@ -1,11 +1,6 @@
 -- `graph::dots::turn_states` meets its contract. The loop's invariant: the states before the starts passed are noted. Assumes nothing.
-use Prim.Native.Nat.{◌-◌}
-use lib.ListN.{length}
 use Rattle.graph.proofs.DotLaws.{Turning}
 use Rattle.graph.proofs.dots.turn_states.Given as goal
 
 abbrev pub invariant-loop-j : goal.invariant-loop-j
 invariant-loop-j l = Turning l.vector l.cycle l.on l.state l.j
-
-abbrev pub decreases-loop-j : goal.decreases-loop-j
-decreases-loop-j l = length l.cycle - l.j

@@ -14,21 +14,21 @@ returns-in_default c = greedy_handed c.requires.0 c.greedy-found.ensures.0 c.in_
 
 pub slice_bounds-cycle-end : goal.slice_bounds-cycle-end
 slice_bounds-cycle-end c =
-    let stands : Standing (greedy_of 1 (marked c.args.u) c.args.tag.0) c.in-Cycle.counted.count c.in-Cycle.counted.sum c.greedy-found.new.out = greedy_stands c.requires.0 (replicate 256 0) refl c.greedy-found.ensures.0 c.greedy-found.ensures.1 c.in-Cycle.is in
+    let stands : Standing (greedy_of 1 (marked c.args.u) c.args.tag.0) c.in-Ok.counted.count c.in-Ok.counted.sum c.greedy-found.new.out = greedy_stands c.requires.0 (replicate 256 0) refl c.greedy-found.ensures.0 c.greedy-found.ensures.1 c.in-Ok.is in
     stands.room
 
 pub slice_bounds-put_cycle-end-2 : goal.slice_bounds-put_cycle-end-2
 slice_bounds-put_cycle-end-2 c =
-    let stands : Standing (greedy_of 1 (marked c.args.u) c.args.tag.0) c.in-Cycle.counted.count c.in-Cycle.counted.sum c.greedy-found.new.out = greedy_stands c.requires.0 (replicate 256 0) refl c.greedy-found.ensures.0 c.greedy-found.ensures.1 c.in-Cycle.is in
+    let stands : Standing (greedy_of 1 (marked c.args.u) c.args.tag.0) c.in-Ok.counted.count c.in-Ok.counted.sum c.greedy-found.new.out = greedy_stands c.requires.0 (replicate 256 0) refl c.greedy-found.ensures.0 c.greedy-found.ensures.1 c.in-Ok.is in
     standing_part stands
 
 pub put_cycle-requires : goal.put_cycle-requires
 put_cycle-requires c =
-    let stands : Standing (greedy_of 1 (marked c.args.u) c.args.tag.0) c.in-Cycle.counted.count c.in-Cycle.counted.sum c.greedy-found.new.out = greedy_stands c.requires.0 (replicate 256 0) refl c.greedy-found.ensures.0 c.greedy-found.ensures.1 c.in-Cycle.is in
+    let stands : Standing (greedy_of 1 (marked c.args.u) c.args.tag.0) c.in-Ok.counted.count c.in-Ok.counted.sum c.greedy-found.new.out = greedy_stands c.requires.0 (replicate 256 0) refl c.greedy-found.ensures.0 c.greedy-found.ensures.1 c.in-Ok.is in
     let s = stands in
     omega (arith, s.few, s.counts, standing_part s, c.requires.1)
 
 pub returns : goal.returns
 returns c =
-    let stands : Standing (greedy_of 1 (marked c.args.u) c.args.tag.0) c.in-Cycle.counted.count c.in-Cycle.counted.sum c.greedy-found.new.out = greedy_stands c.requires.0 (replicate 256 0) refl c.greedy-found.ensures.0 c.greedy-found.ensures.1 c.in-Cycle.is in
+    let stands : Standing (greedy_of 1 (marked c.args.u) c.args.tag.0) c.in-Ok.counted.count c.in-Ok.counted.sum c.greedy-found.new.out = greedy_stands c.requires.0 (replicate 256 0) refl c.greedy-found.ensures.0 c.greedy-found.ensures.1 c.in-Ok.is in
     standing_line (ascii "greedy") 1046 stands (omega arith) c.put_cycle.ensures

@@ -14,18 +14,18 @@ returns-in_default c =
 
 pub put_greedy-after_greedy-requires : goal.put_greedy-after_greedy-requires
 put_greedy-after_greedy-requires c =
-    let counted : Counted c.args.u c.args.tag.0 c.in-Value.count = states_counted c.requires.0 c.states-counted.ensures.0 c.in-Value.is in
+    let counted : Counted c.args.u c.args.tag.0 c.in-Ok.count = states_counted c.requires.0 c.states-counted.ensures.0 c.in-Ok.is in
     let small : Small c.args.u c.args.tag.0 = record { function = c.requires.0; few = counted.few } in
     (small, omega arith)
 
 pub put_best-requires : goal.put_best-requires
 put_best-requires c =
-    let counted : Counted c.args.u c.args.tag.0 c.in-Value.count = states_counted c.requires.0 c.states-counted.ensures.0 c.in-Value.is in
+    let counted : Counted c.args.u c.args.tag.0 c.in-Ok.count = states_counted c.requires.0 c.states-counted.ensures.0 c.in-Ok.is in
     let small : Small c.args.u c.args.tag.0 = record { function = c.requires.0; few = counted.few } in
     (small, omega arith)
 
 pub returns : goal.returns
 returns c =
-    let counted : Counted c.args.u c.args.tag.0 c.in-Value.count = states_counted c.requires.0 c.states-counted.ensures.0 c.in-Value.is in
+    let counted : Counted c.args.u c.args.tag.0 c.in-Ok.count = states_counted c.requires.0 c.states-counted.ensures.0 c.in-Ok.is in
     let n = counted in
     lines_few n.few (number_line_lem (ascii "states ") n.states c.put_line-after_states.ensures) c.put_greedy-after_greedy.ensures c.put_best.ensures

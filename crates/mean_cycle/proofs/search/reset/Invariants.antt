@@ -1,10 +1,7 @@
 -- `mean_cycle::search::reset` meets its contract: the nodes below y are cleared. Assumes nothing.
-use Prim.Native.Nat.{◌≤◌, ◌-◌}
+use Prim.Native.Nat.{◌≤◌}
 use Rattle.mean_cycle.specs.Inner.{Cleared}
 use Rattle.mean_cycle.proofs.search.reset.Given as goal
 
 abbrev pub invariant-loop-y : goal.invariant-loop-y
 invariant-loop-y l = (l.y ≤ l.nodes) × Cleared l.initial.work l.work l.y
-
-abbrev pub decreases-loop-y : goal.decreases-loop-y
-decreases-loop-y l = l.nodes - l.y

@@ -6,6 +6,3 @@ use Rattle.mean_cycle.proofs.search.trace.Given as goal
 abbrev pub invariant-loop-j : goal.invariant-loop-j
 invariant-loop-j l =
     (h : Traceable l.initial.work l.v l.t l.k) × Tracing l.initial.work l.work h.n l.v l.t l.k h.x l.sum l.y l.j
-
-abbrev pub decreases-loop-j : goal.decreases-loop-j
-decreases-loop-j l = l.j

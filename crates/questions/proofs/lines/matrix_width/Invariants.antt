@@ -1,13 +1,9 @@
 -- `questions::lines::matrix_width` meets its contract. The loop's invariant: the greatest width of the rows passed is kept. Assumes nothing.
 use mathlib.Core.Path.{◌≡◌}
-use Prim.Native.Nat.{◌-◌, ◌≤◌}
 use Rattle.words.specs.Below.{max_below}
 use Rattle.unit.specs.Unit.{marked}
 use Rattle.questions.proofs.WidthLaws.{row_width}
 use Rattle.questions.proofs.lines.matrix_width.Given as goal
 
 abbrev pub invariant-loop-tag : goal.invariant-loop-tag
-invariant-loop-tag l = (l.tag ≤ 4) × (l.widest ≡ max_below l.tag (row_width (marked l.u) l.r.0))
-
-abbrev pub decreases-loop-tag : goal.decreases-loop-tag
-decreases-loop-tag l = 4 - l.tag
+invariant-loop-tag l = l.widest ≡ max_below l.tag (row_width (marked l.u) l.r.0)

@@ -8,4 +8,4 @@ use Rattle.questions.proofs.lines.put_refusal.Goals as goal
 
 pub returns : goal.returns
 returns c =
-    wrote_as c.put_value.ensures (ap (λ n. ascii "refused " ++ decimal n ++ newline) c.number_in.ensures)
+    wrote_as c.put_value.ensures (ap (λ n. ascii "refused " ++ decimal n ++ newline) c.from.ensures)

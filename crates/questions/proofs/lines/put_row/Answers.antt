@@ -10,10 +10,10 @@ pub put_columns-requires : goal.put_columns-requires
 put_columns-requires c =
     (omega arith, omega (arith, c.matrix_width-columns.ensures, matrix_most (marked c.args.u) c.args.r.0), c.requires)
 
-pub returns-in-Refused : goal.returns-in-Refused
-returns-in-Refused c =
-    wrote_as c.put_refusal.ensures (row_refused _ _ _ c.matrix_row-asked.ensures c.in-Refused.is)
+pub returns-in-Err : goal.returns-in-Err
+returns-in-Err c =
+    wrote_as c.put_refusal.ensures (row_refused _ _ _ c.matrix_row-asked.ensures c.in-Err.is)
 
-pub returns-in-Value : goal.returns-in-Value
-returns-in-Value c =
-    wrote_as c.put_columns.ensures (row_shown _ _ _ c.matrix_row-asked.ensures c.in-Value.is c.matrix_width-columns.ensures)
+pub returns-in-Ok : goal.returns-in-Ok
+returns-in-Ok c =
+    wrote_as c.put_columns.ensures (row_shown _ _ _ c.matrix_row-asked.ensures c.in-Ok.is c.matrix_width-columns.ensures)

@@ -7,12 +7,12 @@ use Rattle.questions.proofs.lines.put_vector.Goals as goal
 
 pub put_columns-requires : goal.put_columns-requires
 put_columns-requires c =
-    (omega arith, omega (arith, c.width_of-columns.ensures, width_le c.in-Value.vector), c.requires)
+    (omega arith, omega (arith, c.width_of-columns.ensures, width_le c.in-Ok.vector), c.requires)
 
-pub returns-in-Refused : goal.returns-in-Refused
-returns-in-Refused c =
-    wrote_as c.put_refusal.ensures (vector_refused _ _ c.vector-asked.ensures c.in-Refused.is)
+pub returns-in-Err : goal.returns-in-Err
+returns-in-Err c =
+    wrote_as c.put_refusal.ensures (vector_refused _ _ c.vector-asked.ensures c.in-Err.is)
 
-pub returns-in-Value : goal.returns-in-Value
-returns-in-Value c =
-    wrote_as c.put_columns.ensures (vector_shown _ _ c.vector-asked.ensures c.in-Value.is c.width_of-columns.ensures)
+pub returns-in-Ok : goal.returns-in-Ok
+returns-in-Ok c =
+    wrote_as c.put_columns.ensures (vector_shown _ _ c.vector-asked.ensures c.in-Ok.is c.width_of-columns.ensures)

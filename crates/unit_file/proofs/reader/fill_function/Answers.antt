@@ -1,8 +1,4 @@
--- `unit_file::reader::fill_function` meets its contract. The loop's invariant: the columns passed are filled. Assumes nothing.
-use borrow.Author.Rules.{rules}
-use Prim.Native.Nat.{ℕ, ◌+◌}
-use mathlib.Core.Path.{◌≡◌, ap, ap₂, ◌∙◌}
-use native.Mathlib.Omega.{arith}
+use Rattle.std.proofs.Common.{ℕ, ◌≡◌, ◌+◌, ap, ap₂, ◌∙◌, arith}
 use Rattle.unit.specs.declared.FunctionUnit.{FunctionUnit}
 use Rattle.unit.specs.declared.Outcome.{Outcome}
 use Rattle.unit.specs.Calls.{column_of}
@@ -10,20 +6,20 @@ use Rattle.unit_file.specs.Read.{columns_in}
 use Rattle.unit_file.specs.InnerRead.{unit_before}
 use Rattle.unit_file.proofs.FillLaws.{unit_more, unit_next}
 use Rattle.unit_file.proofs.reader.fill_function.Goals as goal
+use Rattle.unit_file.proofs.reader.fill_function.Goals.{After-with_column-given}
+
+-- one column more is filled
+more : (c : After-with_column-given) → c.with_column-given.result.unit ≡ unit_before c.args.file.now c.args.tag (c.loop-column.column + 1)
+more c =
+    ap (λ (o : Outcome). o.unit) c.with_column-given.ensures
+    ∙ ap₂ (λ (u : FunctionUnit) (w : ℕ). (column_of u c.args.tag c.loop-column.column w).unit) c.loop-column.invariant c.column_word-word.ensures
+    ∙ unit_more c.args.file.now c.requires.0 c.args.tag c.loop-column.column c.requires.1 (omega arith)
 
 pub loop-column-preserved : goal.loop-column-preserved
-loop-column-preserved c =
-    let f = c.args.file.now in
-    let k = c.args.tag in (
-      search rules,
-      search rules,
-      ap (λ (o : Outcome). o.unit) c.with_column-given.ensures
-          ∙ ap₂ (λ (u : FunctionUnit) (w : ℕ). (column_of u k c.loop-column.column w).unit) c.loop-column.invariant.2 c.column_word-word.ensures
-          ∙ unit_more f c.requires.0 k c.loop-column.column c.requires.1 (omega arith),
-    )
+loop-column-preserved c = more (goal.at.loop-column-preserved c).After-with_column-given
 
-pub returns : goal.returns
-returns c =
+pub returns-2 : goal.returns-2
+returns-2 c =
     let f = c.args.file.now in
-    let e : c.loop-column.column ≡ columns_in f + 1 = omega (arith, c.loop-column-test.false) in
-    c.loop-column.invariant.2 ∙ ap (unit_before f c.args.tag) e ∙ unit_next f c.requires.0 c.args.tag
+    let e : c.loop-column.column + 1 ≡ columns_in f + 1 = omega arith in
+    more (goal.at.returns-2 c).After-with_column-given ∙ ap (unit_before f c.args.tag) e ∙ unit_next f c.requires.0 c.args.tag
