@@ -1,3 +1,2 @@
 pub mod TellLaws
 pub mod Examples
-pub mod TestLaws

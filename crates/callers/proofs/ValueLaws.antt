@@ -2,11 +2,16 @@
 use Rattle.std.proofs.Common.{Ok, Err}
 use Prim.Native.Nat.{ℕ, ◌-◌}
 use mathlib.Core.Path.{◌≡◌, refl, ap, ◌∙◌, sym}
+use mathlib.Core.Bool.{false}
 use lib.ListN.{length}
 use lib.Seq.{set-get_or}
 use Rattle.unit.specs.declared.FunctionUnit.{FunctionUnit}
 use Rattle.unit.specs.Answers.{Answer}
 use Rattle.unit.specs.declared.Refusal.{Refusal}
+use Rattle.unit.specs.declared.Refusal.TheVariants.{NotSound, NoSuchCaller}
+use Rattle.unit.specs.Unit.{inside, sound_of}
+use Rattle.unit.specs.Calls.{check}
+use Rattle.words.proofs.Tests.{by_test}
 use Rattle.controller.specs.declared.Bank.{Bank}
 use Rattle.queue.specs.declared.Waiting.{Waiting}
 use Rattle.queue.specs.Calls.{count_then, list_then}
@@ -14,10 +19,10 @@ use Rattle.callers.specs.declared.ArrivalOn.{ArrivalOn}
 use Rattle.callers.specs.declared.UnitOn.{UnitOn}
 use Rattle.callers.specs.declared.Shared.{Shared}
 use Rattle.callers.specs.Queues.{queue_of, with_queue, count_of, with_count}
-use Rattle.callers.specs.Calls.{caller_first, arrival_at, arrival_of, arrival_list, caller_of, turned_by, unit_of, list_by, unit_list, call_of, taken_of}
+use Rattle.callers.specs.Calls.{one_of, caller_first, arrival_at, arrival_of, arrival_list, caller_of, turned_by, unit_of, list_by, unit_list, call_of, taken_of}
 use Rattle.callers.specs.Parts.{arrival_in, arrival_on_by, unit_in, unit_on_by}
 use Rattle.callers.proofs.PartLaws.{parts}
-use Rattle.callers.proofs.TestedLaws.{first_refused}
+use Rattle.callers.proofs.TestedLaws.{none_of, first_refused}
 use Rattle.callers.proofs.SameLaws.{arrival_same, passed_same}
 
 -- A time unit
@@ -78,6 +83,16 @@ module _ (u : FunctionUnit) (s : Shared) (i : ℕ) (w : Waiting) where
           };
         };
       }
+
+  first : (why : Refusal) → caller_first u s.callers i (Ok tt) ≡ Err why → record { answer = caller_first u s.callers i (Ok tt); shared = s } ≡ call_of u s i w
+  first why e = (λ j. record { answer = e j; shared = s }) ∙ stays why e
+
+  -- what is none of 4 is refused, whatever the unit
+  pub strays : inside i 4 ≡ false → record { answer = caller_first u s.callers i (Ok tt); shared = s } ≡ call_of u s i w
+  strays e =
+      by_test (sound_of u)
+      (λ t. first NoSuchCaller (ap (λ b. check b NotSound (check (one_of s.callers i) NoSuchCaller (Ok tt))) t ∙ ap (λ b. check b NoSuchCaller (Ok tt)) (none_of s.callers i e)))
+      (λ f. first NotSound (ap (λ b. check b NotSound (check (one_of s.callers i) NoSuchCaller (Ok tt))) f))
 
   pub calls : (n : ℕ) → n ≡ length s.list → (on : ArrivalOn) → on ≡ arrival_on_by i s.list own w (arrival_in u s.callers i n s.list own w.tag)
       → record {

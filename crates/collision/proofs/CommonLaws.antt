@@ -1,13 +1,15 @@
 -- What two functions share at each latency: how the loops collect it, column by column. Assumes nothing.
-use Prim.Native.Nat.{ℕ, zero, suc, ◌+◌, ◌<◌}
+use Prim.Native.Nat.{ℕ, ◌+◌, ◌<◌, ◌≤◌}
 use mathlib.Core.Path.{◌≡◌, refl, ap, ap₂, ◌∙◌, sym}
 use mathlib.Core.Bool.{Bool, true, false, not, ◌||◌}
-use mathlib.Core.List.{List, [], ◌∷◌, ◌++◌}
+use mathlib.Core.List.{List}
 use native.Mathlib.Omega.{arith}
+use native.Mathlib.Decide.{ℕ_discrete, dec_lt}
 use native.Mathlib.Numerals.{add-one}
 use lib.Bits.{bit_and, bit_or, and_le_l, and_le_r, or_add_and}
 use lib.Dec.{eqb}
-use lib.ListN.{get_or, replicate, get_or-replicate}
+use lib.ListN.{length, get_or, set, replicate, length-set, length-replicate, get_or-replicate, get_or-eq_default}
+use lib.Seq.{get_or-set_same, get_or-set_other}
 use borrow.Author.Tests.{eq-eqb, ne_eqb, eqb-true, eqb-false}
 use Rattle.words.specs.Below.{some_below}
 use Rattle.words.proofs.Tests.{by_test}
@@ -16,18 +18,41 @@ use Rattle.collision.specs.Vector.{meet, shared}
 use Rattle.collision.specs.Inner.{SameWords, Joins, nonzero, Common}
 use Rattle.collision.proofs.RowLaws.{meet_and}
 
+-- A list that is written word by word: the first i words have their values, and the others are as before
+
+pub record Filled (value : ℕ → ℕ) (before after : List ℕ) (i : ℕ) : Type 0 where
+  pub long : length after ≡ length before
+  pub done : (j : ℕ) → j < i → get_or after j 0 ≡ value j
+  pub rest : (j : ℕ) → i ≤ j → get_or after j 0 ≡ get_or before j 0
+
+pub filled_start : (value : ℕ → ℕ) (before : List ℕ) → Filled value before before 0
+filled_start value before = record { long = refl; done = λ j h. absurd (omega arith); rest = λ j h. refl }
+
+pub filled_more : (value : ℕ → ℕ) (before after : List ℕ) (i v : ℕ) → i < length before → v ≡ value i → Filled value before after i
+    → Filled value before (set after i v) (i + 1)
+filled_more value before after i v h e f = record { long = length-set after i v ∙ f.long; done = λ j l. done j l (ℕ_discrete j i); rest = rest }
+  where
+    done : (j : ℕ) → j < i + 1 → Dec (j ≡ i) → get_or (set after i v) j 0 ≡ value j
+    done j l (yes d) = rw d (get_or-set_same after i v 0 (omega (arith, f.long)) ∙ e)
+    done j l (no d) = get_or-set_other after i j v 0 d ∙ f.done j (omega arith)
+
+    rest : (j : ℕ) → i + 1 ≤ j → get_or (set after i v) j 0 ≡ get_or before j 0
+    rest j l = get_or-set_other after i j v 0 (λ d. omega arith) ∙ f.rest j (omega arith)
+
 -- Padded columns
 
-zeros : (n k : ℕ) → get_or {A = ℕ} (replicate n 0) k 0 ≡ 0
-zeros zero k = refl
-zeros (suc n) zero = refl
-zeros (suc n) (suc k) = zeros n k
+pub padded_all : (columns wide : List ℕ) → length columns ≡ 32 → Filled (λ j. get_or columns j 0) (replicate 64 0) wide 32 → SameWords columns wide
+padded_all columns wide n f k = go (dec_lt k 32) (dec_lt k 64)
+  where
+    beyond : 32 ≤ k → get_or columns k 0 ≡ 0
+    beyond h = get_or-eq_default columns 0 (omega (arith, n))
 
--- zeros after a list change no word, since an index beyond it has 0 too
-pub zeros_after : (words : List ℕ) (n k : ℕ) → get_or (words ++ replicate n 0) k 0 ≡ get_or words k 0
-zeros_after [] n k = zeros n k
-zeros_after (w ∷ words) n zero = refl
-zeros_after (w ∷ words) n (suc k) = zeros_after words n k
+    go : Dec (k < 32) → Dec (k < 64) → get_or wide k 0 ≡ get_or columns k 0
+    go (yes h) d = f.done k h
+    go (no h) (yes l) = f.rest k (omega arith) ∙ get_or-replicate 64 k 0 0 l ∙ sym (beyond (omega arith))
+    go (no h) (no l) =
+        f.rest k (omega arith) ∙ get_or-eq_default (replicate 64 0) 0 {n = k} (omega (arith, length-replicate {A = ℕ} 64 0))
+        ∙ sym (beyond (omega arith))
 
 -- The columns passed
 

@@ -15,7 +15,9 @@ fn padded(columns: [u16; 32]) -> [u16; 64]
     ensures { SameWords columns result }
 {
     let mut wide = [0u16; 64];
-    wide[..32].copy_from_slice(&columns);
+    for (i, word) in columns.iter().enumerate() {
+        wide[i] = *word;
+    }
     wide
 }
 
@@ -31,7 +33,9 @@ fn join_column(common: &mut [u16; 32], earlier: &[u16; 64], column: usize, word:
 }
 
 // Word t has the segments in which a task of the later function, started t after one of the earlier, would collide with it. Every
-// column is taken, also one without marks: the cost is the same for all units, and that of the worst is lowest so.
+// column is taken, also one without marks: the cost is the same for all units, and that of the worst is lowest so. Inlined into a caller
+// that tests the words one by one, they would be held apart and no longer be taken several at a time.
+#[inline(never)]
 fn common_segments(later: [u16; 32], earlier: [u16; 32]) -> [u16; 32]
     ensures { Common later earlier result }
 {

@@ -81,6 +81,8 @@ pub fn columns_of(u: FunctionUnit, tag: Tag) -> [u16; 32]
         return columns;
     }
     let first = (tag.0 as usize - 1) * 32;
-    columns.copy_from_slice(&u.marks[first..first + 32]);
+    for i in 0..32 {
+        columns[i] = u.marks[first + i];
+    }
     columns
 }

@@ -7,16 +7,13 @@ use Prim.Native.Nat.{ℕ, zero, suc, ◌+◌, ◌≤◌, ◌<◌}
 use native.Mathlib.Numerals.{add-one}
 use native.Mathlib.Omega.{arith}
 use lib.Dec.{leb}
-use lib.ListN.{length, get_or}
+use lib.ListN.{length}
 use Rattle.std.specs.Cmp.Lexicographic.{bytes_decides}
 use Rattle.words.proofs.Tests.{cond_same, same_test}
 use Rattle.text.proofs.SameLaws.{same_eq, same_of}
 use Rattle.text.specs.Text.{put_in, put_end, same}
 use Rattle.text.proofs.PutLaws.{placed_none}
-use Rattle.command_table.specs.declared.Form.{Form}
-use Rattle.command_table.specs.declared.Verb.{Verb}
 use Rattle.command_table.specs.Commands.{rows, name_at, entry_at, among, command_of}
-use Rattle.command_table.proofs.TableLaws.{names, forms, verbs, name_told, entry_told}
 
 -- Two texts
 
@@ -38,7 +35,7 @@ unfolding command_of
 passed_start word = record { left = length rows; sums = refl; rest = refl }
 
 -- a name is compared: t is whether the command at the index has it
-module _ {word : List ℕ} {index : ℕ} (p : Passed word index) (h : index < length rows) (d : List ℕ) {t : Bool} (e : t ≡ bytes_eq (get_or names index d) word) where
+module _ {word : List ℕ} {index : ℕ} (p : Passed word index) (h : index < length rows) {t : Bool} (e : t ≡ bytes_eq (name_at index) word) where
   compared : (left : ℕ) × (suc left + index ≡ length rows) × (command_of word ≡ cond t (Some (entry_at index)) (among left (suc index) word))
   unfolding among
   compared = go p.left p.sums p.rest
@@ -47,13 +44,13 @@ module _ {word : List ℕ} {index : ℕ} (p : Passed word index) (h : index < le
           → (left : ℕ) × (suc left + index ≡ length rows) × (command_of word ≡ cond t (Some (entry_at index)) (among left (suc index) word))
       go zero s r = absurd (omega arith)
       go (suc left) s r =
-          let f : same word (name_at index) ≡ t = sym (e ∙ same_is _ word ∙ ap (same word) (name_told index h d)) in
+          let f : same word (name_at index) ≡ t = sym (e ∙ same_is _ word) in
           (left, s, r ∙ ap (λ b. cond b (Some (entry_at index)) (among left (suc index) word)) f)
 
-  pub passed_found : (f : Form) (v : Verb) → t ≡ true → Some (record { row = index; form = get_or forms index f; verb = get_or verbs index v }) ≡ command_of word
-  passed_found f v q =
+  pub passed_found : t ≡ true → Some (entry_at index) ≡ command_of word
+  passed_found q =
       let s = compared in
-      ap Some (entry_told index h f v) ∙ sym (s.2 ∙ ap (λ b. cond b (Some (entry_at index)) (among s.0 (suc index) word)) q)
+      sym (s.2 ∙ ap (λ b. cond b (Some (entry_at index)) (among s.0 (suc index) word)) q)
 
   pub passed_more : t ≡ false → Passed word (index + 1)
   passed_more q =

@@ -8,13 +8,12 @@ use native.Mathlib.Decide.{dec_lt}
 use native.Mathlib.Omega.{arith}
 use borrow.Author.Tests.{leb-true, eqb-true}
 use lib.Dec.{leb, eqb}
-use lib.ListN.{length, get_or, get_or-map}
+use lib.ListN.{length, get_or, get_or-map, length-append}
 use Rattle.std.proofs.lemmas.List.{get_or_default}
 use Rattle.words.proofs.Tests.{and_left, and_right, nowhere}
 use Rattle.text.specs.Text.{ascii, same}
 use Rattle.command_table.specs.declared.Form.{Form}
 use Rattle.command_table.specs.declared.Verb.{Verb}
-use Rattle.command_table.specs.declared.Verb.TheVariants as Verb
 use Rattle.command_table.specs.declared.Row.{Row as Stored}
 use Rattle.command_table.specs.declared.Entry.{Entry}
 use Rattle.command_table.specs.Commands.{Row, rows, no_row, row_at, name_at, usage_at, entry_at, among, command_of}
@@ -30,7 +29,7 @@ every_at f [] i e h = absurd (omega arith)
 every_at f (r ∷ l) zero e h = and_left (f r) (every f l) e
 every_at f (r ∷ l) (suc i) e h = every_at f l i (and_right (f r) (every f l) e) (omega arith)
 
--- The rows of the code
+-- What is read of rows
 
 -- what one of them holds, as one of all that they hold
 module _ (items : List Stored) (i : ℕ) (d : Stored) where
@@ -72,35 +71,6 @@ module _ (i : ℕ) (h : i < length rows) where
   unfolding usage_at
   usage_told d = told (λ (r : Row). ascii r.name ++ ascii r.wanted) i d h
 
-  pub entry_told : (f : Form) (v : Verb) → ◌≡◌ {A = Entry} (record { row = i; form = get_or forms i f; verb = get_or verbs i v }) (entry_at i)
-  entry_told f v = λ j. record { row = i; form = told (λ (r : Row). r.form) i f h j; verb = told (λ (r : Row). r.verb) i v h j }
-
--- rows that hold the names, the usages, the forms and the verbs of the table
-pub record Rows (items : List Stored) : Type 0 where
-  pub all_names : map (λ (r : Stored). r.name.now) items ≡ names
-  pub all_usages : map (λ (r : Stored). r.usage.now) items ≡ usages
-  pub all_forms : map (λ (r : Stored). r.form) items ≡ forms
-  pub all_verbs : map (λ (r : Stored). r.verb) items ≡ verbs
-
--- what the code finds in its rows, whatever is read beyond them
-pub record Held (items : List Stored) (i : ℕ) : Type 0 where
-  pub name : (d : Stored) → (get_or items i d).name.now ≡ name_at i
-  pub usage : (d : Stored) → (get_or items i d).usage.now ≡ usage_at i
-  pub form : (d : Stored) → (get_or items i d).form ≡ (row_at i).form
-  pub verb : (d : Stored) → (get_or items i d).verb ≡ (row_at i).verb
-
-pub held : (items : List Stored) (i : ℕ) → Rows items → i < length rows → Held items i
-held items i r h = record {
-  name = λ d. read_name items i d ∙ ap (λ l. get_or l i d.name.now) r.all_names ∙ name_told i h d.name.now;
-  usage = λ d. read_usage items i d ∙ ap (λ l. get_or l i d.usage.now) r.all_usages ∙ usage_told i h d.usage.now;
-  form = λ d. read_form items i d ∙ ap (λ l. get_or l i d.form) r.all_forms ∙ told (λ (r : Row). r.form) i d.form h;
-  verb = λ d. read_verb items i d ∙ ap (λ l. get_or l i d.verb) r.all_verbs ∙ told (λ (r : Row). r.verb) i d.verb h;
-}
-
--- what a command does
-pub verb_here : (i : ℕ) → i < length rows → get_or (map (λ (r : Row). r.verb) rows) i Verb.Fresh ≡ (row_at i).verb
-verb_here i h = told (λ (r : Row). r.verb) i Verb.Fresh h
-
 -- beyond the table
 beyond_default : (l : List Row) (i : ℕ) → length l ≤ i → get_or l i no_row ≡ no_row
 beyond_default [] i h = refl
@@ -125,6 +95,43 @@ usage_short i = go (dec_lt i (length rows))
     go : Dec (i < length rows) → length (ascii (row_at i).name ++ ascii (row_at i).wanted) ≤ 45
     go (yes h) = leb-true _ 45 (every_at short rows i refl h)
     go (no h) = omega (arith, ap length (usage_beyond i (omega arith)))
+
+-- the usage of a command begins with its name
+name_in_front : (i : ℕ) → length (name_at i) ≤ length (usage_at i)
+unfolding name_at usage_at
+name_in_front i = omega (arith, length-append (ascii (row_at i).name) (ascii (row_at i).wanted))
+
+-- The rows of the code
+
+-- rows that hold the names, the usages, the forms and the verbs of the table: those of the code do, which each proof that reads them computes
+pub record Rows (items : List Stored) : Type 0 where
+  pub all_names : map (λ (r : Stored). r.name.now) items ≡ names
+  pub all_usages : map (λ (r : Stored). r.usage.now) items ≡ usages
+  pub all_forms : map (λ (r : Stored). r.form) items ≡ forms
+  pub all_verbs : map (λ (r : Stored). r.verb) items ≡ verbs
+
+-- what the code finds in its rows, whatever is read beyond them
+pub record Held (items : List Stored) (i : ℕ) : Type 0 where
+  pub name : (d : Stored) → (get_or items i d).name.now ≡ name_at i
+  pub usage : (d : Stored) → (get_or items i d).usage.now ≡ usage_at i
+  pub form : (d : Stored) → (get_or items i d).form ≡ (row_at i).form
+  pub verb : (d : Stored) → (get_or items i d).verb ≡ (row_at i).verb
+  pub front : length (name_at i) ≤ length (usage_at i)
+  pub short : length (usage_at i) ≤ 45
+
+-- what a command does
+pub verb_here : (i : ℕ) → i < length rows → get_or (map (λ (r : Row). r.verb) rows) i Verb.Fresh ≡ (row_at i).verb
+verb_here i h = told (λ (r : Row). r.verb) i Verb.Fresh h
+
+pub held : (items : List Stored) (i : ℕ) → Rows items → i < length rows → Held items i
+held items i r h = record {
+  name = λ d. read_name items i d ∙ ap (λ l. get_or l i d.name.now) r.all_names ∙ name_told i h d.name.now;
+  usage = λ d. read_usage items i d ∙ ap (λ l. get_or l i d.usage.now) r.all_usages ∙ usage_told i h d.usage.now;
+  form = λ d. read_form items i d ∙ ap (λ l. get_or l i d.form) r.all_forms ∙ told (λ (r : Row). r.form) i d.form h;
+  verb = λ d. read_verb items i d ∙ ap (λ l. get_or l i d.verb) r.all_verbs ∙ get_or_default verbs i d.verb Verb.Fresh h ∙ verb_here i h;
+  front = name_in_front i;
+  short = usage_short i;
+}
 
 -- Names
 

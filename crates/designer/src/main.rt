@@ -278,96 +278,84 @@ struct Reading {
     held: usize,
 }
 
-fn end_line(rt: &(impl Files + Print), reading: Reading, line: &[u8]) -> io::Result<Reading> {
-    let number = reading.number;
+fn end_line(rt: &(impl Files + Print), reading: &mut Reading, line: &[u8]) -> io::Result<()> {
     let held = front(line, reading.held)?;
-    let session = answer(rt, reading.session, number, held)?;
-    Ok(Reading {
-        session,
-        number: number.saturating_add(1),
-        held: 0,
-    })
+    reading.session = answer(rt, reading.session, reading.number, held)?;
+    reading.number = reading.number.saturating_add(1);
+    reading.held = 0;
+    Ok(())
 }
 
 fn take_byte(
     rt: &(impl Files + Print),
-    reading: Reading,
+    reading: &mut Reading,
     byte: u8,
     line: &mut [u8],
-) -> io::Result<Reading> {
+) -> io::Result<()> {
     if byte == b'\n' {
         return end_line(rt, reading, line);
     }
     let held = reading.held;
     if held < line.len() {
         line[held] = byte;
-        return Ok(Reading {
-            held: held + 1,
-            ..reading
-        });
+        reading.held = held + 1;
     }
-    Ok(reading)
+    Ok(())
 }
 
 fn take_bytes(
     rt: &(impl Files + Print),
-    reading: Reading,
+    reading: &mut Reading,
     bytes: &[u8],
     line: &mut [u8],
-) -> io::Result<Reading> {
-    let mut now = reading;
+) -> io::Result<()> {
     for byte in bytes {
-        now = take_byte(rt, now, *byte, line)?;
+        take_byte(rt, reading, *byte, line)?;
     }
-    Ok(now)
+    Ok(())
 }
 
-// Reads some of the input, and answers every line that ends in it. There is nothing at the end of the input.
+// Reads some of the input, answers every line that ends in it, and tells whether there was any: there is none at the end of the input.
 fn take_some(
     rt: &(impl Files + Print),
     input: &mut impl Read,
-    reading: Reading,
+    reading: &mut Reading,
     line: &mut [u8],
-) -> io::Result<Option<Reading>> {
+) -> io::Result<bool> {
     let mut chunk = [0u8; 65536];
     let count = files::read_some(input, &mut chunk);
-    if count == 0 {
-        return Ok(None);
-    }
-    let next = take_bytes(rt, reading, &chunk[..count], line)?;
-    Ok(Some(next))
+    take_bytes(rt, reading, &chunk[..count], line)?;
+    Ok(0 < count)
 }
 
 // All of the input. A proved loop has to end, so it takes no more turns than a number that no run uses up.
 fn take_all(
     rt: &(impl Files + Print),
     input: &mut impl Read,
-    first: Reading,
+    reading: &mut Reading,
     line: &mut [u8],
-) -> io::Result<Reading> {
-    let mut reading = first;
+) -> io::Result<()> {
     for _ in 0..u64::MAX {
-        match take_some(rt, input, reading, line)? {
-            Some(next) => reading = next,
-            None => break,
+        if !take_some(rt, input, reading, line)? {
+            break;
         }
     }
-    Ok(reading)
+    Ok(())
 }
 
 // What comes after the last newline is a line too.
 fn converse(rt: &(impl Files + Input + Print)) -> io::Result<()> {
     let session = session::open();
     let mut line = [0u8; 4097];
-    let first = Reading {
+    let mut reading = Reading {
         session,
         number: 1,
         held: 0,
     };
     let mut input = rt.reader();
-    let last = take_all(rt, &mut input, first, &mut line)?;
-    if 0 < last.held {
-        end_line(rt, last, &line)?;
+    take_all(rt, &mut input, &mut reading, &mut line)?;
+    if 0 < reading.held {
+        end_line(rt, &mut reading, &line)?;
     }
     Ok(())
 }

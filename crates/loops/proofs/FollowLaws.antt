@@ -14,7 +14,7 @@ use Rattle.graphs.specs.States.{add, expand, list_from}
 use Rattle.graphs.proofs.Listing.{visit, turn, expand_end, expand_more, expand_extends, list_more, list_end, list_extends}
 use Rattle.mean_cycle.specs.Nodes.{arc_word}
 use Rattle.loops.specs.declared.State.{State}
-use Rattle.loops.specs.declared.rules.Rules.{Rules}
+use Rattle.loops.specs.declared.steps.Rules.{Rules}
 use Rattle.loops.specs.Inner.{masked, advanced, rule_arc, rule_first, rule_graph, rule_tests, rule_states, state_of, put_state, list_in, Stocked, Target, visited, Turned, Listable, expanded, Followed, Entered, Explored}
 use Rattle.loops.proofs.StoreLaws.{put_size, put_high, put_state_lem, state_kept, list_length, list_at, list_same}
 use Rattle.loops.proofs.TurnLaws.{rule_right}

@@ -26,7 +26,7 @@ use Rattle.mean_cycle.specs.Nodes.{arc_word, Arc, NodeWalk, rest, onward, Least,
 use Rattle.mean_cycle.specs.Table.{TableGraph, tabled}
 use Rattle.mean_cycle.proofs.Cycles.{spell, cycle_spell, total_spell}
 use Rattle.loops.specs.declared.State.{State}
-use Rattle.loops.specs.declared.rules.Rules.{Rules}
+use Rattle.loops.specs.declared.steps.Rules.{Rules}
 use Rattle.loops.specs.Loop.{Loop}
 use Rattle.loops.specs.Steps.{ShortStep, following, next_tag, first_state, stepped, arc_graph}
 use Rattle.loops.specs.Best.{BestLoop}

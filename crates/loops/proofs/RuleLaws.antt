@@ -2,7 +2,7 @@
 use Prim.Native.Nat.{ℕ, ◌+◌, ◌<◌}
 use native.Mathlib.Nat.{mod-lt}
 use native.Mathlib.Omega.{arith}
-use Rattle.loops.specs.declared.rules.Rules.{Rules}
+use Rattle.loops.specs.declared.steps.Rules.{Rules}
 use Rattle.loops.specs.Inner.{position_after}
 
 pub position_low : (R : Rules) (p : ℕ) → position_after R p < 8

@@ -19,7 +19,7 @@ use Rattle.collision.specs.Vector.{collides, row_word, row_of_columns, largest_c
 use Rattle.collision.proofs.RowLaws.{row_columns}
 use Rattle.controller.specs.Bank.{row_for}
 use Rattle.diagram.specs.Diagram.{width}
-use Rattle.loops.specs.declared.rules.Rules.{Rules}
+use Rattle.loops.specs.declared.steps.Rules.{Rules}
 use Rattle.loops.specs.Answers.{all_tags}
 use Rattle.loops.specs.Inner.{RowsOf, TagsOf, RulesOf}
 

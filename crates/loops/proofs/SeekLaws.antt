@@ -31,7 +31,7 @@ use Rattle.mean_cycle.specs.Table.{tabled, TableSearched}
 use Rattle.mean_cycle.proofs.Cycles.{cycle_spell, total_spell}
 use Rattle.mean_cycle.proofs.Sums.{sum_below}
 use Rattle.loops.specs.declared.State.{State}
-use Rattle.loops.specs.declared.rules.Rules.{Rules}
+use Rattle.loops.specs.declared.steps.Rules.{Rules}
 use Rattle.loops.specs.Loop.{Loop}
 use Rattle.loops.specs.Steps.{first_state, loop_states, arc_graph, arc_tests}
 use Rattle.loops.specs.Best.{BestLoop}

@@ -13,7 +13,7 @@ use Rattle.graphs.specs.Graph.{Listed}
 use Rattle.graphs.specs.States.{Right, has, add}
 use Rattle.graphs.proofs.ListLaws.{has_listed, listed_has}
 use Rattle.loops.specs.declared.State.{State}
-use Rattle.loops.specs.declared.rules.Rules.{Rules}
+use Rattle.loops.specs.declared.steps.Rules.{Rules}
 use Rattle.loops.specs.Inner.{state_of, put_state, list_in, Placed, Included, rule_graph, rule_tests, rule_first}
 
 -- A state put into its place

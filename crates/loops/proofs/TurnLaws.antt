@@ -14,7 +14,7 @@ use Rattle.words.specs.Bits.{is_set}
 use Rattle.words.proofs.Tests.{nowhere}
 use Rattle.graphs.specs.States.{Right, add}
 use Rattle.loops.specs.declared.State.{State}
-use Rattle.loops.specs.declared.rules.Rules.{Rules}
+use Rattle.loops.specs.declared.steps.Rules.{Rules}
 use Rattle.loops.specs.Steps.{same_state}
 use Rattle.loops.specs.Inner.{masked, advanced, rule_arc, rule_graph, rule_tests, state_of, list_in, Placed, Included, Stocked, Led, visited, Turned}
 use Rattle.loops.proofs.StateLaws.{same_state_lem, state_same}

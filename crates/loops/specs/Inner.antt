@@ -16,7 +16,7 @@ use Rattle.mean_cycle.specs.declared.Cycle.{Cycle}
 use Rattle.planner.specs.Plans.{answer_of}
 use Rattle.mean_cycle.specs.Nodes.{arc_word}
 use Rattle.loops.specs.declared.State.{State}
-use Rattle.loops.specs.declared.rules.Rules.{Rules}
+use Rattle.loops.specs.declared.steps.Rules.{Rules}
 use Rattle.loops.specs.Loop.{Loop}
 use Rattle.loops.specs.Steps.{same_state}
 use Rattle.loops.specs.Answers.{few_loop_states, LoopFound}

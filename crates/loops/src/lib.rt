@@ -10,14 +10,15 @@ ghost use Rattle.loops.specs.Answers.{LoopPromise};
 ghost use Rattle.loops.specs.Inner.{cycle_in, Standing, Turnable, turn_of, Checked, Sought};
 
 mod listing;
-mod rules;
 mod ruling;
+mod steps;
 mod store;
 
 use controller::Bank;
 use listing::explore;
 use mean_cycle::Cycle;
 use ruling::{known_tags, rules_of};
+pub use steps::Rules;
 use unit::{FunctionUnit, Plan, Refusal};
 
 // A state of a loop: a position in its list of tags, with the bank just after the start of that tag.

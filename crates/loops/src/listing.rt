@@ -3,9 +3,8 @@
 ghost use Rattle.std.specs.Prelude.{◌≡◌, ◌+◌, ◌*◌, ◌-◌, ◌≤◌, ◌<◌, length, set};
 ghost use Rattle.loops.specs.Inner.{masked, Led, Turned, Listable, Followed, Explored};
 
-use crate::State;
-use crate::rules::Rules;
 use crate::store::{get, include, put};
+use crate::{Rules, State};
 use controller::Bank;
 
 // Lists the state to which a latency leads, where the word of the state grants it, and answers its place; 0 where it does not.

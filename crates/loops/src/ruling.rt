@@ -7,7 +7,7 @@ ghost use Rattle.collision.specs.Vector.{collides, largest_column};
 ghost use Rattle.loops.specs.Answers.{all_tags};
 ghost use Rattle.loops.specs.Inner.{RowsOf, TagsOf, RulesOf};
 
-use crate::rules::Rules;
+use crate::Rules;
 use unit::{FunctionUnit, Tag};
 
 fn larger(a: u32, b: u32) -> u32

@@ -1,3 +1,4 @@
 pub mod AcceptedLaws
 pub mod LineLaws
 pub mod CoreLaws
+pub mod TestedLaws

@@ -1,4 +1,5 @@
 pub mod BoundedLaws
+mod CopyLaws
 pub mod DecimalLaws
 mod Examples
 mod HigherLaws

@@ -6,7 +6,6 @@ use native.Mathlib.Nat.{zero-add, add-zero}
 use native.Mathlib.Numerals.{add-one}
 use native.Mathlib.Omega.{arith}
 use borrow.Author.Tests.{le-leb, lt-leb}
-use borrow.Rule.Slice.PartMut.{put_mid}
 use lib.ListN.{length, take, drop, set, length-append, length-drop, take-append-drop}
 use lib.Seq.{length-take-le, take_at, drop-append-add, drop-drop, set_split}
 use Rattle.text.specs.Text.{placed, put_in, put_end}
@@ -51,10 +50,6 @@ placed_length bytes at text h =
     ap length (sym (append_assoc (take at bytes) text (drop (at + length text) bytes)))
     ∙ length-append (take at bytes ++ text) (drop (at + length text) bytes)
     ∙ rw (head_length bytes at text (omega arith), length-drop (at + length text) bytes) (omega arith)
-
--- the part that begins at the index is written anew
-pub placed_part : (bytes : List ℕ) (at : ℕ) (text : List ℕ) (k : ℕ) (part : List ℕ) → k ≡ length text → part ≡ text → put_mid at k bytes part ≡ placed bytes at text
-placed_part bytes at text k part e p = rw (e, p) (ap (λ x. take at bytes ++ (text ++ x)) (drop-drop (length text) at bytes))
 
 -- text put after text
 pub placed_placed : (bytes : List ℕ) (at : ℕ) (a b : List ℕ) → at + length (a ++ b) ≤ length bytes → placed (placed bytes at a) (at + length a) b ≡ placed bytes at (a ++ b)

@@ -16,7 +16,9 @@ pub fn put(out: &mut [u8], at: usize, words: &[u8]) -> usize
     if out.len() - words.len() < at {
         return at;
     }
-    out[at..at + words.len()].copy_from_slice(words);
+    for (i, word) in words.iter().enumerate() {
+        out[at + i] = *word;
+    }
     at + words.len()
 }
 

@@ -1,5 +1,6 @@
 pub mod NumberLaws
 pub mod Laws
+pub mod TestLaws
 pub mod EndLaws
 pub mod SoundLaws
 pub mod JoinLaws

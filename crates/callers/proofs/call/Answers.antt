@@ -1,13 +1,13 @@
--- `callers::call` meets its contract: what is tried first refuses, or the arrival is answered. Assumes nothing.
+-- `callers::call` meets its contract: what is no caller is refused, or the arrival is answered. Assumes nothing.
 use mathlib.Core.Path.{sym, ◌∙◌}
 use borrow.Author.Rules.{rules}
-use Rattle.callers.proofs.ValueLaws.{stays, calls}
+use Rattle.callers.proofs.ValueLaws.{strays, calls}
 use Rattle.callers.proofs.call.Goals as goal
 
-pub returns-in-Err : goal.returns-in-Err
-returns-in-Err c =
+pub returns-then-not-is_inside : goal.returns-then-not-is_inside
+returns-then-not-is_inside c =
     let a = c.args in
-    stays a.u a.shared a.caller a.offered _ (sym c.check_caller.ensures ∙ c.in-Err.is)
+    (λ j. record { answer = c.check_caller.ensures j; shared = a.shared }) ∙ strays a.u a.shared a.caller a.offered (sym c.is_inside.ensures ∙ c.if-not-is_inside.true)
 
 pub returns : goal.returns
 returns c =

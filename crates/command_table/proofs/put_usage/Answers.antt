@@ -1,15 +1,15 @@
 -- `command_table::put_usage` meets its contract. Assumes nothing.
-use mathlib.Core.Path.{ap, ◌∙◌}
+use mathlib.Core.Path.{refl, ap}
 use Rattle.command_table.specs.declared.Row.{Row}
-use Rattle.command_table.proofs.TableLaws.{usage_beyond, read_usage, usage_told}
+use Rattle.command_table.proofs.TableLaws.{held, usage_beyond}
 use Rattle.command_table.proofs.NameLaws.{put_same, put_nothing}
 use Rattle.command_table.proofs.put_usage.Goals as goal
 
 pub returns-in-Some : goal.returns-in-Some
 returns-in-Some c =
     let found = c.in-Some.ensures.lookup in
-    let e = rw read_usage at (ap (λ (r : Row). r.usage.now) found.1) in
-    let facts = put_same _ _ (e ∙ usage_told c.args.index found.3.0 _) (c.put.ensures.value, c.put.ensures.out_after) in
+    let e = rw ((held _ _ (record { all_names = refl; all_usages = refl; all_forms = refl; all_verbs = refl }) found.3.0).usage _) at (ap (λ (r : Row). r.usage.now) found.1) in
+    let facts = put_same _ _ e (c.put.ensures.value, c.put.ensures.out_after) in
     record { value = facts.0; out_after = facts.1 }
 
 pub returns-in-None : goal.returns-in-None

@@ -39,7 +39,7 @@ impl Rules {
     }
 
     // The register of the tag that follows: its column t is 0 where the latency t is granted.
-    pub fn mask(&self, s: State) -> u32
+    pub(crate) fn mask(&self, s: State) -> u32
         requires { s.position < 8 }
         ensures { result ≡ masked self.now s }
     {
@@ -50,7 +50,7 @@ impl Rules {
     }
 
     // The rows of a position on a bank so many time units later.
-    pub fn started(&self, position: u32, latency: u32, bank: Bank) -> State
+    pub(crate) fn started(&self, position: u32, latency: u32, bank: Bank) -> State
         requires { (position < 8) × (latency ≤ 32) }
         ensures { result ≡ begun self.now position latency bank }
     {
@@ -72,7 +72,7 @@ impl Rules {
     }
 
     // The state to which a latency leads.
-    pub fn advance(&self, s: State, latency: u32) -> State
+    pub(crate) fn advance(&self, s: State, latency: u32) -> State
         requires { (s.position < 8) × (latency ≤ 32) }
         ensures { result ≡ advanced self.now s latency }
     {
